@@ -1,0 +1,57 @@
+-- The fields of a descriptor word, as document 01 has them under "Descriptors". Bit 0 is the lowest.
+-- A reader must believe: which bits each name stands for. Assumes nothing.
+use Prim.Native.Nat.{ℕ, _+_, _*_, _/_, _%_, _^_}
+use mathlib.Core.Bool.{Bool, true, false, cond}
+use lib.Dec.{eqb}
+
+-- Bit 31, the sign: 0 or 1 in a word of 32 bits.
+abbrev pub sign : ℕ → ℕ
+sign w = w / 2 ^ 31
+
+-- Bit 30 set: a float.
+abbrev pub isFloat : ℕ → Bool
+isFloat w = eqb (w / 2 ^ 30 % 2) 1
+
+-- A float's exponent, bits 29–22, and fraction, bits 21–0.
+abbrev pub exponent : ℕ → ℕ
+exponent w = w / 2 ^ 22 % 2 ^ 8
+
+abbrev pub fraction : ℕ → ℕ
+fraction w = w % 2 ^ 22
+
+-- Bit 30 clear: the type in bits 29–24, and what is left below it.
+abbrev pub typeNumber : ℕ → ℕ
+typeNumber w = w / 2 ^ 24 % 2 ^ 6
+
+abbrev pub rest : ℕ → ℕ
+rest w = w % 2 ^ 24
+
+-- An integer's magnitude, bits 22–0.
+abbrev pub magnitude : ℕ → ℕ
+magnitude w = w % 2 ^ 23
+
+-- Type 1 with bit 30 clear: a character.
+abbrev pub isCharacter : ℕ → Bool
+isCharacter w = cond (isFloat w) false (eqb (typeNumber w) 1)
+
+-- The words of each kind, from their parts. An address goes into bits 15–0. No zero is negative.
+abbrev pub floatWord : ℕ → ℕ → ℕ → ℕ
+floatWord s e f = s * 2 ^ 31 + 2 ^ 30 + e * 2 ^ 22 + f
+
+abbrev pub integerWord : ℕ → ℕ → ℕ
+integerWord s m = cond (eqb m 0) 0 (s * 2 ^ 31 + m)
+
+abbrev pub characterWord : ℕ → ℕ
+characterWord c = 1 * 2 ^ 24 + c
+
+abbrev pub arrayWord : ℕ → ℕ
+arrayWord a = 2 * 2 ^ 24 + a % 2 ^ 16
+
+abbrev pub localWord : ℕ → ℕ
+localWord a = 3 * 2 ^ 24 + a % 2 ^ 16
+
+abbrev pub globalWord : ℕ → ℕ
+globalWord a = 3 * 2 ^ 24 + 2 ^ 16 + a % 2 ^ 16
+
+abbrev pub undefinedWord : ℕ
+undefinedWord = 4 * 2 ^ 24

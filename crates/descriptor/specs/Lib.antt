@@ -1,0 +1,3 @@
+-- What a word of the data segment says.
+pub mod Fields
+pub mod Kinds

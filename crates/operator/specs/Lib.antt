@@ -1,0 +1,2 @@
+-- The manual's table of operators.
+pub mod Table
