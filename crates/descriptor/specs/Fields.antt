@@ -34,7 +34,14 @@ magnitude w = w % 2 ^ 23
 abbrev pub isCharacter : ℕ → Bool
 isCharacter w = cond (isFloat w) false (eqb (typeNumber w) 1)
 
--- The words of each kind, from their parts. An address goes into bits 15–0. No zero is negative.
+-- Type 2 with the bits above the address clear: an array's word, and the address of its block in bits 15–0.
+abbrev pub isArray : ℕ → Bool
+isArray w = eqb (w / 2 ^ 16) 0x200
+
+abbrev pub address : ℕ → ℕ
+address w = w % 2 ^ 16
+
+-- The words of each kind, from their parts. No zero is negative.
 abbrev pub floatWord : ℕ → ℕ → ℕ → ℕ
 floatWord s e f = s * 2 ^ 31 + 2 ^ 30 + e * 2 ^ 22 + f
 
@@ -45,13 +52,13 @@ abbrev pub characterWord : ℕ → ℕ
 characterWord c = 1 * 2 ^ 24 + c
 
 abbrev pub arrayWord : ℕ → ℕ
-arrayWord a = 2 * 2 ^ 24 + a % 2 ^ 16
+arrayWord a = 2 * 2 ^ 24 + a
 
 abbrev pub localWord : ℕ → ℕ
-localWord a = 3 * 2 ^ 24 + a % 2 ^ 16
+localWord a = 3 * 2 ^ 24 + a
 
 abbrev pub globalWord : ℕ → ℕ
-globalWord a = 3 * 2 ^ 24 + 2 ^ 16 + a % 2 ^ 16
+globalWord a = 3 * 2 ^ 24 + 2 ^ 16 + a
 
 abbrev pub undefinedWord : ℕ
 undefinedWord = 4 * 2 ^ 24

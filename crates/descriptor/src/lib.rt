@@ -1,6 +1,6 @@
 // Descriptors: the words of the data segment that say what they hold, and the addresses in them.
 ghost use mathlib.Core.Path.{_≡_};
-ghost use Prim.Native.Nat.{_≤_, _<_};
+ghost use Prim.Native.Nat.{_≤_, _<_, _^_};
 ghost use Rattle.descriptor.specs.Fields.{integerWord, characterWord, arrayWord, localWord, globalWord, undefinedWord};
 ghost use Rattle.descriptor.specs.Kinds.{kindOf, isScalar, bit, unsignedKind, characterKind, arrayKind, indirectKind, undefinedKind};
 pub mod address;
@@ -86,21 +86,24 @@ impl Descriptor {
     }
 
     pub fn array(block: SegmentAddress) -> Self
+        requires { ⌜ block .0 < 2 ^ 24 ⌝ }
         ensures { λ r. ⌜ r .0 ≡ arrayWord (block .0) ⌝ }
     {
-        Descriptor(Self::TYPE_ARRAY * 0x0100_0000 + block.number() % 0x1_0000)
+        Descriptor(Self::TYPE_ARRAY * 0x0100_0000 + block.number())
     }
 
     pub fn indirect_local(variable: StackAddress) -> Self
+        requires { ⌜ variable .0 < 2 ^ 24 ⌝ }
         ensures { λ r. ⌜ r .0 ≡ localWord (variable .0) ⌝ }
     {
-        Descriptor(Self::TYPE_INDIRECT * 0x0100_0000 + variable.number() % 0x1_0000)
+        Descriptor(Self::TYPE_INDIRECT * 0x0100_0000 + variable.number())
     }
 
     pub fn indirect_global(variable: SegmentAddress) -> Self
+        requires { ⌜ variable .0 < 2 ^ 24 ⌝ }
         ensures { λ r. ⌜ r .0 ≡ globalWord (variable .0) ⌝ }
     {
-        Descriptor(Self::TYPE_INDIRECT * 0x0100_0000 + 0x1_0000 + variable.number() % 0x1_0000)
+        Descriptor(Self::TYPE_INDIRECT * 0x0100_0000 + 0x1_0000 + variable.number())
     }
 
     pub fn undefined() -> Self
