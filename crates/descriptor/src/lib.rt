@@ -3,7 +3,9 @@ ghost use mathlib.Core.Path.{_≡_};
 ghost use Prim.Native.Nat.{_≤_, _<_, _^_};
 ghost use Rattle.descriptor.specs.Fields.{integerWord, characterWord, arrayWord, localWord, globalWord, undefinedWord};
 ghost use Rattle.descriptor.specs.Kinds.{kindOf, isScalar, bit, unsignedKind, characterKind, arrayKind, indirectKind, undefinedKind};
+
 pub mod address;
+
 use address::SegmentAddress;
 use address::StackAddress;
 
@@ -118,13 +120,11 @@ impl Descriptor {
         let w = self.0;
         let negative = w / 0x8000_0000 == 1;
         if w / 0x4000_0000 % 2 == 1 {
-            return Kind::Scalar(
-                Scalar::Float {
-                    negative: negative,
-                    exponent: w / 0x40_0000 % 0x100,
-                    fraction: w % 0x40_0000,
-                },
-            );
+            return Kind::Scalar(Scalar::Float {
+                negative: negative,
+                exponent: w / 0x40_0000 % 0x100,
+                fraction: w % 0x40_0000,
+            });
         }
         let number = w / 0x0100_0000 % 0x40;
         let rest = w % 0x0100_0000;
@@ -135,12 +135,10 @@ impl Descriptor {
             if w == 0x8000_0000 {
                 return Kind::Invalid;
             }
-            return Kind::Scalar(
-                Scalar::Integer {
-                    negative: negative,
-                    magnitude: rest,
-                },
-            );
+            return Kind::Scalar(Scalar::Integer {
+                negative: negative,
+                magnitude: rest,
+            });
         }
         if negative {
             return Kind::Invalid;

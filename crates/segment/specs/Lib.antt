@@ -1,0 +1,4 @@
+-- The layout of the data segment.
+pub mod State
+pub mod Blocks
+pub mod Stack

@@ -1,0 +1,1 @@
+// The layout of a data segment in a lent slice of words.

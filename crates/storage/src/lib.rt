@@ -1,0 +1,1 @@
+// Array storage in a lent data segment.
