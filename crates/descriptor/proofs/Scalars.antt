@@ -35,6 +35,13 @@ small-scalar w fits small =
     simp (ne-eqb (w / 2 ^ 30 % 2) 1 (omega arith), eq-eqb (typeNumber w) 0 (omega arith), le-ltb 8388607 (rest w) (omega arith))
     (unless (eqb w (2 ^ 31)) _)
 
+-- bits that are clear add nothing
+clear-float : (w : ℕ) → w / 2 ^ 30 % 2 ≡ 0 → w % 2 ^ 31 ≡ w % 2 ^ 30
+clear-float w z = omega arith
+
+clear-type : (w : ℕ) → typeNumber w ≡ 0 → w % 2 ^ 30 ≡ rest w
+clear-type w z = omega arith
+
 -- not a float and not so small: a character, or no scalar
 module _ (w : ℕ) (fits : w < 2 ^ 32) (plain : (w / 2 ^ 30 % 2 ≡ 1) → ⊥) (large : 8388607 < w % 2 ^ 31) where
   character : (t : Bool) → ltb (rest w) (2 ^ 8) ≡ t → typeNumber w ≡ 1 → sign w ≡ 0 → scalarKind (characterKind (rest w)) ≡ eqb (w / 2 ^ 8) (2 ^ 16)
@@ -57,7 +64,8 @@ module _ (w : ℕ) (fits : w < 2 ^ 32) (plain : (w / 2 ^ 30 % 2 ≡ 1) → ⊥) 
   unfolding isScalar kindOf integerKind
   typed true e =
       let z : typeNumber w ≡ 0 = eqb-true (typeNumber w) 0 e in
-      simp (ne-eqb (w / 2 ^ 30 % 2) 1 plain, e, lt-ltb 8388607 (rest w) (omega (arith, plain)), ne-eqb (w / 2 ^ 8) (2 ^ 16) (λ q. omega (arith, q)))
+      let same : w % 2 ^ 31 ≡ rest w = clear-float w (omega (arith, plain)) ∙ clear-type w z in
+      simp (ne-eqb (w / 2 ^ 30 % 2) 1 plain, e, lt-ltb 8388607 (rest w) (omega arith), ne-eqb (w / 2 ^ 8) (2 ^ 16) (λ q. omega (arith, q)))
   typed false e = simp (ne-eqb (w / 2 ^ 30 % 2) 1 plain, e) (signed (eqb (sign w) 1) refl)
 
   pub large-scalar : isScalar w ≡ eqb (w / 2 ^ 8) (2 ^ 16)
