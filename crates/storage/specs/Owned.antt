@@ -37,7 +37,7 @@ pub record Inside (s : List ℕ) (x size : ℕ) : Type 0 where
   pub rank : 1 ≤ rankAt s x
   pub sized : size ≡ 2 + rankAt s x + product (shapeAt s x)
   pub lengths : (w : ℕ) → 0 < count w (shapeAt s x) → w ≤ 8388607
-  pub elements : (w : ℕ) → 0 < count w (elementsAt s x) → isScalar w ≡ true
+  pub scalars : (w : ℕ) → 0 < count w (elementsAt s x) → isScalar w ≡ true
 
 -- Array storage whose arrays are pointed to by the words of `owners`, in any order, and by nothing else.
 pub record Owned (s owners : List ℕ) : Type 0 where
@@ -53,7 +53,7 @@ pub record Proper (shape elements : List ℕ) : Type 0 where
   pub rank : (1 ≤ length shape) × (length shape ≤ 15)
   pub size : product shape ≡ length elements
   pub lengths : (w : ℕ) → 0 < count w shape → w ≤ 8388607
-  pub elements : (w : ℕ) → 0 < count w elements → isScalar w ≡ true
+  pub scalars : (w : ℕ) → 0 < count w elements → isScalar w ≡ true
 
 -- What a step in array storage leaves: every word outside it, but for ROVER.
 pub record Kept (s after : List ℕ) : Type 0 where
