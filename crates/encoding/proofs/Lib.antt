@@ -1,0 +1,10 @@
+-- The theorems of decoding and what they rest on.
+pub mod Counted
+pub mod Cases
+pub mod Confined
+pub mod Advance
+pub mod Stands
+pub mod Families
+pub mod Forms
+pub mod Encoded
+pub mod Theorem
