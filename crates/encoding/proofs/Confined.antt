@@ -1,17 +1,15 @@
 -- Decoding looks at no byte outside the function's code: codes that agree from byte 8 on decode alike.
-use mathlib.Core.Path.{_≡_, refl, sym, _∙_, ap}
+use mathlib.Core.Path.{_≡_, refl, sym, _∙_}
 use mathlib.Core.Bool.{Bool, true, false, cond}
 use mathlib.Core.List.{List}
-use Prim.Native.Nat.{ℕ, _+_, _-_, _*_, _^_, _≤_, _<_}
+use Prim.Native.Nat.{ℕ, _+_, _-_, _*_, _≤_, _<_}
 use native.Mathlib.Omega.{arith}
-use lib.ListN.{length, getD, take, drop, length-drop}
+use lib.ListN.{length, getD, drop, length-drop}
 use lib.Seq.{length-take-le, getD-take, getD-drop}
 use lib.Dec.{ltb}
-use borrow.Author.Tests.{ltb-true, ltb-false, lt-ltb, le-ltb}
+use borrow.Author.Tests.{ltb-true, ltb-false}
 use Rattle.procedure.specs.declared.header.Block.{Block}
-use Rattle.procedure.specs.Headers.{codeStart, codeEnd, codeOf}
-use Rattle.operator.specs.Table.{operatorOf}
-use Rattle.instruction.specs.declared.Decoded.{Decoded}
+use Rattle.procedure.specs.Headers.{codeEnd, codeOf}
 use Rattle.instruction.specs.declared.Decoded.the-variants.{Trap}
 use Rattle.instruction.specs.declared.Jump.{Jump}
 use Rattle.instruction.specs.declared.table.MemorySuboperation.{MemorySuboperation}
@@ -27,7 +25,6 @@ use Rattle.instruction.specs.declared.cursor.FetchedHalf.{FetchedHalf}
 use Rattle.instruction.specs.Families.{familyOf}
 use Rattle.instruction.specs.Reading.{cursorAt, fetchByte, fetchHalf, fetchWord, fetchWords, withByte, withHalf}
 use Rattle.instruction.specs.Variables.{addressIn, addressAt}
-use Rattle.instruction.specs.Tables.{memoryOf, etcOf}
 use Rattle.instruction.specs.Decoding.{loadAt, shortConstantAt, memoryAt, constantScalarAt, constantVectorAt, jumpAt, callAt, etcAt, familyAt, instructionAt}
 use Rattle.encoding.specs.Theorems.{SameCode}
 use Rattle.encoding.proofs.Cases.{byte-cases, half-cases}

@@ -1,12 +1,12 @@
 -- The bytes of every instruction decode back to it.
-use mathlib.Core.Path.{_≡_, refl, sym, _∙_, ap, subst}
+use mathlib.Core.Path.{_≡_, refl, _∙_, ap}
 use mathlib.Core.Bool.{Bool, true, false}
 use mathlib.Core.List.{List, [], _∷_, _++_}
 use Prim.Native.Nat.{ℕ, suc, _+_, _-_, _*_, _/_, _%_, _^_, _≤_, _<_}
 use native.Mathlib.Omega.{arith}
 use lib.ListN.{length, length-append, length-replicate}
 use lib.Dec.{leb}
-use borrow.Author.Tests.{leb-true, leb-false, le-ltb}
+use borrow.Author.Tests.{leb-true, le-ltb}
 use Rattle.descriptor.specs.declared.address.CodeAddress.{CodeAddress}
 use Rattle.descriptor.specs.Kinds.{bit}
 use Rattle.instruction.specs.declared.Address.{Address}
@@ -15,21 +15,18 @@ use Rattle.instruction.specs.declared.MemoryOperation.{MemoryOperation}
 use Rattle.instruction.specs.declared.Jump.{Jump}
 use Rattle.instruction.specs.declared.Instruction.{Instruction}
 use Rattle.instruction.specs.declared.Instruction.the-variants as I
-use Rattle.instruction.specs.declared.Decoded.{Decoded}
-use Rattle.instruction.specs.declared.Decoded.the-variants.{Instruction as Done, Trap}
-use Rattle.instruction.specs.declared.table.MemorySuboperation.the-variants.{Defined}
+use Rattle.instruction.specs.declared.Decoded.the-variants.{Instruction as Done}
 use Rattle.instruction.specs.declared.family.Family.{Family}
 use Rattle.instruction.specs.declared.family.Family.the-variants.{ShortLocal, LongLocal, LongGlobal}
 use Rattle.instruction.specs.declared.variable.FetchedAddress.the-variants.{At}
-use Rattle.instruction.specs.declared.cursor.FetchedWords.the-variants.{Words}
 use Rattle.instruction.specs.Families.{familyOf}
-use Rattle.instruction.specs.Reading.{boundary, codeAddress, cursorAt, placeOf, fetchWords}
+use Rattle.instruction.specs.Reading.{boundary, codeAddress, cursorAt, fetchWords}
 use Rattle.instruction.specs.Variables.{addressIn, addressAt}
 use Rattle.instruction.specs.Decoding.{done, loadAt, shortConstantAt, memoryAt, constantScalarAt, constantVectorAt, jumpAt, callAt, familyAt, instructionAt}
 use Rattle.encoding.specs.Encoder.{operatorNumber, memoryNumber, stackNumber, arrayNumber, controlNumber, jumpNumber, halfBytes, wordBytes, wordsBytes, localBytes, addressBytes, fill, encode, AddressFits, MemoryFits, Encodable}
 use Rattle.encoding.specs.Theorems.{Stand}
 use Rattle.encoding.proofs.Stands.{stand-length, byte-here, first-here, half-here, word-here}
-use Rattle.encoding.proofs.Families.{is-short-local, is-short-const, is-long-local, is-long-global}
+use Rattle.instruction.proofs.Ranges.{is-short-local, is-short-const, is-long-local, is-long-global}
 use Rattle.encoding.proofs.Forms.{scalar-form, stack-form, array-form, control-form, jump-form, word-form, vector-form, call-form, memory-form, index-form, joined, joined-word, bit-back}
 
 -- The place of an instruction's end, as a code address.

@@ -1,5 +1,5 @@
 -- What the suboperation of a first byte means, and what a field that was put into bytes reads as.
-use mathlib.Core.Path.{_≡_, refl, sym, _∙_, ap}
+use mathlib.Core.Path.{_≡_, refl}
 use mathlib.Core.Bool.{Bool, true, false}
 use mathlib.Core.List.{List}
 use Prim.Native.Nat.{ℕ, _+_, _-_, _*_, _/_, _%_, _^_, _≤_, _<_}
@@ -13,7 +13,6 @@ use Rattle.operator.specs.declared.Dyadic.the-variants as D
 use Rattle.operator.specs.declared.Operator.{Operator}
 use Rattle.operator.specs.declared.Operator.the-variants as O
 use Rattle.operator.specs.Table.{operatorOf}
-use Rattle.procedure.specs.Headers.{bitOf}
 use Rattle.instruction.specs.declared.MemoryOperation.{MemoryOperation}
 use Rattle.instruction.specs.declared.MemoryOperation.the-variants.{AssignIndexed, Assign, AssignNoResult, Reference, TestDefined}
 use Rattle.instruction.specs.declared.StackOperation.{StackOperation}
@@ -31,7 +30,7 @@ use Rattle.instruction.specs.Families.{familyIn, familyOf}
 use Rattle.instruction.specs.Tables.{memoryOf, etcOf}
 use Rattle.instruction.specs.Decoding.{done, memoryAt, constantScalarAt, constantVectorAt, jumpAt, callAt, etcAt, familyAt}
 use Rattle.encoding.specs.Encoder.{operatorNumber, memoryNumber, stackNumber, arrayNumber, controlNumber, jumpNumber, MemoryFits}
-use Rattle.encoding.proofs.Families.{is-mem-ref, is-index}
+use Rattle.instruction.proofs.Ranges.{is-mem-ref, is-index}
 
 module _ (code : List ℕ) (c : Cursor) where
   pub scalar-form : (o : Operator)

@@ -4,7 +4,6 @@ pub mod Cases
 pub mod Confined
 pub mod Advance
 pub mod Stands
-pub mod Families
 pub mod Forms
 pub mod Encoded
 pub mod Theorem
