@@ -114,7 +114,7 @@ fn decode(code: &[u8], at: usize) -> Decoded {
 fn address_weight(a: Address) -> u64 {
     match a {
         Address::Local(below) => below as u64,
-        Address::Global(at) => 10000 + at as u64,
+        Address::Global(at) => at as u64,
     }
 }
 
