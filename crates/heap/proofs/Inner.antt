@@ -44,6 +44,11 @@ inner-above a (free n ∷ bs) i h = omega (arith, inner-above (a + n) bs i h)
 inner-above a (array z k ∷ bs) i (inl h) = h .0
 inner-above a (array z k ∷ bs) i (inr h) = omega (arith, inner-above (a + (z + k)) bs i h)
 
+pub inner-below : (a : ℕ) (bs : List Block) (i : ℕ) → Inner a bs i → i < over a bs
+inner-below a (free n ∷ bs) i h = inner-below (a + n) bs i h
+inner-below a (array z k ∷ bs) i (inl h) = omega (arith, over-le (a + (z + k)) bs)
+inner-below a (array z k ∷ bs) i (inr h) = inner-below (a + (z + k)) bs i h
+
 pub inner-cases : (a : ℕ) (xs : List Block) (n : ℕ) (ys : List Block) (i : ℕ) → Inner a (xs ++ free n ∷ ys) i → (i < over a xs) ⊎ (over a xs + n < i)
 inner-cases a [] n ys i h = inr (inner-above (a + n) ys i h)
 inner-cases a (free m ∷ xs) n ys i h = inner-cases (a + m) xs n ys i h

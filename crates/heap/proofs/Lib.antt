@@ -13,3 +13,9 @@ pub mod Unlink
 pub mod Split
 pub mod Whole
 pub mod Request
+pub mod JoinBefore
+pub mod Hook
+pub mod JoinNone
+pub mod JoinAfter
+pub mod JoinBoth
+pub mod Stores
