@@ -22,7 +22,7 @@ use Rattle.heap.proofs.Heaps.{heap-make, not-prev}
 use Rattle.heap.proofs.Hook.{hook-length, hook-other, hook-walk, relink-ring}
 
 module _ {s : List ℕ} {t : List ℕ} (xs : List Block) (z k m : ℕ) (ys : List Block) (g : Heap s (xs ++ array z k ∷ free m ∷ ys) t)
-  (before : prevFreeAt s (over (blockptr s) xs) ≡ false) where
+    (before : prevFreeAt s (over (blockptr s) xs) ≡ false) where
   abbrev a : ℕ
   a = over (blockptr s) xs
 
@@ -54,16 +54,22 @@ module _ {s : List ℕ} {t : List ℕ} (xs : List Block) (z k m : ℕ) (ys : Lis
   at = walk-at s (blockptr s) false xs (array z k ∷ free m ∷ ys) (g .walk)
 
   place : (8 ≤ blockptr s) × (blockptr s ≤ a) × (3 ≤ z) × (3 ≤ m) × (q + m ≤ end) × (end + 3 ≤ length s) × (length s ≤ 16384)
-  place =
-      (g .low, over-le (blockptr s) xs, at .1 .0 .least, at .1 .1 .0 .least,
-      omega (arith, over-append (blockptr s) xs (array z k ∷ free m ∷ ys), over-le (q + m) ys), omega (arith, g .top, g .room), g .short)
+  place = (
+    g .low,
+    over-le (blockptr s) xs,
+    at .1 .0 .least,
+    at .1 .1 .0 .least,
+    omega (arith, over-append (blockptr s) xs (array z k ∷ free m ∷ ys), over-le (q + m) ys),
+    omega (arith, g .top, g .room),
+    g .short,
+  )
 
   q-in : 0 < count q (frees (blockptr s) old)
   q-in = omega (arith, hit-same q, ap (count q) (frees-append (blockptr s) xs (array z k ∷ free m ∷ ys)), count-append q (frees (blockptr s) xs) (frees a (array z k ∷ free m ∷ ys)))
 
   -- a member of the ring but `q` stands clear of both blocks
   far : (x : ℕ) → 0 < count x ring → x ≢ q
-    → (a ≢ x) × (x + 1 ≢ a) × (x + 1 ≢ a + (z + k + m) - 1) × (blockptr s ≤ x) × (x ≤ end)
+      → (a ≢ x) × (x + 1 ≢ a) × (x + 1 ≢ a + (z + k + m) - 1) × (blockptr s ≤ x) × (x ≤ end)
   far x c n =
       ⊎-elim (λ e. omega (arith, place, e))
       (λ e. ⊎-elim (λ l. omega (arith, place, l))
@@ -113,13 +119,16 @@ module _ {s : List ℕ} {t : List ℕ} (xs : List Block) (z k m : ℕ) (ys : Lis
     after-walk =
         walk-replace s1 after (blockptr s) false xs (array z k ∷ free m ∷ ys) (free (z + k + m) ∷ ys) walk1
         (λ i l u. after-other i (omega (arith, place)))
-        (λ p w. (record {
-        alone = not-prev p (w .0) (omega (arith, place)) (rw (s1-tag a (inl refl)) before);
-        least = omega (arith, place);
-        first = moveRover-other s2 q a _ (omega (arith, place)) ∙ markFree-first s1 _ _ (omega (arith, place)) (omega (arith, place, s1-length));
-        end = moveRover-other s2 q a _ (omega (arith, place)) ∙ markFree-end s1 _ _ (omega (arith, place)) (omega (arith, place, s1-length)) },
-        let e : a + (z + k + m) ≡ q + m = omega arith in
-        rw e (walk-same s1 after (q + m) true ys (w .1 .1) (λ i l u. after-other i (omega (arith, place))))))
+        (λ p w. (
+          record {
+            alone = not-prev p (w .0) (omega (arith, place)) (rw (s1-tag a (inl refl)) before);
+            least = omega (arith, place);
+            first = moveRover-other s2 q a _ (omega (arith, place)) ∙ markFree-first s1 _ _ (omega (arith, place)) (omega (arith, place, s1-length));
+            end = moveRover-other s2 q a _ (omega (arith, place)) ∙ markFree-end s1 _ _ (omega (arith, place)) (omega (arith, place, s1-length));
+          },
+          let e : a + (z + k + m) ≡ q + m = omega arith in
+              rw e (walk-same s1 after (q + m) true ys (w .1 .1) (λ i l u. after-other i (omega (arith, place)))),
+        ))
 
     after-low : (i : ℕ) → i ≢ 1 → i < 8 → getD after i 0 ≡ getD s i 0
     after-low i n l = after-other i (omega (arith, place)) ∙ s1-tag i (inr l)
@@ -127,10 +136,14 @@ module _ {s : List ℕ} {t : List ℕ} (xs : List Block) (z k m : ℕ) (ys : Lis
     after-count : (x : ℕ) → count x (frees (blockptr s) new) + hit x q ≡ count x (frees (blockptr s) old) + hit x a
     after-count x =
         let e : a + (z + k + m) ≡ q + m = omega arith in
-        omega (arith,
-        ap (count x) (frees-append (blockptr s) xs (free (z + k + m) ∷ ys)), count-append x (frees (blockptr s) xs) (frees a (free (z + k + m) ∷ ys)),
-        ap (λ (y : ℕ). count x (frees y ys)) e,
-        ap (count x) (frees-append (blockptr s) xs (array z k ∷ free m ∷ ys)), count-append x (frees (blockptr s) xs) (frees a (array z k ∷ free m ∷ ys)))
+        omega (
+          arith,
+          ap (count x) (frees-append (blockptr s) xs (free (z + k + m) ∷ ys)),
+          count-append x (frees (blockptr s) xs) (frees a (free (z + k + m) ∷ ys)),
+          ap (λ (y : ℕ). count x (frees y ys)) e,
+          ap (count x) (frees-append (blockptr s) xs (array z k ∷ free m ∷ ys)),
+          count-append x (frees (blockptr s) xs) (frees a (array z k ∷ free m ∷ ys)),
+        )
 
     member-same : (x : ℕ) → 0 < count x (a ∷ b ∷ vs) → getD after (x + 1) 0 ≡ getD s1 (x + 1) 0
     member-same x w =
@@ -148,6 +161,7 @@ module _ {s : List ℕ} {t : List ℕ} (xs : List Block) (z k m : ℕ) (ys : Lis
       where
         far-q : (x : ℕ) → x ≡ a → hit x q ≡ 0
         far-q x e = ⊎-elim (λ w. absurd (omega (arith, place, w, e))) (λ w. w .1) (hit-cases x q)
+
         not-q : (rover s ≢ q) → hit (rover s) q ≡ 0
         not-q n = ⊎-elim (λ w. absurd (n (w .0))) (λ w. w .1) (hit-cases (rover s) q)
 
@@ -177,14 +191,16 @@ module _ {s : List ℕ} {t : List ℕ} (xs : List Block) (z k m : ℕ) (ys : Lis
       where
         lasts : i ≢ lastAt s q + 1
         lasts = inner-apart s (blockptr s) false old (lastAt s q) i (g .walk) (was i w) (omega (arith, last-in, c (lastAt s q)))
+
         nexts : i ≢ nextAt s q + 1
         nexts = inner-apart s (blockptr s) false old (nextAt s q) i (g .walk) (was i w) (omega (arith, next-in, c (nextAt s q)))
 
     left : Leaves s after new
     left = record {
-        long = moveRover-length s2 q a ∙ markFree-length s1 _ _ ∙ s1-length;
-        base = moveRover-base s2 q a (omega (arith, place, markFree-length s1 a (z + k + m), s1-length)) (omega (arith, place)) ∙ ap (λ (w : ℕ). w / 2 ^ 16) (markFree-other s1 _ _ 1 (omega (arith, place)) ∙ s1-tag 1 (inr (omega arith)));
-        quiet = quiet-same }
+      long = moveRover-length s2 q a ∙ markFree-length s1 _ _ ∙ s1-length;
+      base = moveRover-base s2 q a (omega (arith, place, markFree-length s1 a (z + k + m), s1-length)) (omega (arith, place)) ∙ ap (λ (w : ℕ). w / 2 ^ 16) (markFree-other s1 _ _ 1 (omega (arith, place)) ∙ s1-tag 1 (inr (omega arith)));
+      quiet = quiet-same;
+    }
 
   size-q : sizeAt s q ≡ m
   size-q = omega (arith, place, at .1 .1 .0 .first)

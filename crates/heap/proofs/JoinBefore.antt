@@ -19,7 +19,7 @@ use Rattle.heap.proofs.Inner.{inner-cases}
 use Rattle.heap.proofs.Heaps.{walk-mark, heap-make}
 
 module _ {s : List ℕ} {t : List ℕ} (xs : List Block) (m z k : ℕ) (ys : List Block) (g : Heap s (xs ++ free m ∷ array z k ∷ ys) t)
-  (alone : freeAt s (over (blockptr s) xs + m + (z + k)) ≡ false) where
+    (alone : freeAt s (over (blockptr s) xs + m + (z + k)) ≡ false) where
   abbrev p : ℕ
   p = over (blockptr s) xs
 
@@ -36,9 +36,15 @@ module _ {s : List ℕ} {t : List ℕ} (xs : List Block) (m z k : ℕ) (ys : Lis
   at = walk-at s (blockptr s) false xs (free m ∷ array z k ∷ ys) (g .walk)
 
   place : (8 ≤ blockptr s) × (blockptr s ≤ p) × (3 ≤ m) × (3 ≤ z) × (p + m + (z + k) ≤ over (blockptr s) old) × (over (blockptr s) old + 3 ≤ length s) × (length s ≤ 16384)
-  place =
-      (g .low, over-le (blockptr s) xs, at .1 .0 .least, at .1 .1 .0 .least,
-      omega (arith, over-append (blockptr s) xs (free m ∷ array z k ∷ ys), over-le (p + m + (z + k)) ys), omega (arith, g .top, g .room), g .short)
+  place = (
+    g .low,
+    over-le (blockptr s) xs,
+    at .1 .0 .least,
+    at .1 .1 .0 .least,
+    omega (arith, over-append (blockptr s) xs (free m ∷ array z k ∷ ys), over-le (p + m + (z + k)) ys),
+    omega (arith, g .top, g .room),
+    g .short,
+  )
 
   after-length : length after ≡ length s
   unfolding joinBefore
@@ -53,17 +59,20 @@ module _ {s : List ℕ} {t : List ℕ} (xs : List Block) (m z k : ℕ) (ys : Lis
   after-walk =
       walk-replace s after (blockptr s) false xs (free m ∷ array z k ∷ ys) (free (m + (z + k)) ∷ ys) (g .walk)
       (λ i l u. after-other i (omega (arith, place)))
-      (λ q w. (record {
-      alone = w .0 .alone;
-      least = omega (arith, place);
-      first = setPrevFree-other _ _ _ (omega (arith, place)) ∙ markFree-first s _ _ (omega (arith, place)) (omega (arith, place));
-      end = setPrevFree-other _ _ _ (omega (arith, place)) ∙ markFree-end s _ _ (omega (arith, place)) (omega (arith, place)) },
-      let e : p + (m + (z + k)) ≡ p + m + (z + k) = omega arith in
-      rw e
-      (walk-mark s after (p + m + (z + k)) ys (w .1 .1) alone (λ i l u. after-other i (omega (arith, place)))
-      (setPrevFree-same _ _ (omega (arith, place, markFree-length s p (m + (z + k))))
-      ∙ ap (λ (v : ℕ). v % 2 ^ 30 + 2 ^ 30) (markFree-other s _ _ _ (omega (arith, place))))
-      (omega (arith, place, over-append (blockptr s) xs (free m ∷ array z k ∷ ys))))))
+      (λ q w. (
+        record {
+          alone = w .0 .alone;
+          least = omega (arith, place);
+          first = setPrevFree-other _ _ _ (omega (arith, place)) ∙ markFree-first s _ _ (omega (arith, place)) (omega (arith, place));
+          end = setPrevFree-other _ _ _ (omega (arith, place)) ∙ markFree-end s _ _ (omega (arith, place)) (omega (arith, place));
+        },
+        let e : p + (m + (z + k)) ≡ p + m + (z + k) = omega arith in
+            rw e
+            (walk-mark s after (p + m + (z + k)) ys (w .1 .1) alone (λ i l u. after-other i (omega (arith, place)))
+            (setPrevFree-same _ _ (omega (arith, place, markFree-length s p (m + (z + k))))
+            ∙ ap (λ (v : ℕ). v % 2 ^ 30 + 2 ^ 30) (markFree-other s _ _ _ (omega (arith, place))))
+            (omega (arith, place, over-append (blockptr s) xs (free m ∷ array z k ∷ ys)))),
+      ))
 
   member-same : (x : ℕ) → 0 < count x (over (blockptr s) old ∷ frees (blockptr s) old) → getD after (x + 1) 0 ≡ getD s (x + 1) 0
   member-same x c =

@@ -53,9 +53,16 @@ module _ {s : List ℕ} {t : List ℕ} (xs : List Block) (j z k m : ℕ) (ys : L
   at = walk-at s (blockptr s) false xs tail (g .walk)
 
   place : (8 ≤ blockptr s) × (blockptr s ≤ p) × (3 ≤ j) × (3 ≤ z) × (3 ≤ m) × (q + m ≤ end) × (end + 3 ≤ length s) × (length s ≤ 16384)
-  place =
-      (g .low, over-le (blockptr s) xs, at .1 .0 .least, at .1 .1 .0 .least, at .1 .1 .1 .0 .least,
-      omega (arith, over-append (blockptr s) xs tail, over-le (q + m) ys), omega (arith, g .top, g .room), g .short)
+  place = (
+    g .low,
+    over-le (blockptr s) xs,
+    at .1 .0 .least,
+    at .1 .1 .0 .least,
+    at .1 .1 .1 .0 .least,
+    omega (arith, over-append (blockptr s) xs tail, over-le (q + m) ys),
+    omega (arith, g .top, g .room),
+    g .short,
+  )
 
   q-in : 0 < count q (frees (blockptr s) old)
   q-in = omega (arith, hit-same q, ap (count q) (frees-append (blockptr s) xs tail), count-append q (frees (blockptr s) xs) (frees p tail))
@@ -98,13 +105,16 @@ module _ {s : List ℕ} {t : List ℕ} (xs : List Block) (j z k m : ℕ) (ys : L
     after-walk =
         walk-replace (unlink s q) after (blockptr s) false xs tail (free (j + (z + k) + m) ∷ ys) walk1
         (λ i l u. after-other i (omega (arith, place)))
-        (λ o w. (record {
-        alone = w .0 .alone;
-        least = omega (arith, place);
-        first = moveRover-other s2 q p _ (omega (arith, place)) ∙ markFree-first (unlink s q) _ _ (omega (arith, place)) (omega (arith, place, unlink-length s q));
-        end = moveRover-other s2 q p _ (omega (arith, place)) ∙ markFree-end (unlink s q) _ _ (omega (arith, place)) (omega (arith, place, unlink-length s q)) },
-        let e : p + (j + (z + k) + m) ≡ q + m = omega arith in
-        rw e (walk-same (unlink s q) after (q + m) true ys (w .1 .1 .1) (λ i l u. after-other i (omega (arith, place))))))
+        (λ o w. (
+          record {
+            alone = w .0 .alone;
+            least = omega (arith, place);
+            first = moveRover-other s2 q p _ (omega (arith, place)) ∙ markFree-first (unlink s q) _ _ (omega (arith, place)) (omega (arith, place, unlink-length s q));
+            end = moveRover-other s2 q p _ (omega (arith, place)) ∙ markFree-end (unlink s q) _ _ (omega (arith, place)) (omega (arith, place, unlink-length s q));
+          },
+          let e : p + (j + (z + k) + m) ≡ q + m = omega arith in
+              rw e (walk-same (unlink s q) after (q + m) true ys (w .1 .1 .1) (λ i l u. after-other i (omega (arith, place)))),
+        ))
 
     low : (i : ℕ) → i < 8 → getD (unlink s q) i 0 ≡ getD s i 0
     low i l = unlink-other s q i (omega (arith, l, place, others (lastAt s q) last-in, others (nextAt s q) next-in))
@@ -115,10 +125,14 @@ module _ {s : List ℕ} {t : List ℕ} (xs : List Block) (j z k m : ℕ) (ys : L
     after-count : (x : ℕ) → count x (frees (blockptr s) new) + hit x q ≡ count x (frees (blockptr s) old)
     after-count x =
         let e : p + (j + (z + k) + m) ≡ q + m = omega arith in
-        omega (arith,
-        ap (count x) (frees-append (blockptr s) xs (free (j + (z + k) + m) ∷ ys)), count-append x (frees (blockptr s) xs) (frees p (free (j + (z + k) + m) ∷ ys)),
-        ap (λ (y : ℕ). count x (frees y ys)) e,
-        ap (count x) (frees-append (blockptr s) xs tail), count-append x (frees (blockptr s) xs) (frees p tail))
+        omega (
+          arith,
+          ap (count x) (frees-append (blockptr s) xs (free (j + (z + k) + m) ∷ ys)),
+          count-append x (frees (blockptr s) xs) (frees p (free (j + (z + k) + m) ∷ ys)),
+          ap (λ (y : ℕ). count x (frees y ys)) e,
+          ap (count x) (frees-append (blockptr s) xs tail),
+          count-append x (frees (blockptr s) xs) (frees p tail),
+        )
 
     member-same : (x : ℕ) → 0 < count x (b ∷ vs) → getD after (x + 1) 0 ≡ getD (unlink s q) (x + 1) 0
     member-same x w = after-other (x + 1) (omega (arith, place, others x w))
@@ -161,15 +175,17 @@ module _ {s : List ℕ} {t : List ℕ} (xs : List Block) (j z k m : ℕ) (ys : L
     quiet-same i n (inr (inl w)) = above i (omega (arith, g .top))
     quiet-same i n (inr (inr w)) =
         ⊎-elim (λ l. after-other i (omega (arith, place, l))) (λ l. after-other i (omega (arith, place, l))) (inner-cases (blockptr s) xs (j + (z + k) + m) ys i w)
-        ∙ unlink-other s q i
-        (inner-apart s (blockptr s) false old (lastAt s q) i (g .walk) (was i w) (omega (arith, last-in, c (lastAt s q))),
-        inner-apart s (blockptr s) false old (nextAt s q) i (g .walk) (was i w) (omega (arith, next-in, c (nextAt s q))))
+        ∙ unlink-other s q i (
+          inner-apart s (blockptr s) false old (lastAt s q) i (g .walk) (was i w) (omega (arith, last-in, c (lastAt s q))),
+          inner-apart s (blockptr s) false old (nextAt s q) i (g .walk) (was i w) (omega (arith, next-in, c (nextAt s q))),
+        )
 
     left : Leaves s after new
     left = record {
-        long = moveRover-length s2 q p ∙ markFree-length (unlink s q) _ _ ∙ unlink-length s q;
-        base = moveRover-base s2 q p (omega (arith, place, markFree-length (unlink s q) p (j + (z + k) + m), unlink-length s q)) (omega (arith, place)) ∙ ap (λ (w : ℕ). w / 2 ^ 16) (markFree-other (unlink s q) _ _ 1 (omega (arith, place)) ∙ low 1 (omega arith));
-        quiet = quiet-same }
+      long = moveRover-length s2 q p ∙ markFree-length (unlink s q) _ _ ∙ unlink-length s q;
+      base = moveRover-base s2 q p (omega (arith, place, markFree-length (unlink s q) p (j + (z + k) + m), unlink-length s q)) (omega (arith, place)) ∙ ap (λ (w : ℕ). w / 2 ^ 16) (markFree-other (unlink s q) _ _ 1 (omega (arith, place)) ∙ low 1 (omega arith));
+      quiet = quiet-same;
+    }
 
   size-q : sizeAt s q ≡ m
   size-q = omega (arith, place, at .1 .1 .1 .0 .first)

@@ -22,7 +22,7 @@ use Rattle.heap.proofs.Heaps.{walk-mark, heap-make, not-prev}
 use Rattle.heap.proofs.Hook.{hook-length, hook-other, hook-walk, insert-ring, insert-is}
 
 module _ {s : List ℕ} {t : List ℕ} (xs : List Block) (z k : ℕ) (ys : List Block) (g : Heap s (xs ++ array z k ∷ ys) t)
-  (before : prevFreeAt s (over (blockptr s) xs) ≡ false) (behind : freeAt s (over (blockptr s) xs + (z + k)) ≡ false) where
+    (before : prevFreeAt s (over (blockptr s) xs) ≡ false) (behind : freeAt s (over (blockptr s) xs + (z + k)) ≡ false) where
   abbrev a : ℕ
   a = over (blockptr s) xs
 
@@ -56,7 +56,7 @@ module _ {s : List ℕ} {t : List ℕ} (xs : List Block) (z k : ℕ) (ys : List 
 
   -- a member of the ring stands clear of the released block
   far : (x : ℕ) → 0 < count x ring
-    → (a ≢ x) × (x + 1 ≢ a) × (x + 1 ≢ a + (z + k) - 1) × (x + 1 ≢ a + (z + k)) × (blockptr s ≤ x) × (x ≤ end)
+      → (a ≢ x) × (x + 1 ≢ a) × (x + 1 ≢ a + (z + k) - 1) × (x + 1 ≢ a + (z + k)) × (blockptr s ≤ x) × (x ≤ end)
   far x c =
       ⊎-elim (λ e. omega (arith, place, e))
       (λ e. ⊎-elim (λ l. omega (arith, place, l))
@@ -95,24 +95,31 @@ module _ {s : List ℕ} {t : List ℕ} (xs : List Block) (z k : ℕ) (ys : List 
   after-walk =
       walk-replace s1 after (blockptr s) false xs (array z k ∷ ys) (free (z + k) ∷ ys) walk1
       (λ i l u. after-other i (omega (arith, place)))
-      (λ q w. (record {
-      alone = not-prev q (w .0) (omega (arith, place)) (rw (s1-tag a (inl refl)) before);
-      least = omega (arith, place);
-      first = setPrevFree-other _ _ _ (omega (arith, place)) ∙ markFree-first s1 _ _ (omega (arith, place)) (omega (arith, place, s1-length));
-      end = setPrevFree-other _ _ _ (omega (arith, place)) ∙ markFree-end s1 _ _ (omega (arith, place)) (omega (arith, place, s1-length)) },
-      walk-mark s1 after (a + (z + k)) ys (w .1) (rw (s1-tag (a + (z + k)) (inr (inl refl))) behind) (λ i l u. after-other i (omega (arith, place)))
-      (setPrevFree-same _ _ (omega (arith, place, markFree-length s1 a (z + k), s1-length))
-      ∙ ap (λ (v : ℕ). v % 2 ^ 30 + 2 ^ 30) (markFree-other s1 _ _ _ (omega (arith, place))))
-      (omega (arith, place, over-append (blockptr s) xs (array z k ∷ ys)))))
+      (λ q w. (
+        record {
+          alone = not-prev q (w .0) (omega (arith, place)) (rw (s1-tag a (inl refl)) before);
+          least = omega (arith, place);
+          first = setPrevFree-other _ _ _ (omega (arith, place)) ∙ markFree-first s1 _ _ (omega (arith, place)) (omega (arith, place, s1-length));
+          end = setPrevFree-other _ _ _ (omega (arith, place)) ∙ markFree-end s1 _ _ (omega (arith, place)) (omega (arith, place, s1-length));
+        },
+        walk-mark s1 after (a + (z + k)) ys (w .1) (rw (s1-tag (a + (z + k)) (inr (inl refl))) behind) (λ i l u. after-other i (omega (arith, place)))
+            (setPrevFree-same _ _ (omega (arith, place, markFree-length s1 a (z + k), s1-length))
+            ∙ ap (λ (v : ℕ). v % 2 ^ 30 + 2 ^ 30) (markFree-other s1 _ _ _ (omega (arith, place))))
+            (omega (arith, place, over-append (blockptr s) xs (array z k ∷ ys))),
+      ))
 
   after-low : (i : ℕ) → i < 8 → getD after i 0 ≡ getD s i 0
   after-low i l = after-other i (omega (arith, place)) ∙ s1-tag i (inr (inr l))
 
   after-count : (x : ℕ) → count x (frees (blockptr s) new) ≡ hit x a + count x (frees (blockptr s) old)
   after-count x =
-      omega (arith,
-      ap (count x) (frees-append (blockptr s) xs (free (z + k) ∷ ys)), count-append x (frees (blockptr s) xs) (frees a (free (z + k) ∷ ys)),
-      ap (count x) (frees-append (blockptr s) xs (array z k ∷ ys)), count-append x (frees (blockptr s) xs) (frees a (array z k ∷ ys)))
+      omega (
+        arith,
+        ap (count x) (frees-append (blockptr s) xs (free (z + k) ∷ ys)),
+        count-append x (frees (blockptr s) xs) (frees a (free (z + k) ∷ ys)),
+        ap (count x) (frees-append (blockptr s) xs (array z k ∷ ys)),
+        count-append x (frees (blockptr s) xs) (frees a (array z k ∷ ys)),
+      )
 
   member-same : (x : ℕ) → 0 < count x (end ∷ a ∷ turned .0) → getD after (x + 1) 0 ≡ getD s1 (x + 1) 0
   member-same x c =
@@ -148,6 +155,7 @@ module _ {s : List ℕ} {t : List ℕ} (xs : List Block) (z k : ℕ) (ys : List 
     where
       ends : i ≢ end + 1
       ends = inner-apart s (blockptr s) false old end i (g .walk) (was i h) (omega (arith, hit-same end))
+
       nexts : i ≢ next + 1
       nexts = inner-apart s (blockptr s) false old next i (g .walk) (was i h) next-in
 

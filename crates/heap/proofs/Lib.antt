@@ -18,4 +18,7 @@ pub mod Hook
 pub mod JoinNone
 pub mod JoinAfter
 pub mod JoinBoth
+pub mod Freed
+pub mod Release
 pub mod Stores
+pub mod Tiling
