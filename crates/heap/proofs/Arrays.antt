@@ -10,12 +10,6 @@ use Rattle.storage.specs.Owned.{ArrayIn}
 use Rattle.heap.specs.Words.{Inner}
 use Rattle.heap.proofs.Walks.{over-le}
 
-pub array-swap : (a : ℕ) (xs ys vs : List Block) (x z : ℕ) → (ArrayIn (over a xs) ys x z → ArrayIn (over a xs) vs x z) → ArrayIn a (xs ++ ys) x z → ArrayIn a (xs ++ vs) x z
-array-swap a [] ys vs x z f h = f h
-array-swap a (free n ∷ xs) ys vs x z f h = array-swap (a + n) xs ys vs x z f h
-array-swap a (array y k ∷ xs) ys vs x z f (inl h) = inl h
-array-swap a (array y k ∷ xs) ys vs x z f (inr h) = inr (array-swap (a + (y + k)) xs ys vs x z f h)
-
 -- an array's words but the first
 pub array-inner : (a : ℕ) (bs : List Block) (x z i : ℕ) → ArrayIn a bs x z → x < i → i < x + z → Inner a bs i
 array-inner a (free n ∷ bs) x z i h l u = array-inner (a + n) bs x z i h l u
@@ -44,11 +38,3 @@ array-split a (free n ∷ bs) x z h =
 array-split a (array y k ∷ bs) x z (inl h) = ([], k, bs, rw (h .1), sym (h .0))
 array-split a (array y k ∷ bs) x z (inr h) =
     let r = array-split (a + (y + k)) bs x z h in (array y k ∷ r .0, r .1, r .2, ap (λ (l : List Block). array y k ∷ l) (r .3), r .4)
-
--- an array is before a free block or behind it
-pub array-beside : (s : List ℕ) (a : ℕ) (p : Bool) (xs : List Block) (n : ℕ) (ys : List Block) (x z : ℕ) → Walk s a p (xs ++ free n ∷ ys) → ArrayIn a (xs ++ free n ∷ ys) x z
-    → (x + z ≤ over a xs) ⊎ (over a xs + n ≤ x)
-array-beside s a p [] n ys x z w h = inr (array-within s (a + n) true ys x z (w .1) h .0)
-array-beside s a p (free m ∷ xs) n ys x z w h = array-beside s (a + m) true xs n ys x z (w .1) h
-array-beside s a p (array y k ∷ xs) n ys x z w (inl h) = inl (omega (arith, h, over-le (a + (y + k)) xs))
-array-beside s a p (array y k ∷ xs) n ys x z w (inr h) = array-beside s (a + (y + k)) false xs n ys x z (w .1) h

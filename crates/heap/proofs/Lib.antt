@@ -22,3 +22,4 @@ pub mod Freed
 pub mod Release
 pub mod Stores
 pub mod Tiling
+pub mod Theorems

@@ -3,7 +3,7 @@ use Prim.Native.Nat.{ℕ, _-_, _<_, _≤_}
 use mathlib.Core.Path.{_≡_, refl, sym, _∙_, ap}
 use mathlib.Core.Bool.{false}
 use mathlib.Core.List.{List, [], _∷_}
-use mathlib.Core.Logic.{_↔_, _⊎_, inl, inr, ⊎-elim}
+use mathlib.Core.Logic.{_⊎_, inl, inr, ⊎-elim}
 use native.Mathlib.Omega.{arith}
 use lib.ListN.{length}
 use Rattle.segment.specs.State.{rover, blockptr}
@@ -101,11 +101,3 @@ module _ {s : List ℕ} {bs : List Block} {t : List ℕ} (g : Heap s bs t) where
       (λ e. inl (e .0, λ x c. e .1 x (omega (arith, g .once x))))
       (λ e. inr (⊎-elim (λ w. absurd (omega (arith, e .1, ap (λ (y : ℕ). sizeAt s y) (w .0), dummy-size))) (λ w. omega (arith, w, e .0, g .once (find s size))) (hit-cases (find s size) (over (blockptr s) bs)), e .1))
       (found-cases (find-is size))
-
-  -- found exactly when some free block is long enough
-  pub found-iff : (size : ℕ) → 0 < size
-      → (find s size ≡ 0) ↔ ((x : ℕ) → 0 < count x (frees (blockptr s) bs) → sizeAt s x < size)
-  found-iff size pos = (
-    λ z. ⊎-elim (λ e. e .1) (λ e. absurd (omega (arith, z, g .low, frees-within s (blockptr s) false bs (find s size) (g .walk) (e .0)))) (find-cases size pos),
-    λ k. ⊎-elim (λ e. e .0) (λ e. absurd (omega (arith, e .1, k (find s size) (e .0)))) (find-cases size pos),
-  )

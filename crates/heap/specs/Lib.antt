@@ -3,3 +3,4 @@ pub mod Words
 pub mod Tiling
 pub mod Request
 pub mod Release
+pub mod Theorems
