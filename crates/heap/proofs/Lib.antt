@@ -23,3 +23,4 @@ pub mod Release
 pub mod Stores
 pub mod Tiling
 pub mod Theorems
+pub mod Marked

@@ -12,7 +12,7 @@ use Rattle.heap.specs.Request.{Placed, highEnd, entire, further}
 use Rattle.heap.proofs.Inner.{inner-above}
 use Rattle.heap.proofs.Arrays.{array-within}
 
--- the arrays after a block was placed
+-- the arrays are those that were and the new one
 pub placed-old : (x z a : ℕ) (bs cs : List Block) → Placed x z a bs cs → (y v : ℕ) → ArrayIn a bs y v → ArrayIn a cs y v
 placed-old x z a bs cs (highEnd {n = n} h e) y v k = let q : a + (n - z) + (z + 0) ≡ a + n = omega arith in inr (rw q k)
 placed-old x z a bs cs (entire {n = n} h l e) y v k = let q : a + (z + (n - z)) ≡ a + n = omega arith in inr (rw q k)

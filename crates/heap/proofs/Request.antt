@@ -15,7 +15,7 @@ use Rattle.heap.proofs.Ways.{given-split, given-whole, give-split, give
 use Rattle.heap.proofs.Walks.{over-le, walk-at}
 use Rattle.heap.proofs.Counts.{order, hit-same, over-append, frees-within, free-split}
 use Rattle.heap.proofs.Search.{find-cases}
-use Rattle.heap.proofs.Placed.{placed-given, placed-above, placed-fresh, placed-further, placed-room}
+use Rattle.heap.proofs.Placed.{placed-old, placed-new, placed-given, placed-above, placed-fresh, placed-further, placed-room}
 use Rattle.heap.proofs.Split.{split-heap, split-leaves}
 use Rattle.heap.proofs.Whole.{whole-leaves, whole-heap}
 
@@ -67,7 +67,7 @@ found {s} {bs} size f g n3 ne e o =
       ring = o .1;
       heap = rw (request-some s size ne, ← e) (o .2);
       placed = p;
-      given = placed-given _ _ _ _ _ p;
+      arrays = λ y v. (placed-new _ _ _ _ _ p y v, ⊎-elim (λ h. rw (h .0, h .1) (placed-given _ _ _ _ _ p)) (placed-old _ _ _ _ _ p y v));
       apart = placed-fresh s _ _ (blockptr s) false bs _ (g .walk) n3 p;
       leaves = rw (request-some s size ne, ← e) (o .4);
     }

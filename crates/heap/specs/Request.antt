@@ -20,14 +20,14 @@ pub data Placed (x size : ℕ) : ℕ → List Block → List Block → Type 0 wh
       → Placed x size a (free n ∷ blocks) (array size (n - size) ∷ blocks)
   further : {a : ℕ} {b : Block} {old blocks : List Block} → Placed x size (a + span b) old blocks → Placed x size a (b ∷ old) (b ∷ blocks)
 
--- A request that is served, where the blocks were `old`: the heap after it, which blocks it has, the block given among them and
--- apart from every array that was there, and what is left as it was.
+-- A request that is served, where the blocks were `old`: the heap after it and which blocks it has; the arrays are the one
+-- given and those that were, from each of which it is apart; and what is left as it was.
 pub record Served (s : List ℕ) (old : List Block) (size : ℕ) : Type 0 where
   pub blocks : List Block
   pub ring : List ℕ
   pub heap : Heap (request s size) blocks ring
   pub placed : Placed (requestAt s size) size (blockptr s) old blocks
-  pub given : ArrayIn (blockptr s) blocks (requestAt s size) size
+  pub arrays : (y other : ℕ) → ArrayIn (blockptr s) blocks y other ↔ (((y ≡ requestAt s size) × (other ≡ size)) ⊎ ArrayIn (blockptr s) old y other)
   pub apart : (y other : ℕ) → ArrayIn (blockptr s) old y other → (requestAt s size + size ≤ y) ⊎ (y + other ≤ requestAt s size)
   pub leaves : Leaves s (request s size) old
 

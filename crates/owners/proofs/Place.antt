@@ -1,6 +1,6 @@
 -- A new array, with one owner.
 use Prim.Native.Nat.{ℕ, _+_, _*_, _/_, _^_, _<_, _≤_}
-use mathlib.Core.Path.{_≡_, _∙_, ap}
+use mathlib.Core.Path.{_≡_, refl, _∙_, ap}
 use mathlib.Core.Bool.{false}
 use mathlib.Core.List.{List, _∷_}
 use mathlib.Core.Logic.{_⊎_, inl, inr, ⊎-elim}
@@ -18,7 +18,7 @@ use Rattle.heap.specs.Words.{Quiet, Leaves}
 use Rattle.heap.specs.Request.{Served}
 use Rattle.heap.proofs.Counts.{order, hit-cases, hit-same}
 use Rattle.heap.proofs.Arrays.{array-inner, array-within}
-use Rattle.heap.proofs.Placed.{placed-old, placed-new, placed-given, placed-fresh, placed-inner}
+use Rattle.heap.proofs.Placed.{placed-inner}
 use Rattle.heap.proofs.Request.{served-at, request-theorem}
 use Rattle.owners.specs.Place.{NewArray, Place}
 use Rattle.owners.proofs.Cells.{cell-array, cell-same}
@@ -44,10 +44,10 @@ module _ {s ws : List ℕ} (o : Owned s ws) (sh el : List ℕ) (ok : Proper sh e
   b1 = d .leaves .quiet 4 (omega arith) (inl (omega (arith, o .heap .low)))
 
   new : ArrayIn (blockptr s) (d .blocks) x z
-  new = placed-given x z (blockptr s) (o .blocks) (d .blocks) (d .placed)
+  new = d .arrays x z .1 (inl (refl, refl))
 
-  spot : (8 ≤ blockptr s) × (blockptr s ≤ x) × (x + z + 3 ≤ sbase s1) × (sbase s1 ≤ length s1) × (length s1 ≤ 16384) × (length s1 ≡ length s) × (sbase s1 ≡ sbase s)
-  spot =
+  pub fresh-place : (8 ≤ blockptr s) × (blockptr s ≤ x) × (x + z + 3 ≤ sbase s1) × (sbase s1 ≤ length s1) × (length s1 ≤ 16384) × (length s1 ≡ length s) × (sbase s1 ≡ sbase s)
+  fresh-place =
       let w = array-within s1 (blockptr s1) false (d .blocks) x z (d .heap .walk) (rw b1 new) in (
         o .heap .low,
         omega (arith, w, b1),
@@ -60,14 +60,14 @@ module _ {s ws : List ℕ} (o : Owned s ws) (sh el : List ℕ) (ok : Proper sh e
 
   -- nothing of the old arrays is written
   clear : (i : ℕ) → Quiet s (o .blocks) i → (i ≤ x) ⊎ (x + z ≤ i)
-  clear i (inl h) = inl (omega (arith, h, spot))
-  clear i (inr (inl h)) = inr (omega (arith, h, spot))
+  clear i (inl h) = inl (omega (arith, h, fresh-place))
+  clear i (inr (inl h)) = inr (omega (arith, h, fresh-place))
   clear i (inr (inr h)) = placed-inner s x z (blockptr s) false (o .blocks) (d .blocks) (o .heap .walk) (d .placed) i h
 
   left : Leaves s s2 (o .blocks)
   left = record {
     long = fill-length s1 x sh el ∙ d .leaves .long;
-    base = ap (λ (v : ℕ). v / 2 ^ 16) (fill-other s1 x sh el 1 (inl (omega (arith, spot)))) ∙ d .leaves .base;
+    base = ap (λ (v : ℕ). v / 2 ^ 16) (fill-other s1 x sh el 1 (inl (omega (arith, fresh-place)))) ∙ d .leaves .base;
     quiet = λ i n q. fill-other s1 x sh el i (clear i q) ∙ d .leaves .quiet i n q;
   }
 
@@ -75,16 +75,16 @@ module _ {s ws : List ℕ} (o : Owned s ws) (sh el : List ℕ) (ok : Proper sh e
   b2 = left .quiet 4 (omega arith) (inl (omega (arith, o .heap .low)))
 
   filled : (t′ : List ℕ) × Heap s2 (d .blocks) t′
-  filled = fill-heap x sh el (d .heap) (omega (arith, spot)) (λ j p q. array-inner (blockptr s1) (d .blocks) x z j (rw b1 new) p q)
+  filled = fill-heap x sh el (d .heap) (omega (arith, fresh-place)) (λ j p q. array-inner (blockptr s1) (d .blocks) x z j (rw b1 new) p q)
 
   second : getD s2 (x + 1) 0 ≡ 1 * 2 ^ 16 + length sh
-  second = fill-second s1 x sh el (omega (arith, spot))
+  second = fill-second s1 x sh el (omega (arith, fresh-place))
 
   shape : shapeAt s2 x ≡ sh
-  shape = fill-shape s1 x sh el (omega (arith, spot)) (omega (arith, ok .rank))
+  shape = fill-shape s1 x sh el (omega (arith, fresh-place)) (omega (arith, ok .rank))
 
   elems : elementsAt s2 x ≡ el
-  elems = fill-elements s1 x sh el (omega (arith, spot)) (omega (arith, ok .rank)) (ok .size)
+  elems = fill-elements s1 x sh el (omega (arith, fresh-place)) (omega (arith, ok .rank)) (ok .size)
 
   new-inside : Inside s2 x z
   new-inside =
@@ -100,8 +100,8 @@ module _ {s ws : List ℕ} (o : Owned s ws) (sh el : List ℕ) (ok : Proper sh e
   unowned : count (arrayWord x) ws ≡ 0
   unowned =
       ⊎-elim (λ h. omega (arith, h))
-      (λ h. let n = o .named x (omega (arith, spot)) h in
-      absurd (⊎-elim (λ q. omega (arith, q)) (λ q. omega (arith, q, array-place o x (n .0) (n .1))) (placed-fresh s x z (blockptr s) false (o .blocks) (d .blocks) (o .heap .walk) (omega (arith, ok .rank)) (d .placed) x (n .0) (n .1))))
+      (λ h. let n = o .named x (omega (arith, fresh-place)) h in
+      absurd (⊎-elim (λ q. omega (arith, q)) (λ q. omega (arith, q, array-place o x (n .0) (n .1))) (d .apart x (n .0) (n .1))))
       (order (count (arrayWord x) ws) 0)
 
   fresh-own : Owned s2 (arrayWord x ∷ ws)
@@ -110,9 +110,9 @@ module _ {s ws : List ℕ} (o : Owned s ws) (sh el : List ℕ) (ok : Proper sh e
     ring = filled .0;
     heap = filled .1;
     named = λ y l h. rw b2
-        (⊎-elim (λ e. let q : y ≡ x = omega (arith, e) in rw q (z, new)) (λ e. let n = o .named y l (omega (arith, e, h)) in (n .0, placed-old x z (blockptr s) (o .blocks) (d .blocks) (d .placed) y (n .0) (n .1))) (hit-cases (arrayWord y) (arrayWord x)));
-    counts = λ y v u. now-counts y v (placed-new x z (blockptr s) (o .blocks) (d .blocks) (d .placed) y v (rw b2 at u));
-    inside = λ y v u. now-inside y v (placed-new x z (blockptr s) (o .blocks) (d .blocks) (d .placed) y v (rw b2 at u));
+        (⊎-elim (λ e. let q : y ≡ x = omega (arith, e) in rw q (z, new)) (λ e. let n = o .named y l (omega (arith, e, h)) in (n .0, d .arrays y (n .0) .1 (inr (n .1)))) (hit-cases (arrayWord y) (arrayWord x)));
+    counts = λ y v u. now-counts y v (d .arrays y v .0 (rw b2 at u));
+    inside = λ y v u. now-inside y v (d .arrays y v .0 (rw b2 at u));
   }
     where
       now-counts : (y v : ℕ) → ((y ≡ x) × (v ≡ z)) ⊎ ArrayIn (blockptr s) (o .blocks) y v → (countAt s2 y ≡ count (arrayWord y) (arrayWord x ∷ ws)) × (0 < count (arrayWord y) (arrayWord x ∷ ws))
@@ -145,7 +145,7 @@ module _ {s ws : List ℕ} (o : Owned s ws) (sh el : List ℕ) (ok : Proper sh e
     counted = rw place-is (omega (arith, second, ok .rank));
     shaped = rw place-is shape;
     filled = rw place-is elems;
-    seen = rw place-is (cell-array s2 x (omega (arith, spot)) ∙ rw (shape, elems));
+    seen = rw place-is (cell-array s2 x (omega (arith, fresh-place)) ∙ rw (shape, elems));
   }
 
 -- the theorem of placing
