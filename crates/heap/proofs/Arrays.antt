@@ -1,11 +1,12 @@
 -- The arrays among the blocks: where they stand, and that no two of them share a word.
-use Prim.Native.Nat.{ℕ, _+_, _<_, _≤_}
+use Prim.Native.Nat.{ℕ, _+_, _^_, _<_, _≤_}
 use mathlib.Core.Path.{_≡_, sym, ap}
 use mathlib.Core.Bool.{Bool, true, false}
 use mathlib.Core.List.{List, [], _∷_, _++_}
 use mathlib.Core.Logic.{_⊎_, inl, inr}
 use native.Mathlib.Omega.{arith}
-use Rattle.storage.specs.Heap.{Block, Walk, over, free, array}
+use Rattle.segment.specs.Blocks.{slopAt, sizeAt}
+use Rattle.storage.specs.Heap.{Block, ArrayBlock, Walk, over, free, array}
 use Rattle.storage.specs.Owned.{ArrayIn}
 use Rattle.heap.specs.Words.{Inner}
 use Rattle.heap.proofs.Walks.{over-le}
@@ -38,3 +39,8 @@ array-split a (free n ∷ bs) x z h =
 array-split a (array y k ∷ bs) x z (inl h) = ([], k, bs, rw (h .1), sym (h .0))
 array-split a (array y k ∷ bs) x z (inr h) =
     let r = array-split (a + (y + k)) bs x z h in (array y k ∷ r .0, r .1, r .2, ap (λ (l : List Block). array y k ∷ l) (r .3), r .4)
+
+-- SIZE and SLOP of an array
+pub array-fields : (s : List ℕ) (a : ℕ) (p : Bool) (z k : ℕ) → ArrayBlock s a p z k → z < 2 ^ 16 → (sizeAt s a ≡ z) × (slopAt s a ≡ k)
+array-fields s a true z k h l = omega (arith, h .first, h .small)
+array-fields s a false z k h l = omega (arith, h .first, h .small)

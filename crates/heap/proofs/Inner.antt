@@ -3,11 +3,11 @@ use Prim.Native.Nat.{ℕ, _+_, _-_, _<_, _≤_}
 use mathlib.Core.Path.{_≡_, _∙_}
 use mathlib.Core.Bool.{Bool, true, false}
 use mathlib.Core.List.{List, [], _∷_, _++_}
-use mathlib.Core.Logic.{_≢_, _⊎_, inl, inr, ⊎-elim}
+use mathlib.Core.Logic.{_↔_, _≢_, _⊎_, inl, inr, ⊎-elim}
 use native.Mathlib.Omega.{arith}
 use lib.ListN.{getD}
 use Rattle.storage.specs.Heap.{Block, Walk, over, frees, count, free, array}
-use Rattle.heap.specs.Words.{Inner}
+use Rattle.heap.specs.Words.{FreeWord, Inner}
 use Rattle.heap.proofs.Walks.{over-le, block-same, walk-same}
 use Rattle.heap.proofs.Counts.{hit-cases, frees-within}
 
@@ -81,3 +81,16 @@ walk-inner s s′ j e a p (array z m ∷ bs) h (inl k) =
     (record { least = h .0 .least; small = h .0 .small; first = e a (omega arith) ∙ h .0 .first }, walk-same s s′ (a + (z + m)) false bs (h .1) (λ i l u. e i (omega arith)))
 walk-inner s s′ j e a p (array z m ∷ bs) h (inr k) =
     (block-same s s′ a p (array z m) (h .0) (λ i l u. e i (omega (arith, inner-above (a + (z + m)) bs j k))), walk-inner s s′ j e (a + (z + m)) false bs (h .1) k)
+
+-- free words behind one more free block
+pub free-more : (a n : ℕ) (bs cs : List Block) (i : ℕ) (P : Type 0) → FreeWord (a + n) cs i ↔ (FreeWord (a + n) bs i ⊎ P)
+  → FreeWord a (free n ∷ cs) i ↔ (FreeWord a (free n ∷ bs) i ⊎ P)
+free-more a n bs cs i P r = (to, from)
+  where
+    to : FreeWord a (free n ∷ cs) i → FreeWord a (free n ∷ bs) i ⊎ P
+    to (inl h) = inl (inl h)
+    to (inr h) = ⊎-elim (λ u. inl (inr u)) (λ u. inr u) (r .0 h)
+    from : FreeWord a (free n ∷ bs) i ⊎ P → FreeWord a (free n ∷ cs) i
+    from (inl (inl h)) = inl h
+    from (inl (inr h)) = inr (r .1 (inl h))
+    from (inr h) = inr (r .1 (inr h))

@@ -1,16 +1,19 @@
--- The arrays after a block was placed.
-use Prim.Native.Nat.{ℕ, _+_, _-_, _≤_}
-use mathlib.Core.Path.{_≡_, refl}
+-- The arrays and the free words after a block was placed.
+use Prim.Native.Nat.{ℕ, _+_, _-_, _^_, _<_, _≤_}
+use mathlib.Core.Path.{_≡_, refl, _∙_, ap}
 use mathlib.Core.Bool.{Bool, true, false}
 use mathlib.Core.List.{List, [], _∷_, _++_}
-use mathlib.Core.Logic.{_⊎_, inl, inr, ⊎-elim}
+use mathlib.Core.Logic.{_↔_, _⊎_, inl, inr, ⊎-elim}
 use native.Mathlib.Omega.{arith}
+use Rattle.segment.specs.Blocks.{spanAt}
 use Rattle.storage.specs.Heap.{Block, span, Walk, over, free, array}
 use Rattle.storage.specs.Owned.{ArrayIn}
-use Rattle.heap.specs.Words.{HasRoom, Inner}
+use Rattle.heap.specs.Words.{HasRoom, FreeWord, Inner}
 use Rattle.heap.specs.Request.{Placed, highEnd, entire, further}
-use Rattle.heap.proofs.Inner.{inner-above}
-use Rattle.heap.proofs.Arrays.{array-within}
+use Rattle.heap.proofs.Walks.{over-le}
+use Rattle.heap.proofs.Counts.{order}
+use Rattle.heap.proofs.Inner.{inner-above, free-more}
+use Rattle.heap.proofs.Arrays.{array-within, array-fields}
 
 -- the arrays are those that were and the new one
 pub placed-old : (x z a : ℕ) (bs cs : List Block) → Placed x z a bs cs → (y v : ℕ) → ArrayIn a bs y v → ArrayIn a cs y v
@@ -66,3 +69,34 @@ placed-room x z a bs cs (highEnd h e) = inl (omega arith)
 placed-room x z a bs cs (entire h l e) = inl h
 placed-room x z a bs cs (further {b = free n} h) = inr (placed-room x z (a + n) _ _ h)
 placed-room x z a bs cs (further {b = array m j} h) = placed-room x z (a + (m + j)) _ _ h
+
+-- exactly the words of the new block are free no more
+pub placed-words : (s : List ℕ) (x z a : ℕ) (p : Bool) (bs cs : List Block) → Walk s a p cs → over a cs < 2 ^ 16 → Placed x z a bs cs → (i : ℕ)
+  → FreeWord a bs i ↔ (FreeWord a cs i ⊎ ((x ≤ i) × (i < x + spanAt s x)))
+placed-words s x z a p _ _ w l (highEnd {n = n} {blocks = bs} h e) i = (to, from)
+  where
+    q : a + (n - z) + (z + 0) ≡ a + n
+    q = omega arith
+    sp : spanAt s x ≡ z
+    sp = let f = array-fields s (a + (n - z)) true z 0 (w .1 .0) (omega (arith, over-le (a + (n - z) + (z + 0)) bs)) in ap (spanAt s) e ∙ omega (arith, f)
+    to : FreeWord a (free n ∷ bs) i → FreeWord a (free (n - z) ∷ array z 0 ∷ bs) i ⊎ ((x ≤ i) × (i < x + spanAt s x))
+    to (inl k) = ⊎-elim (λ u. inr (omega (arith, k, u, e, sp))) (λ u. inl (inl (omega (arith, k, u, e)))) (order x i)
+    to (inr k) = inl (inr (rw q k))
+    from : FreeWord a (free (n - z) ∷ array z 0 ∷ bs) i ⊎ ((x ≤ i) × (i < x + spanAt s x)) → FreeWord a (free n ∷ bs) i
+    from (inl (inl k)) = inl (omega (arith, k))
+    from (inl (inr k)) = inr (rw q at k)
+    from (inr k) = inl (omega (arith, k, e, sp))
+placed-words s x z a p _ _ w l (entire {n = n} {blocks = bs} h m e) i = (to, from)
+  where
+    q : a + (z + (n - z)) ≡ a + n
+    q = omega arith
+    sp : spanAt s x ≡ n
+    sp = let f = array-fields s a p z (n - z) (w .0) (omega (arith, over-le (a + (z + (n - z))) bs)) in ap (spanAt s) e ∙ omega (arith, f)
+    to : FreeWord a (free n ∷ bs) i → FreeWord a (array z (n - z) ∷ bs) i ⊎ ((x ≤ i) × (i < x + spanAt s x))
+    to (inl k) = inr (omega (arith, k, e, sp))
+    to (inr k) = inl (rw q k)
+    from : FreeWord a (array z (n - z) ∷ bs) i ⊎ ((x ≤ i) × (i < x + spanAt s x)) → FreeWord a (free n ∷ bs) i
+    from (inl k) = inr (rw q at k)
+    from (inr k) = inl (omega (arith, k, e, sp))
+placed-words s x z a p _ _ w l (further {b = array n j} h) i = placed-words s x z (a + (n + j)) false _ _ (w .1) l h i
+placed-words s x z a p _ _ w l (further {b = free n} {old = bs} {blocks = cs} h) i = let r = placed-words s x z (a + n) true bs cs (w .1) l h i in free-more a n cs bs i _ r

@@ -1,15 +1,16 @@
 -- What an array holds and what a cell is seen as, over words that are the same.
 use Prim.Native.Nat.{ℕ, zero, suc, _+_, _/_, _%_, _^_, _<_}
 use mathlib.Core.Path.{_≡_, refl}
-use mathlib.Core.Bool.{Bool, true, false}
+use mathlib.Core.Bool.{true, false}
 use mathlib.Core.List.{List}
-use mathlib.Core.Logic.{_⊎_, inl, inr, ⊎-elim}
+use mathlib.Core.Logic.{⊎-elim}
 use native.Mathlib.Omega.{arith}
 use lib.ListN.{getD}
 use borrow.Author.Tests.{eqb-true, eq-eqb}
 use Rattle.descriptor.specs.Fields.{isArray, address, arrayWord}
 use Rattle.segment.specs.Blocks.{rankAt, part, product, shapeAt, elementsAt}
 use Rattle.storage.specs.Owned.{cell, Inside, value}
+use Rattle.heap.proofs.Ways.{decide}
 use Rattle.heap.proofs.Walks.{Same}
 
 pub part-same : (s s′ : List ℕ) (a n : ℕ) → Same s s′ a (a + n) → part s′ a n ≡ part s a n
@@ -45,10 +46,6 @@ module _ (s s′ : List ℕ) (x z : ℕ) (h : Inside s x z) (r : getD s′ (x + 
   }
 
 -- what a word is seen as
-pub decide : (b : Bool) → (b ≡ true) ⊎ (b ≡ false)
-decide true = inl refl
-decide false = inr refl
-
 pub array-of : (w : ℕ) → isArray w ≡ true → w ≡ arrayWord (address w)
 array-of w e = omega (arith, eqb-true (w / 2 ^ 16) 0x200 e)
 

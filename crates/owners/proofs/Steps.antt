@@ -16,9 +16,10 @@ use Rattle.storage.specs.Release.{release}
 use Rattle.storage.specs.Arrays.{raise, lower, share, drop, drops}
 use Rattle.storage.specs.Heap.{count}
 use Rattle.storage.specs.Owned.{ArrayIn, Owned, Kept, Step}
+use Rattle.heap.proofs.Ways.{decide}
 use Rattle.heap.proofs.Walks.{Same, over-le}
 use Rattle.heap.proofs.Counts.{hit-cases, hit-same, count-append}
-use Rattle.owners.proofs.Cells.{decide, array-of}
+use Rattle.owners.proofs.Cells.{array-of}
 use Rattle.owners.proofs.Owners.{reown, recount}
 use Rattle.owners.proofs.Gone.{gone}
 

@@ -1,4 +1,5 @@
 -- The theorems of specs/Theorems.
+use native.Mathlib.Omega.{arith}
 use Rattle.storage.specs.Arrays.{place, share, drop, drops}
 use Rattle.owners.specs.Theorems.{OwnersTheorems}
 use Rattle.owners.proofs.Owners.{reown}
@@ -11,7 +12,7 @@ use Rattle.owners.proofs.Counts.{share-theorem, drop-theorem}
 pub owners-theorems : OwnersTheorems
 owners-theorems = record {
   place = λ s owners shape elements own ok. place-theorem shape elements own ok;
-  share = λ s owners w own few h. share-theorem w own few h;
+  share = λ s owners w own few h. share-theorem w own (omega (arith, few)) h;
   drop = λ s owners w own. drop-theorem w own;
   drops = λ s owners n a own h. drops-own n owners a own h;
   reorder = λ s owners others e own. reown others e own;
