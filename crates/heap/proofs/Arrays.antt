@@ -18,7 +18,8 @@ array-inner a (array y k ∷ bs) x z i (inl h) l u = inl (omega (arith, h, l, u)
 array-inner a (array y k ∷ bs) x z i (inr h) l u = inr (array-inner (a + (y + k)) bs x z i h l u)
 
 -- an array lies within the walk
-pub array-within : (s : List ℕ) (a : ℕ) (p : Bool) (bs : List Block) (x z : ℕ) → Walk s a p bs → ArrayIn a bs x z → (a ≤ x) × (x + z ≤ over a bs) × (3 ≤ z)
+pub array-within : (s : List ℕ) (a : ℕ) (p : Bool) (bs : List Block) (x z : ℕ) → Walk s a p bs → ArrayIn a bs x z
+    → (a ≤ x) × (x + z ≤ over a bs) × (3 ≤ z)
 array-within s a p (free n ∷ bs) x z w h = omega (arith, array-within s (a + n) true bs x z (w .1) h)
 array-within s a p (array y k ∷ bs) x z w (inl h) = omega (arith, h, w .0 .least, over-le (a + (y + k)) bs)
 array-within s a p (array y k ∷ bs) x z w (inr h) = omega (arith, array-within s (a + (y + k)) false bs x z (w .1) h)
@@ -33,7 +34,8 @@ array-apart s a p (array b m ∷ bs) x z y v w (inr h) (inl k) = inr (inr (omega
 array-apart s a p (array b m ∷ bs) x z y v w (inr h) (inr k) = array-apart s (a + (b + m)) false bs x z y v (w .1) h k
 
 -- an array by its place among the blocks
-pub array-split : (a : ℕ) (bs : List Block) (x z : ℕ) → ArrayIn a bs x z → (xs : List Block) × (k : ℕ) × (ys : List Block) × (bs ≡ xs ++ array z k ∷ ys) × (over a xs ≡ x)
+pub array-split : (a : ℕ) (bs : List Block) (x z : ℕ) → ArrayIn a bs x z
+    → (xs : List Block) × (k : ℕ) × (ys : List Block) × (bs ≡ xs ++ array z k ∷ ys) × (over a xs ≡ x)
 array-split a (free n ∷ bs) x z h =
     let r = array-split (a + n) bs x z h in (free n ∷ r .0, r .1, r .2, ap (λ (l : List Block). free n ∷ l) (r .3), r .4)
 array-split a (array y k ∷ bs) x z (inl h) = ([], k, bs, rw (h .1), sym (h .0))

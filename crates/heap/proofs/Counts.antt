@@ -66,7 +66,8 @@ over-append a [] ys = refl
 over-append a (b ∷ xs) ys = over-append (a + span b) xs ys
 
 -- a free block of a walk lies within it
-pub frees-within : (s : List ℕ) (a : ℕ) (p : Bool) (bs : List Block) (x : ℕ) → Walk s a p bs → 0 < count x (frees a bs) → (a ≤ x) × (x + 3 ≤ over a bs)
+pub frees-within : (s : List ℕ) (a : ℕ) (p : Bool) (bs : List Block) (x : ℕ) → Walk s a p bs → 0 < count x (frees a bs)
+    → (a ≤ x) × (x + 3 ≤ over a bs)
 frees-within s a p [] x h k = absurd (omega arith)
 frees-within s a p (free n ∷ bs) x h k =
     ⊎-elim (λ e. omega (arith, over-le (a + n) bs, h .0 .least))
@@ -90,7 +91,8 @@ pub frees-once : (s : List ℕ) (a : ℕ) (p : Bool) (bs : List Block) (x : ℕ)
 frees-once s a p [] x h = omega arith
 frees-once s a p (free n ∷ bs) x h =
     ⊎-elim
-    (λ e. ⊎-elim (λ l. omega (arith, e)) (λ l. absurd (omega (arith, e, h .0 .least, frees-within s (a + n) true bs x (h .1) l))) (order (count x (frees (a + n) bs)) 0))
+    (λ e. ⊎-elim (λ l. omega (arith, e)) (λ l. absurd (omega (arith, e, h .0 .least, frees-within s (a + n) true bs x (h .1) l)))
+    (order (count x (frees (a + n) bs)) 0))
     (λ e. omega (arith, e, frees-once s (a + n) true bs x (h .1)))
     (hit-cases x a)
 frees-once s a p (array z k ∷ bs) x h = frees-once s (a + (z + k)) false bs x (h .1)

@@ -38,7 +38,8 @@ freed-words x z k a _ _ (joinsBoth {m = m} {n = n} {blocks = bs} e) i = (to, fro
 
     to : FreeWord a (free (m + (z + k) + n) ∷ bs) i → FreeWord a (free m ∷ array z k ∷ free n ∷ bs) i ⊎ ((x ≤ i) × (i < x + (z + k)))
     to (inl h) =
-        ⊎-elim (λ u. inl (inl (omega (arith, u, h)))) (⊎-elim (λ u. inr (omega (arith, u, e))) (λ u. inl (inr (inl (omega (arith, u, h)))))) (zone i (a + m) (z + k))
+        ⊎-elim (λ u. inl (inl (omega (arith, u, h)))) (⊎-elim (λ u. inr (omega (arith, u, e))) (λ u. inl (inr (inl (omega (arith, u, h))))))
+        (zone i (a + m) (z + k))
     to (inr h) = inl (inr (inr (rw q h)))
 
     from : FreeWord a (free m ∷ array z k ∷ free n ∷ bs) i ⊎ ((x ≤ i) × (i < x + (z + k))) → FreeWord a (free (m + (z + k) + n) ∷ bs) i
@@ -53,7 +54,8 @@ freed-words x z k a _ _ (joinsBefore {m = m} {blocks = bs} e) i = (to, from)
 
     to : FreeWord a (free (m + (z + k)) ∷ bs) i → FreeWord a (free m ∷ array z k ∷ bs) i ⊎ ((x ≤ i) × (i < x + (z + k)))
     to (inl h) =
-        ⊎-elim (λ u. inl (inl (omega (arith, u, h)))) (⊎-elim (λ u. inr (omega (arith, u, e))) (λ u. absurd (omega (arith, u, h)))) (zone i (a + m) (z + k))
+        ⊎-elim (λ u. inl (inl (omega (arith, u, h)))) (⊎-elim (λ u. inr (omega (arith, u, e))) (λ u. absurd (omega (arith, u, h))))
+        (zone i (a + m) (z + k))
     to (inr h) = inl (inr (rw q h))
 
     from : FreeWord a (free m ∷ array z k ∷ bs) i ⊎ ((x ≤ i) × (i < x + (z + k))) → FreeWord a (free (m + (z + k)) ∷ bs) i

@@ -51,8 +51,14 @@ module _ {s : List ℕ} {t : List ℕ} (xs : List Block) (z k : ℕ) (ys : List 
   at = walk-at s (blockptr s) false xs (array z k ∷ ys) (g .walk)
 
   place : (8 ≤ blockptr s) × (blockptr s ≤ a) × (3 ≤ z) × (a + (z + k) ≤ end) × (end + 3 ≤ length s) × (length s ≤ 16384)
-  place =
-      (g .low, over-le (blockptr s) xs, at .1 .0 .least, omega (arith, over-append (blockptr s) xs (array z k ∷ ys), over-le (a + (z + k)) ys), omega (arith, g .top, g .room), g .short)
+  place = (
+    g .low,
+    over-le (blockptr s) xs,
+    at .1 .0 .least,
+    omega (arith, over-append (blockptr s) xs (array z k ∷ ys), over-le (a + (z + k)) ys),
+    omega (arith, g .top, g .room),
+    g .short,
+  )
 
   -- a member of the ring stands clear of the released block
   far : (x : ℕ) → 0 < count x ring
@@ -78,7 +84,9 @@ module _ {s : List ℕ} {t : List ℕ} (xs : List Block) (z k : ℕ) (ys : List 
       (omega (arith, place)) (omega (arith, place)) refl (omega (arith, place)) (omega (arith, place))
 
   walk1 : Walk s1 (blockptr s) false old
-  walk1 = hook-walk s a _ end next (blockptr s) false old (g .walk) (inner-here (blockptr s) xs z k ys (a + 1) (omega arith) (omega (arith, place))) (omega (arith, hit-same end)) next-in
+  walk1 =
+      hook-walk s a _ end next (blockptr s) false old (g .walk) (inner-here (blockptr s) xs z k ys (a + 1) (omega arith) (omega (arith, place)))
+      (omega (arith, hit-same end)) next-in
 
   s1-length : length s1 ≡ length s
   s1-length = hook-length s a _ end next
@@ -123,7 +131,8 @@ module _ {s : List ℕ} {t : List ℕ} (xs : List Block) (z k : ℕ) (ys : List 
 
   member-same : (x : ℕ) → 0 < count x (end ∷ a ∷ turned .0) → getD after (x + 1) 0 ≡ getD s1 (x + 1) 0
   member-same x c =
-      ⊎-elim (λ e. after-other (x + 1) (omega (arith, place, e))) (λ e. after-other (x + 1) (omega (arith, place, far x (omega (arith, c, e, turned .2 x))))) (hit-cases x a)
+      ⊎-elim (λ e. after-other (x + 1) (omega (arith, place, e)))
+      (λ e. after-other (x + 1) (omega (arith, place, far x (omega (arith, c, e, turned .2 x))))) (hit-cases x a)
 
   above : (i : ℕ) → end + 2 ≤ i → getD after i 0 ≡ getD s i 0
   above i h = after-other i (omega (arith, place)) ∙ hook-other s a _ end next i (omega (arith, place, far next next-in))
@@ -131,7 +140,8 @@ module _ {s : List ℕ} {t : List ℕ} (xs : List Block) (z k : ℕ) (ys : List 
   made : (t′ : List ℕ) × Heap after new t′
   made =
       let ro : rover after ≡ rover s = ap (λ (w : ℕ). w % 2 ^ 16) (after-low 1 (omega arith)) in
-      heap-make g after new (setPrevFree-length _ _ ∙ markFree-length s1 _ _ ∙ s1-length) (after-low 0 (omega arith)) (after-low 4 (omega arith)) (above (sbase s - 1) (omega (arith, g .top))) after-walk
+      heap-make g after new (setPrevFree-length _ _ ∙ markFree-length s1 _ _ ∙ s1-length) (after-low 0 (omega arith)) (after-low 4 (omega arith))
+      (above (sbase s - 1) (omega (arith, g .top))) after-walk
       (over-append (blockptr s) xs (free (z + k) ∷ ys) ∙ sym (over-append (blockptr s) xs (array z k ∷ ys)))
       end (a ∷ turned .0)
       (links-same s1 after end (a ∷ turned .0) end ring1 member-same (member-same end (omega (arith, hit-same end))))
@@ -160,7 +170,12 @@ module _ {s : List ℕ} {t : List ℕ} (xs : List Block) (z k : ℕ) (ys : List 
       nexts = inner-apart s (blockptr s) false old next i (g .walk) (was i h) next-in
 
   left : Leaves s after new
-  left = record { long = setPrevFree-length _ _ ∙ markFree-length s1 _ _ ∙ s1-length; base = ap (λ (w : ℕ). w / 2 ^ 16) (after-low 1 (omega arith)); quiet = quiet-same }
+  left =
+      record {
+        long = setPrevFree-length _ _ ∙ markFree-length s1 _ _ ∙ s1-length;
+        base = ap (λ (w : ℕ). w / 2 ^ 16) (after-low 1 (omega arith));
+        quiet = quiet-same;
+      }
 
   pub none-leaves : Leaves s (joinNone s a (z + k) (a + (z + k))) new
   unfolding joinNone

@@ -13,18 +13,21 @@ use Rattle.storage.specs.Heap.{Heap, free}
 -- the words of M1's array storage, with the state words that say where it is
 abbrev m1 : List ℕ
 m1 =
-    set (set (set (set (set (set (set (set (replicate 64 0) 0 0x0024_0002) 1 0x0001_000C) 4 12) 12 0x8000_0015) 13 0x0021_0021) 32 21) 33 0x4000_0000) 34 0x000C_000C
+    set (set (set
+    (set (set (set
+    (set (set (replicate 64 0) 0 0x0024_0002) 1 0x0001_000C) 4 12) 12 0x8000_0015) 13 0x0021_0021) 32 21) 33 0x4000_0000) 34 0x000C_000C
 
 m1-heap : Heap m1 (free 21 ∷ []) (33 ∷ [])
 m1-heap = record {
-    low = omega arith;
-    walk = (record { alone = refl; least = omega arith; first = refl; end = refl }, refl);
-    top = refl;
-    dummyEnd = refl;
-    room = omega arith;
-    short = omega arith;
-    links = (record { next = refl; last = refl }, record { next = refl; last = refl });
-    once = λ x. omega arith }
+  low = omega arith;
+  walk = (record { alone = refl; least = omega arith; first = refl; end = refl }, refl);
+  top = refl;
+  dummyEnd = refl;
+  room = omega arith;
+  short = omega arith;
+  links = (record { next = refl; last = refl }, record { next = refl; last = refl });
+  once = λ x. omega arith;
+}
 
 m2 : (requestAt m1 8 ≡ 25) × (getD (request m1 8) 12 0 ≡ 0x8000_000D) × (getD (request m1 8) 25 0 ≡ 0x4000_0008) × (rover (request m1 8) ≡ 33)
 unfolding requestAt request find findFrom give given split setRover clearPrevFree

@@ -44,18 +44,22 @@ placed-above x z a bs cs (entire h l e) = omega (arith, e)
 placed-above x z a bs cs (further {b = b} {old = ys} {blocks = us} h) = omega (arith, placed-above x z (a + span b) ys us h)
 
 -- the place of the new block was no array's
-pub placed-fresh : (s : List ℕ) (x z a : ℕ) (p : Bool) (bs cs : List Block) → Walk s a p bs → 3 ≤ z → Placed x z a bs cs → (y v : ℕ) → ArrayIn a bs y v → (x + z ≤ y) ⊎ (y + v ≤ x)
+pub placed-fresh : (s : List ℕ) (x z a : ℕ) (p : Bool) (bs cs : List Block) → Walk s a p bs → 3 ≤ z → Placed x z a bs cs → (y v : ℕ)
+    → ArrayIn a bs y v → (x + z ≤ y) ⊎ (y + v ≤ x)
 placed-fresh s x z a p bs cs w l (highEnd {n = n} {blocks = ys} h e) y v k = inl (omega (arith, e, array-within s (a + n) true ys y v (w .1) k))
 placed-fresh s x z a p bs cs w l (entire {n = n} {blocks = ys} h m e) y v k = inl (omega (arith, e, array-within s (a + n) true ys y v (w .1) k))
 placed-fresh s x z a p bs cs w l (further {b = free n} h) y v k = placed-fresh s x z (a + n) true _ _ (w .1) l h y v k
-placed-fresh s x z a p bs cs w l (further {b = array m j} {old = ys} {blocks = us} h) y v (inl k) = inr (omega (arith, k, placed-above x z (a + (m + j)) ys us h))
+placed-fresh s x z a p bs cs w l (further {b = array m j} {old = ys} {blocks = us} h) y v (inl k) =
+    inr (omega (arith, k, placed-above x z (a + (m + j)) ys us h))
 placed-fresh s x z a p bs cs w l (further {b = array m j} h) y v (inr k) = placed-fresh s x z (a + (m + j)) false _ _ (w .1) l h y v k
 
-pub placed-inner : (s : List ℕ) (x z a : ℕ) (p : Bool) (bs cs : List Block) → Walk s a p bs → Placed x z a bs cs → (i : ℕ) → Inner a bs i → (i ≤ x) ⊎ (x + z ≤ i)
+pub placed-inner : (s : List ℕ) (x z a : ℕ) (p : Bool) (bs cs : List Block) → Walk s a p bs → Placed x z a bs cs → (i : ℕ) → Inner a bs i
+    → (i ≤ x) ⊎ (x + z ≤ i)
 placed-inner s x z a p bs cs w (highEnd {n = n} {blocks = ys} h e) i k = inr (omega (arith, e, inner-above (a + n) ys i k))
 placed-inner s x z a p bs cs w (entire {n = n} {blocks = ys} h m e) i k = inr (omega (arith, e, inner-above (a + n) ys i k))
 placed-inner s x z a p bs cs w (further {b = free n} h) i k = placed-inner s x z (a + n) true _ _ (w .1) h i k
-placed-inner s x z a p bs cs w (further {b = array m j} {old = ys} {blocks = us} h) i (inl k) = inl (omega (arith, k, placed-above x z (a + (m + j)) ys us h))
+placed-inner s x z a p bs cs w (further {b = array m j} {old = ys} {blocks = us} h) i (inl k) =
+    inl (omega (arith, k, placed-above x z (a + (m + j)) ys us h))
 placed-inner s x z a p bs cs w (further {b = array m j} h) i (inr k) = placed-inner s x z (a + (m + j)) false _ _ (w .1) h i k
 
 -- a block placed behind some others
@@ -72,16 +76,21 @@ placed-room x z a bs cs (further {b = array m j} h) = placed-room x z (a + (m + 
 
 -- exactly the words of the new block are free no more
 pub placed-words : (s : List ℕ) (x z a : ℕ) (p : Bool) (bs cs : List Block) → Walk s a p cs → over a cs < 2 ^ 16 → Placed x z a bs cs → (i : ℕ)
-  → FreeWord a bs i ↔ (FreeWord a cs i ⊎ ((x ≤ i) × (i < x + spanAt s x)))
+    → FreeWord a bs i ↔ (FreeWord a cs i ⊎ ((x ≤ i) × (i < x + spanAt s x)))
 placed-words s x z a p _ _ w l (highEnd {n = n} {blocks = bs} h e) i = (to, from)
   where
     q : a + (n - z) + (z + 0) ≡ a + n
     q = omega arith
+
     sp : spanAt s x ≡ z
-    sp = let f = array-fields s (a + (n - z)) true z 0 (w .1 .0) (omega (arith, over-le (a + (n - z) + (z + 0)) bs)) in ap (spanAt s) e ∙ omega (arith, f)
+    sp =
+        let f = array-fields s (a + (n - z)) true z 0 (w .1 .0) (omega (arith, over-le (a + (n - z) + (z + 0)) bs)) in
+        ap (spanAt s) e ∙ omega (arith, f)
+
     to : FreeWord a (free n ∷ bs) i → FreeWord a (free (n - z) ∷ array z 0 ∷ bs) i ⊎ ((x ≤ i) × (i < x + spanAt s x))
     to (inl k) = ⊎-elim (λ u. inr (omega (arith, k, u, e, sp))) (λ u. inl (inl (omega (arith, k, u, e)))) (order x i)
     to (inr k) = inl (inr (rw q k))
+
     from : FreeWord a (free (n - z) ∷ array z 0 ∷ bs) i ⊎ ((x ≤ i) × (i < x + spanAt s x)) → FreeWord a (free n ∷ bs) i
     from (inl (inl k)) = inl (omega (arith, k))
     from (inl (inr k)) = inr (rw q at k)
@@ -90,13 +99,17 @@ placed-words s x z a p _ _ w l (entire {n = n} {blocks = bs} h m e) i = (to, fro
   where
     q : a + (z + (n - z)) ≡ a + n
     q = omega arith
+
     sp : spanAt s x ≡ n
     sp = let f = array-fields s a p z (n - z) (w .0) (omega (arith, over-le (a + (z + (n - z))) bs)) in ap (spanAt s) e ∙ omega (arith, f)
+
     to : FreeWord a (free n ∷ bs) i → FreeWord a (array z (n - z) ∷ bs) i ⊎ ((x ≤ i) × (i < x + spanAt s x))
     to (inl k) = inr (omega (arith, k, e, sp))
     to (inr k) = inl (rw q k)
+
     from : FreeWord a (array z (n - z) ∷ bs) i ⊎ ((x ≤ i) × (i < x + spanAt s x)) → FreeWord a (free n ∷ bs) i
     from (inl k) = inr (rw q at k)
     from (inr k) = inl (omega (arith, k, e, sp))
 placed-words s x z a p _ _ w l (further {b = array n j} h) i = placed-words s x z (a + (n + j)) false _ _ (w .1) l h i
-placed-words s x z a p _ _ w l (further {b = free n} {old = bs} {blocks = cs} h) i = let r = placed-words s x z (a + n) true bs cs (w .1) l h i in free-more a n cs bs i _ r
+placed-words s x z a p _ _ w l (further {b = free n} {old = bs} {blocks = cs} h) i =
+    let r = placed-words s x z (a + n) true bs cs (w .1) l h i in free-more a n cs bs i _ r

@@ -32,27 +32,33 @@ last-block s a p (array z k) [] ys h = inr (h .1)
 last-block s a p b (c ∷ xs) ys h =
     ⊎-elim (λ r. inl (b ∷ r .0, r .1, ap (λ (l : List Block). b ∷ l) (r .2))) (λ r. inr r) (last-block s (a + span b) (isFree b) c xs ys (h .1))
 
-walk-last : (s : List ℕ) (a : ℕ) (xs ys : List Block) → Walk s a false (xs ++ ys) → ((vs : List Block) × (m : ℕ) × (xs ≡ vs ++ free m ∷ [])) ⊎ Walk s (over a xs) false ys
+walk-last : (s : List ℕ) (a : ℕ) (xs ys : List Block) → Walk s a false (xs ++ ys)
+    → ((vs : List Block) × (m : ℕ) × (xs ≡ vs ++ free m ∷ [])) ⊎ Walk s (over a xs) false ys
 walk-last s a [] ys h = inr h
 walk-last s a (b ∷ xs) ys h = last-block s a false b xs ys h
 
 -- a free block behind a place of the walk
-next-free : (s : List ℕ) (e : ℕ) (p : Bool) (ys : List Block) → Walk s e p ys → over e ys < 2 ^ 16 → freeAt s e ≡ true → (m : ℕ) × (vs : List Block) × (ys ≡ free m ∷ vs)
+next-free : (s : List ℕ) (e : ℕ) (p : Bool) (ys : List Block) → Walk s e p ys → over e ys < 2 ^ 16 → freeAt s e ≡ true
+    → (m : ℕ) × (vs : List Block) × (ys ≡ free m ∷ vs)
 next-free s e true [] h l f = absurd (omega (arith, h, leb-true (2 ^ 31) (getD s e 0) f))
 next-free s e false [] h l f = absurd (omega (arith, h, leb-true (2 ^ 31) (getD s e 0) f))
 next-free s e p (free m ∷ vs) h l f = (m, vs, refl)
-next-free s e true (array z k ∷ vs) h l f = absurd (omega (arith, h .0 .first, h .0 .small, over-le (e + (z + k)) vs, leb-true (2 ^ 31) (getD s e 0) f))
-next-free s e false (array z k ∷ vs) h l f = absurd (omega (arith, h .0 .first, h .0 .small, over-le (e + (z + k)) vs, leb-true (2 ^ 31) (getD s e 0) f))
+next-free s e true (array z k ∷ vs) h l f =
+    absurd (omega (arith, h .0 .first, h .0 .small, over-le (e + (z + k)) vs, leb-true (2 ^ 31) (getD s e 0) f))
+next-free s e false (array z k ∷ vs) h l f =
+    absurd (omega (arith, h .0 .first, h .0 .small, over-le (e + (z + k)) vs, leb-true (2 ^ 31) (getD s e 0) f))
 
 array-before : (s : List ℕ) (a z k : ℕ) → ArrayBlock s a false z k → z < 2 ^ 16 → prevFreeAt s a ≡ true → ⊥
 array-before s a z k h l f = omega (arith, h .first, h .small, leb-true (2 ^ 30) (getD s a 0 % 2 ^ 31) f)
 
 -- a release, by what the walk tells of the block
 module _ (s : List ℕ) (a n : ℕ) (sp : spanAt s a ≡ n) where
-  is-both : (m p : ℕ) → sizeAt s (a - 1) ≡ m → a - m ≡ p → prevFreeAt s a ≡ true → freeAt s (a + n) ≡ true → release s a ≡ joinBoth s p (m + n) (a + n)
+  is-both : (m p : ℕ) → sizeAt s (a - 1) ≡ m → a - m ≡ p → prevFreeAt s a ≡ true → freeAt s (a + n) ≡ true
+      → release s a ≡ joinBoth s p (m + n) (a + n)
   is-both m p pz pa f h = release-both s a f (rw sp h) ∙ rw (sp, pz, pa)
 
-  is-before : (m p : ℕ) → sizeAt s (a - 1) ≡ m → a - m ≡ p → prevFreeAt s a ≡ true → freeAt s (a + n) ≡ false → release s a ≡ joinBefore s p (m + n) (a + n)
+  is-before : (m p : ℕ) → sizeAt s (a - 1) ≡ m → a - m ≡ p → prevFreeAt s a ≡ true → freeAt s (a + n) ≡ false
+      → release s a ≡ joinBefore s p (m + n) (a + n)
   is-before m p pz pa f h = release-before s a f (rw sp h) ∙ rw (sp, pz, pa)
 
   is-after : prevFreeAt s a ≡ false → freeAt s (a + n) ≡ true → release s a ≡ joinAfter s a n (a + n)
@@ -62,7 +68,8 @@ module _ (s : List ℕ) (a n : ℕ) (sp : spanAt s a ≡ n) where
   is-none f h = release-none s a f (rw sp h) ∙ rw sp
 
 -- the theorem from its parts
-released : {s : List ℕ} {bs : List Block} {t : List ℕ} → Heap s bs t → (a z k : ℕ) (s′ : List ℕ) (cs : List Block) → (sizeAt s a ≡ z) × (slopAt s a ≡ k) → release s a ≡ s′
+released : {s : List ℕ} {bs : List Block} {t : List ℕ} → Heap s bs t → (a z k : ℕ) (s′ : List ℕ) (cs : List Block)
+    → (sizeAt s a ≡ z) × (slopAt s a ≡ k) → release s a ≡ s′
     → (t′ : List ℕ) × Heap s′ cs t′ → Leaves s s′ cs → Freed a z k (blockptr s) bs cs → Release s bs a
 released {s} {bs} g a z k s′ cs n e r l f = record {
   blocks = cs;
@@ -106,7 +113,8 @@ module _ {s : List ℕ} {t : List ℕ} (xs : List Block) (m z k : ℕ) (ys : Lis
 
     release-front : Release s (xs ++ free m ∷ array z k ∷ ys) (p + m)
     release-front =
-        ⊎-elim (λ h. let r = next-free s (p + m + (z + k)) false ys (at .1 .1 .1) (place .1) h in both (r .0) (r .1) (r .2) h) before (decide (freeAt s (p + m + (z + k))))
+        ⊎-elim (λ h. let r = next-free s (p + m + (z + k)) false ys (at .1 .1 .1) (place .1) h in both (r .0) (r .1) (r .2) h) before
+        (decide (freeAt s (p + m + (z + k))))
 
 -- it is not
 module _ {s : List ℕ} {t : List ℕ} (xs : List Block) (z k : ℕ) (ys : List Block) (g : Heap s (xs ++ array z k ∷ ys) t) where
@@ -132,23 +140,27 @@ module _ {s : List ℕ} {t : List ℕ} (xs : List Block) (z k : ℕ) (ys : List 
     after n vs q h =
         let g′ : Heap s (xs ++ array z k ∷ free n ∷ vs) t = rw q at g in
         rw q
-        (released g′ a z k _ _ fields′ (is-after s a (z + k) (omega (arith, fields′)) f h) (after-heap xs z k n vs g′ f) (after-leaves xs z k n vs g′ f)
+        (released g′ a z k _ _ fields′ (is-after s a (z + k) (omega (arith, fields′)) f h) (after-heap xs z k n vs g′ f)
+        (after-leaves xs z k n vs g′ f)
         (freed-further _ _ _ _ xs _ _ (joinsAfter refl)))
 
     release-alone : Release s (xs ++ array z k ∷ ys) a
     release-alone =
-        ⊎-elim (λ h. let r = next-free s (a + (z + k)) false ys (at′ .1 .1) (place′ .1) h in after (r .0) (r .1) (r .2) h) none (decide (freeAt s (a + (z + k))))
+        ⊎-elim (λ h. let r = next-free s (a + (z + k)) false ys (at′ .1 .1) (place′ .1) h in after (r .0) (r .1) (r .2) h) none
+        (decide (freeAt s (a + (z + k))))
 
   front : (vs : List Block) (m : ℕ) → xs ≡ vs ++ free m ∷ [] → prevFreeAt s a ≡ true → Release s (xs ++ array z k ∷ ys) a
   front vs m e f =
       let o : over (blockptr s) xs ≡ over (blockptr s) vs + m = ap (over (blockptr s)) e ∙ over-append (blockptr s) vs (free m ∷ []) in
-      let l : xs ++ array z k ∷ ys ≡ vs ++ free m ∷ array z k ∷ ys = ap (λ (v : List Block). v ++ array z k ∷ ys) e ∙ append-assoc vs (free m ∷ []) (array z k ∷ ys) in
+      let l : xs ++ array z k ∷ ys ≡ vs ++ free m ∷ array z k ∷ ys = ap (λ (v : List Block). v ++ array z k ∷ ys) e ∙ append-assoc vs (free m ∷ [])
+      (array z k ∷ ys) in
       rw (l, o) (release-front vs m z k ys (rw l at g) (rw o at f))
 
   release-place : Release s (xs ++ array z k ∷ ys) a
   release-place =
       ⊎-elim
-      (λ f. ⊎-elim (λ r. front (r .0) (r .1) (r .2) f) (λ w. absurd (array-before s a z k (w .0) (omega (arith, place′)) f)) (walk-last s (blockptr s) xs (array z k ∷ ys) (g .walk)))
+      (λ f. ⊎-elim (λ r. front (r .0) (r .1) (r .2) f) (λ w. absurd (array-before s a z k (w .0) (omega (arith, place′)) f))
+      (walk-last s (blockptr s) xs (array z k ∷ ys) (g .walk)))
       release-alone (decide (prevFreeAt s a))
 
 -- the theorem of a release

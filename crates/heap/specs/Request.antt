@@ -30,7 +30,7 @@ pub record Served (s : List ℕ) (old : List Block) (size : ℕ) : Type 0 where
   pub heap : Heap (request s size) blocks ring
   pub placed : Placed (requestAt s size) size (blockptr s) old blocks
   pub words : (i : ℕ) → FreeWord (blockptr s) old i
-    ↔ (FreeWord (blockptr s) blocks i ⊎ ((requestAt s size ≤ i) × (i < requestAt s size + spanAt (request s size) (requestAt s size))))
+      ↔ (FreeWord (blockptr s) blocks i ⊎ ((requestAt s size ≤ i) × (i < requestAt s size + spanAt (request s size) (requestAt s size))))
   pub arrays : (y other : ℕ) → ArrayIn (blockptr s) blocks y other ↔ (((y ≡ requestAt s size) × (other ≡ size)) ⊎ ArrayIn (blockptr s) old y other)
   pub apart : (y other : ℕ) → ArrayIn (blockptr s) old y other → (requestAt s size + size ≤ y) ⊎ (y + other ≤ requestAt s size)
   pub leaves : Leaves s (request s size) old

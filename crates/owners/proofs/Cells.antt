@@ -21,7 +21,8 @@ part-same s s′ a (suc n) e =
     cc
 
 -- an array keeps its inside with its rank and the words behind
-module _ (s s′ : List ℕ) (x z : ℕ) (h : Inside s x z) (r : getD s′ (x + 1) 0 % 2 ^ 16 ≡ getD s (x + 1) 0 % 2 ^ 16) (e : Same s s′ (x + 2) (x + z)) where
+module _ (s s′ : List ℕ) (x z : ℕ) (h : Inside s x z) (r : getD s′ (x + 1) 0 % 2 ^ 16 ≡ getD s (x + 1) 0 % 2 ^ 16)
+    (e : Same s s′ (x + 2) (x + z)) where
   rank-same : rankAt s′ x ≡ rankAt s x
   rank-same = omega arith
 
@@ -31,7 +32,8 @@ module _ (s s′ : List ℕ) (x z : ℕ) (h : Inside s x z) (r : getD s′ (x + 
 
   elements-same : elementsAt s′ x ≡ elementsAt s x
   unfolding elementsAt
-  elements-same = rw (rank-same, shape-same) (part-same s s′ (x + 2 + rankAt s x) (product (shapeAt s x)) (λ i l u. e i (omega arith) (omega (arith, h .sized))))
+  elements-same =
+      rw (rank-same, shape-same) (part-same s s′ (x + 2 + rankAt s x) (product (shapeAt s x)) (λ i l u. e i (omega arith) (omega (arith, h .sized))))
 
   pub value-same : (shapeAt s′ x ≡ shapeAt s x) × (elementsAt s′ x ≡ elementsAt s x)
   value-same = (shape-same, elements-same)
@@ -60,10 +62,12 @@ pub cell-other : (s s′ : List ℕ) (w : ℕ) → isArray w ≡ false → cell 
 unfolding cell
 cell-other s s′ w e = rw e
 
-pub cell-same : (s s′ : List ℕ) (w : ℕ) → ((x : ℕ) → x < 2 ^ 16 → w ≡ arrayWord x → (shapeAt s′ x ≡ shapeAt s x) × (elementsAt s′ x ≡ elementsAt s x)) → cell s′ w ≡ cell s w
+pub cell-same : (s s′ : List ℕ) (w : ℕ)
+    → ((x : ℕ) → x < 2 ^ 16 → w ≡ arrayWord x → (shapeAt s′ x ≡ shapeAt s x) × (elementsAt s′ x ≡ elementsAt s x)) → cell s′ w ≡ cell s w
 unfolding cell
 cell-same s s′ w h =
-    ⊎-elim (λ e. let r = h (address w) (omega (arith, eqb-true (w / 2 ^ 16) 0x200 e)) (array-of w e) in rw (e, r .0, r .1)) (λ e. rw e) (decide (isArray w))
+    ⊎-elim (λ e. let r = h (address w) (omega (arith, eqb-true (w / 2 ^ 16) 0x200 e)) (array-of w e) in rw (e, r .0, r .1)) (λ e. rw e)
+    (decide (isArray w))
 
 pub arrayWord-same : (x y : ℕ) → arrayWord x ≡ arrayWord y → x ≡ y
 arrayWord-same x y e = omega arith

@@ -35,7 +35,8 @@ module _ {s ws : List ℕ} (w : ℕ) where
       raised : isArray w ≡ true → (0 < count w ws) ⊎ (isArray w ≡ false)
           → set s (address w + 1) ((getD s (address w + 1) 0 + 2 ^ 16) % 2 ^ 32) ≡ set s (address w + 1) (getD s (address w + 1) 0 + 2 ^ 16)
       raised e (inl k) =
-          let q : (getD s (address w + 1) 0 + 2 ^ 16) % 2 ^ 32 ≡ getD s (address w + 1) 0 + 2 ^ 16 = omega (arith, owner o w e k .2, few, count-le w ws) in
+          let q : (getD s (address w + 1) 0 + 2 ^ 16) % 2 ^ 32 ≡ getD s (address w + 1) 0 + 2 ^ 16 = omega
+          (arith, owner o w e k .2, few, count-le w ws) in
           rw q
       raised e (inr k) = let z : _≡_ {A = ℕ} 0 1 = ap (λ (b : Bool). cond {A = ℕ} b 0 1) (sym e ∙ k) in absurd (omega arith)
 

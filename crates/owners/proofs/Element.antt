@@ -39,10 +39,12 @@ count-in-set w [] zero v h = absurd (omega arith)
 count-in-set w [] (suc k) v h = absurd (omega arith)
 count-in-set w (y ∷ l) zero v h = ⊎-elim (λ e. inl (e .0)) (λ e. inr (omega (arith, e, h))) (hit-cases w v)
 count-in-set w (y ∷ l) (suc k) v h =
-    ⊎-elim (λ e. inr (omega (arith, e))) (λ e. ⊎-elim (λ q. inl q) (λ q. inr (omega (arith, q))) (count-in-set w l k v (omega (arith, e, h)))) (hit-cases w y)
+    ⊎-elim (λ e. inr (omega (arith, e))) (λ e. ⊎-elim (λ q. inl q) (λ q. inr (omega (arith, q))) (count-in-set w l k v (omega (arith, e, h))))
+    (hit-cases w y)
 
 -- array storage after a store to the `k`-th element of the array at `x`
-module _ {s ws : List ℕ} (o : Owned s ws) (x z : ℕ) (u : ArrayIn (blockptr s) (o .blocks) x z) (k v : ℕ) (in-range : k < product (shapeAt s x)) (ok : isScalar v ≡ true) where
+module _ {s ws : List ℕ} (o : Owned s ws) (x z : ℕ) (u : ArrayIn (blockptr s) (o .blocks) x z) (k v : ℕ) (in-range : k < product (shapeAt s x))
+    (ok : isScalar v ≡ true) where
   abbrev i : ℕ
   i = x + 2 + rankAt s x + k
 
@@ -63,12 +65,14 @@ module _ {s ws : List ℕ} (o : Owned s ws) (x z : ℕ) (u : ArrayIn (blockptr s
 
   apart : (y n : ℕ) → ArrayIn (blockptr s) (o .blocks) y n → y ≢ x → (j : ℕ) → y < j → j < y + n → getD s′ j 0 ≡ getD s j 0
   apart y n h d j l m =
-      ⊎-elim (λ e. absurd (d (omega (arith, e)))) (⊎-elim (λ e. other j (omega (arith, e, sized, in-range))) (λ e. other j (omega (arith, e, sized, in-range))))
+      ⊎-elim (λ e. absurd (d (omega (arith, e)))) (⊎-elim (λ e. other j (omega (arith, e, sized, in-range)))
+      (λ e. other j (omega (arith, e, sized, in-range))))
       (array-apart s (blockptr s) false (o .blocks) x z y n (o .heap .walk) u h)
 
   second : (y n : ℕ) → ArrayIn (blockptr s) (o .blocks) y n → getD s′ (y + 1) 0 ≡ getD s (y + 1) 0
   second y n h =
-      ⊎-elim (λ e. other (y + 1) (omega (arith, e))) (λ e. apart y n h (e .0) (y + 1) (omega arith) (omega (arith, array-place o y n h))) (hit-cases y x)
+      ⊎-elim (λ e. other (y + 1) (omega (arith, e))) (λ e. apart y n h (e .0) (y + 1) (omega arith) (omega (arith, array-place o y n h)))
+      (hit-cases y x)
 
   rank-x : rankAt s′ x ≡ rankAt s x
   rank-x = ap (λ (m : ℕ). m % 2 ^ 4) (second x z u)
@@ -110,8 +114,11 @@ module _ {s ws : List ℕ} (o : Owned s ws) (x z : ℕ) (u : ArrayIn (blockptr s
 
       now-inside : (y n : ℕ) → ArrayIn (blockptr s) (o .blocks) y n → Inside s′ y n
       now-inside y n h =
-          ⊎-elim (λ e. ⊎-elim (λ q. rw (e .0, ← q .1) inside-x) (⊎-elim (λ q. absurd (omega (arith, q, e, room))) (λ q. absurd (omega (arith, q, e, array-place o y n h)))) (array-apart s (blockptr s) false (o .blocks) x z y n (o .heap .walk) u h))
-          (λ e. inside-same s s′ y n (o .inside y n h) (ap (λ (m : ℕ). m % 2 ^ 16) (second y n h)) (λ j l m. apart y n h (e .0) j (omega arith) m)) (hit-cases y x)
+          ⊎-elim (λ e. ⊎-elim (λ q. rw (e .0, ← q .1) inside-x)
+          (⊎-elim (λ q. absurd (omega (arith, q, e, room))) (λ q. absurd (omega (arith, q, e, array-place o y n h))))
+          (array-apart s (blockptr s) false (o .blocks) x z y n (o .heap .walk) u h))
+          (λ e. inside-same s s′ y n (o .inside y n h) (ap (λ (m : ℕ). m % 2 ^ 16) (second y n h)) (λ j l m. apart y n h (e .0) j (omega arith) m))
+          (hit-cases y x)
 
   kept-x : Kept s s′
   kept-x = record {
@@ -125,7 +132,8 @@ module _ {s ws : List ℕ} (o : Owned s ws) (x z : ℕ) (u : ArrayIn (blockptr s
   others-x w n h =
       cell-same s s′ w (λ y l e. let r = o .named y l (rw e at h) in
       let d : y ≢ x = λ q. n (e ∙ ap arrayWord q) in
-      value-same s s′ y (r .0) (o .inside y (r .0) (r .1)) (ap (λ (m : ℕ). m % 2 ^ 16) (second y (r .0) (r .1))) (λ j a b. apart y (r .0) (r .1) d j (omega arith) b))
+      value-same s s′ y (r .0) (o .inside y (r .0) (r .1)) (ap (λ (m : ℕ). m % 2 ^ 16) (second y (r .0) (r .1)))
+      (λ j a b. apart y (r .0) (r .1) d j (omega arith) b))
 
   this-x : cell s′ (arrayWord x) ≡ value (shapeAt s x) (set (elementsAt s x) k v)
   this-x = cell-array s′ x (omega (arith, room)) ∙ rw (shape-x, elements-x)

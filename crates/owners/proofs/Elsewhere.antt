@@ -56,9 +56,11 @@ module _ {s s′ : List ℕ} (h : Elsewhere s s′) where
         now-counts x z u = rw (second-same x z u) (o .counts x z u)
 
         now-inside : (x z : ℕ) → ArrayIn (blockptr s) (o .blocks) x z → Inside s′ x z
-        now-inside x z u = inside-same s s′ x z (o .inside x z u) (ap (λ (m : ℕ). m % 2 ^ 16) (second-same x z u)) (λ i l m. word-same x z u i (omega arith) m)
+        now-inside x z u =
+            inside-same s s′ x z (o .inside x z u) (ap (λ (m : ℕ). m % 2 ^ 16) (second-same x z u)) (λ i l m. word-same x z u i (omega arith) m)
 
     pub cell-elsewhere : (w : ℕ) → 0 < count w ws → cell s′ w ≡ cell s w
     cell-elsewhere w c =
         cell-same s s′ w (λ x l e. let n = o .named x l (rw e at c) in
-        value-same s s′ x (n .0) (o .inside x (n .0) (n .1)) (ap (λ (m : ℕ). m % 2 ^ 16) (second-same x (n .0) (n .1))) (λ i k m. word-same x (n .0) (n .1) i (omega arith) m))
+        value-same s s′ x (n .0) (o .inside x (n .0) (n .1)) (ap (λ (m : ℕ). m % 2 ^ 16) (second-same x (n .0) (n .1)))
+        (λ i k m. word-same x (n .0) (n .1) i (omega arith) m))

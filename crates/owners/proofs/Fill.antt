@@ -31,7 +31,8 @@ sets-part (v ∷ vs) s i h =
     rw (e, f, r)
 
 -- stores to words of arrays but their first keep the heap
-pub sets-heap : (vs : List ℕ) {s : List ℕ} {bs : List Block} {t : List ℕ} (i : ℕ) → Heap s bs t → 8 ≤ i → ((j : ℕ) → i ≤ j → j < i + length vs → Inner (blockptr s) bs j) → (t′ : List ℕ) × Heap (sets s i vs) bs t′
+pub sets-heap : (vs : List ℕ) {s : List ℕ} {bs : List Block} {t : List ℕ} (i : ℕ) → Heap s bs t → 8 ≤ i
+    → ((j : ℕ) → i ≤ j → j < i + length vs → Inner (blockptr s) bs j) → (t′ : List ℕ) × Heap (sets s i vs) bs t′
 sets-heap [] {t = t} i g l h = (t, g)
 sets-heap (v ∷ vs) {s} {bs} i g l h =
     let r = store-heap g i v (h i (omega arith) (omega arith)) in
@@ -67,7 +68,8 @@ module _ (s : List ℕ) (x : ℕ) (sh el : List ℕ) where
       where
         go : part (fill s x sh el) (x + 2) (length sh) ≡ sh
         go =
-            part-same (sets (set s (x + 1) (1 * 2 ^ 16 + length sh)) (x + 2) sh) _ (x + 2) (length sh) (λ i p q. sets-other el _ (x + 2 + length sh) i (inl q))
+            part-same (sets (set s (x + 1) (1 * 2 ^ 16 + length sh)) (x + 2) sh) _ (x + 2) (length sh)
+            (λ i p q. sets-other el _ (x + 2 + length sh) i (inl q))
             ∙ sets-part sh (set s (x + 1) (1 * 2 ^ 16 + length sh)) (x + 2) (omega (arith, length-set s (x + 1) (1 * 2 ^ 16 + length sh)))
 
     pub fill-elements : length sh ≤ 15 → product sh ≡ length el → elementsAt (fill s x sh el) x ≡ el
@@ -75,10 +77,12 @@ module _ (s : List ℕ) (x : ℕ) (sh el : List ℕ) where
     fill-elements l e =
         let r : rankAt (fill s x sh el) x ≡ length sh = omega (arith, fill-second) in
         rw (r, fill-shape l, e)
-        (sets-part el _ (x + 2 + length sh) (omega (arith, length-sets (set s (x + 1) (1 * 2 ^ 16 + length sh)) (x + 2) sh, length-set s (x + 1) (1 * 2 ^ 16 + length sh))))
+        (sets-part el _ (x + 2 + length sh) (omega
+        (arith, length-sets (set s (x + 1) (1 * 2 ^ 16 + length sh)) (x + 2) sh, length-set s (x + 1) (1 * 2 ^ 16 + length sh))))
 
 -- the words of a new array keep the heap
-pub fill-heap : {s : List ℕ} {bs : List Block} {t : List ℕ} (x : ℕ) (sh el : List ℕ) → Heap s bs t → 8 ≤ x → ((j : ℕ) → x < j → j < x + need sh el → Inner (blockptr s) bs j) → (t′ : List ℕ) × Heap (fill s x sh el) bs t′
+pub fill-heap : {s : List ℕ} {bs : List Block} {t : List ℕ} (x : ℕ) (sh el : List ℕ) → Heap s bs t → 8 ≤ x
+    → ((j : ℕ) → x < j → j < x + need sh el → Inner (blockptr s) bs j) → (t′ : List ℕ) × Heap (fill s x sh el) bs t′
 unfolding fill
 fill-heap {s} {bs} x sh el g l h =
     let r = store-heap g (x + 1) (1 * 2 ^ 16 + length sh) (h (x + 1) (omega arith) (omega arith)) in

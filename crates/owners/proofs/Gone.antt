@@ -20,7 +20,8 @@ use Rattle.owners.proofs.Cells.{value-same, inside-same, cell-same, arr
 use Rattle.owners.proofs.Owners.{array-place}
 
 -- what is kept of the arrays that stay
-module _ {s ws : List ℕ} (o : Owned s ws) (s′ : List ℕ) (bs : List Block) (k : Leaves s s′ bs) (x z : ℕ) (u : ArrayIn (blockptr s) (o .blocks) x z) (v : ArrayIn (blockptr s) bs x z) where
+module _ {s ws : List ℕ} (o : Owned s ws) (s′ : List ℕ) (bs : List Block) (k : Leaves s s′ bs) (x z : ℕ) (u : ArrayIn (blockptr s) (o .blocks) x z)
+    (v : ArrayIn (blockptr s) bs x z) where
   pub leaves-word : (i : ℕ) → x < i → i < x + z → getD s′ i 0 ≡ getD s i 0
   leaves-word i l m = k .quiet i (omega (arith, array-place o x z u)) (inr (inr (array-inner (blockptr s) bs x z i v l m)))
 
@@ -42,7 +43,8 @@ leaves-kept k l = record {
 }
 
 -- the last owner goes, and the block with it
-module _ {s ws : List ℕ} (x z : ℕ) (o : Owned s (arrayWord x ∷ ws)) (u : ArrayIn (blockptr s) (o .blocks) x z) (last : count (arrayWord x) ws ≡ 0) where
+module _ {s ws : List ℕ} (x z : ℕ) (o : Owned s (arrayWord x ∷ ws)) (u : ArrayIn (blockptr s) (o .blocks) x z)
+    (last : count (arrayWord x) ws ≡ 0) where
   out : Release s (o .blocks) x
   out = release-theorem (o .heap) x z u
 
@@ -68,7 +70,8 @@ module _ {s ws : List ℕ} (x z : ℕ) (o : Owned s (arrayWord x ∷ ws)) (u : A
     inside = λ y v k. now-inside y v (rw bp′ at k);
   }
     where
-      now-counts : (y v : ℕ) → ArrayIn (blockptr s) (out .blocks) y v → (countAt (release s x) y ≡ count (arrayWord y) ws) × (0 < count (arrayWord y) ws)
+      now-counts : (y v : ℕ) → ArrayIn (blockptr s) (out .blocks) y v
+          → (countAt (release s x) y ≡ count (arrayWord y) ws) × (0 < count (arrayWord y) ws)
       now-counts y v k =
           let b = out .others y v .0 k in
           rw (leaves-second o (release s x) (out .blocks) (out .leaves) y v (b .0) k, ← less y (b .1)) (o .counts y v (b .0))

@@ -22,7 +22,8 @@ use Rattle.owners.proofs.Cells.{value-same, inside-same, cell-same}
 -- an array's place in the segment
 pub array-place : {s ws : List ℕ} (o : Owned s ws) (x z : ℕ) → ArrayIn (blockptr s) (o .blocks) x z
     → (8 ≤ blockptr s) × (blockptr s ≤ x) × (3 ≤ z) × (x + z + 3 ≤ sbase s) × (sbase s ≤ length s) × (length s ≤ 16384)
-array-place {s} o x z u = omega (arith, o .heap .low, o .heap .top, o .heap .room, o .heap .short, array-within s (blockptr s) false (o .blocks) x z (o .heap .walk) u)
+array-place {s} o x z u =
+    omega (arith, o .heap .low, o .heap .top, o .heap .room, o .heap .short, array-within s (blockptr s) false (o .blocks) x z (o .heap .walk) u)
 
 -- other owners, as many of each array
 pub reown : {s ws : List ℕ} (vs : List ℕ) → ((x : ℕ) → x < 2 ^ 16 → count (arrayWord x) vs ≡ count (arrayWord x) ws) → Owned s ws → Owned s vs
@@ -99,5 +100,6 @@ module _ {s ws : List ℕ} (o : Owned s ws) (x z : ℕ) (u : ArrayIn (blockptr s
   recount = record {
     own = recount-own;
     kept = recount-kept;
-    same = λ w h k. cell-same s s′ w (λ y l e. let n = o .named y l (rw e at h) in value-same s s′ y (n .0) (o .inside y (n .0) (n .1)) (rank-kept y (n .0) (n .1)) (words-kept y (n .0) (n .1)));
+    same = λ w h k. cell-same s s′ w (λ y l e. let n = o .named y l (rw e at h) in value-same s s′ y (n .0) (o .inside y (n .0) (n .1))
+        (rank-kept y (n .0) (n .1)) (words-kept y (n .0) (n .1)));
   }

@@ -109,17 +109,19 @@ module _ {s ws : List ℕ} (o : Owned s ws) (sh el : List ℕ) (ok : Proper sh e
     blocks = d .blocks;
     ring = filled .0;
     heap = filled .1;
-    named = λ y l h. rw b2
-        (⊎-elim (λ e. let q : y ≡ x = omega (arith, e) in rw q (z, new)) (λ e. let n = o .named y l (omega (arith, e, h)) in (n .0, d .arrays y (n .0) .1 (inr (n .1)))) (hit-cases (arrayWord y) (arrayWord x)));
+    named = λ y l h. rw b2 (⊎-elim (λ e. let q : y ≡ x = omega (arith, e) in rw q (z, new))
+        (λ e. let n = o .named y l (omega (arith, e, h)) in (n .0, d .arrays y (n .0) .1 (inr (n .1)))) (hit-cases (arrayWord y) (arrayWord x)));
     counts = λ y v u. now-counts y v (d .arrays y v .0 (rw b2 at u));
     inside = λ y v u. now-inside y v (d .arrays y v .0 (rw b2 at u));
   }
     where
-      now-counts : (y v : ℕ) → ((y ≡ x) × (v ≡ z)) ⊎ ArrayIn (blockptr s) (o .blocks) y v → (countAt s2 y ≡ count (arrayWord y) (arrayWord x ∷ ws)) × (0 < count (arrayWord y) (arrayWord x ∷ ws))
+      now-counts : (y v : ℕ) → ((y ≡ x) × (v ≡ z)) ⊎ ArrayIn (blockptr s) (o .blocks) y v
+          → (countAt s2 y ≡ count (arrayWord y) (arrayWord x ∷ ws)) × (0 < count (arrayWord y) (arrayWord x ∷ ws))
       now-counts y v (inl e) = rw (e .0) (omega (arith, second, unowned, hit-same (arrayWord x), ok .rank))
       now-counts y v (inr u) =
           let c = o .counts y v u in
-          let q : hit (arrayWord y) (arrayWord x) ≡ 0 = ⊎-elim (λ e. absurd (omega (arith, unowned, c, ap (λ (m : ℕ). count m ws) (e .0)))) (λ e. e .1) (hit-cases (arrayWord y) (arrayWord x)) in
+          let q : hit (arrayWord y) (arrayWord x) ≡ 0 = ⊎-elim (λ e. absurd (omega (arith, unowned, c, ap (λ (m : ℕ). count m ws) (e .0))))
+          (λ e. e .1) (hit-cases (arrayWord y) (arrayWord x)) in
           rw (leaves-second o s2 (o .blocks) left y v u u) (omega (arith, c, q))
 
       now-inside : (y v : ℕ) → ((y ≡ x) × (v ≡ z)) ⊎ ArrayIn (blockptr s) (o .blocks) y v → Inside s2 y v

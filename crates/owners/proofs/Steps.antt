@@ -41,7 +41,8 @@ kept-on {s} {s′} l f g =
 pub step-none : {s ws : List ℕ} (vs : List ℕ) → ((x : ℕ) → x < 2 ^ 16 → count (arrayWord x) vs ≡ count (arrayWord x) ws) → Owned s ws → Step s ws s vs
 step-none {s} vs e o = record { own = reown vs e o; kept = kept-none s; same = λ w h k. refl }
 
-pub step-on : {s ws s′ vs s″ us : List ℕ} → 8 ≤ blockptr s → Step s ws s′ vs → Step s′ vs s″ us → ((w : ℕ) → 0 < count w ws → 0 < count w us → 0 < count w vs) → Step s ws s″ us
+pub step-on : {s ws s′ vs s″ us : List ℕ} → 8 ≤ blockptr s → Step s ws s′ vs → Step s′ vs s″ us
+    → ((w : ℕ) → 0 < count w ws → 0 < count w us → 0 < count w vs) → Step s ws s″ us
 step-on l f g m = record { own = g .own; kept = kept-on l (f .kept) (g .kept); same = λ w h k. g .same w (m w h k) k ∙ f .same w h (m w h k) }
 
 -- a word that is no array's descriptor counts for none
@@ -65,7 +66,8 @@ share-own {s} {ws} w o few h = ⊎-elim yes not (decide (isArray w))
     more x l e k =
         let n = o .named x l (rw e at k) in
         let c = o .counts x (n .0) (n .1) in
-        recount o x (n .0) (n .1) ((getD s (x + 1) 0 + 2 ^ 16) % 2 ^ 32) (arrayWord x ∷ ws) (omega (arith, c, few, count-le (arrayWord x) ws)) (omega (arith, c, few, count-le (arrayWord x) ws, hit-same (arrayWord x))) (omega (arith, hit-same (arrayWord x)))
+        recount o x (n .0) (n .1) ((getD s (x + 1) 0 + 2 ^ 16) % 2 ^ 32) (arrayWord x ∷ ws) (omega (arith, c, few, count-le (arrayWord x) ws))
+        (omega (arith, c, few, count-le (arrayWord x) ws, hit-same (arrayWord x))) (omega (arith, hit-same (arrayWord x)))
         (λ y q. ⊎-elim (λ d. absurd (q (omega (arith, d)))) (λ d. omega (arith, d)) (hit-cases (arrayWord y) (arrayWord x)))
 
     yes : isArray w ≡ true → Step s ws (cond (isArray w) (raise s (address w)) s) (w ∷ ws)
@@ -92,14 +94,17 @@ drop-own {s} {ws} w o = ⊎-elim yes not (decide (isArray w))
         c : (countAt s x ≡ count (arrayWord x) (arrayWord x ∷ ws)) × (0 < count (arrayWord x) (arrayWord x ∷ ws))
         c = p .counts x (n .0) (n .1)
 
-        last : eqb (countAt s x) 1 ≡ true → Step s (arrayWord x ∷ ws) (cond (eqb (countAt s x) 1) (release s x) (set s (x + 1) (getD s (x + 1) 0 - 2 ^ 16))) ws
+        last : eqb (countAt s x) 1 ≡ true
+            → Step s (arrayWord x ∷ ws) (cond (eqb (countAt s x) 1) (release s x) (set s (x + 1) (getD s (x + 1) 0 - 2 ^ 16))) ws
         last e = rw e (gone x (n .0) p (n .1) (omega (arith, c, hit-same (arrayWord x), eqb-true (countAt s x) 1 e)))
 
-        further : eqb (countAt s x) 1 ≡ false → Step s (arrayWord x ∷ ws) (cond (eqb (countAt s x) 1) (release s x) (set s (x + 1) (getD s (x + 1) 0 - 2 ^ 16))) ws
+        further : eqb (countAt s x) 1 ≡ false
+            → Step s (arrayWord x ∷ ws) (cond (eqb (countAt s x) 1) (release s x) (set s (x + 1) (getD s (x + 1) 0 - 2 ^ 16))) ws
         further e =
             let d : countAt s x ≢ 1 = eqb-false (countAt s x) 1 e in
             rw e
-            (recount p x (n .0) (n .1) (getD s (x + 1) 0 - 2 ^ 16) ws (omega (arith, c, d, hit-same (arrayWord x))) (omega (arith, c, d, hit-same (arrayWord x))) (omega (arith, c, d, hit-same (arrayWord x)))
+            (recount p x (n .0) (n .1) (getD s (x + 1) 0 - 2 ^ 16) ws (omega (arith, c, d, hit-same (arrayWord x)))
+            (omega (arith, c, d, hit-same (arrayWord x))) (omega (arith, c, d, hit-same (arrayWord x)))
             (λ y q. ⊎-elim (λ i. absurd (q (omega (arith, i)))) (λ i. omega (arith, i)) (hit-cases (arrayWord y) (arrayWord x))))
 
     yes : isArray w ≡ true → Step s (w ∷ ws) (cond (isArray w) (lower s (address w)) s) ws
@@ -125,12 +130,14 @@ downward-split s a m (suc k) =
     rw (e, q, downward-split s a m k)
 
 -- several cells of the stack are forgotten, the highest first
-pub drops-own : (k : ℕ) {s : List ℕ} (ws : List ℕ) (b : ℕ) → Owned s (downward s b k ++ ws) → sbase s ≤ b → Step s (downward s b k ++ ws) (drops k s b) ws
+pub drops-own : (k : ℕ) {s : List ℕ} (ws : List ℕ) (b : ℕ) → Owned s (downward s b k ++ ws) → sbase s ≤ b
+    → Step s (downward s b k ++ ws) (drops k s b) ws
 drops-own zero ws b o l = step-none ws (λ x h. refl) o
 drops-own (suc k) {s} ws b o l =
     let f = drop-own (getD s (b + k) 0) o in
     let st : sbase (drop s (getD s (b + k) 0)) ≡ sbase s = ap (λ (w : ℕ). w / 2 ^ 16) (f .kept .first) in
-    let e : downward (drop s (getD s (b + k) 0)) b k ≡ downward s b k = downward-same s _ b k (λ i h u. f .kept .rest i (omega (arith, o .heap .low, o .heap .top, over-le (blockptr s) (o .blocks))) (inr (omega arith))) in
+    let e : downward (drop s (getD s (b + k) 0)) b k ≡ downward s b k = downward-same s _ b k
+    (λ i h u. f .kept .rest i (omega (arith, o .heap .low, o .heap .top, over-le (blockptr s) (o .blocks))) (inr (omega arith))) in
     let f′ : Step s (downward s b (suc k) ++ ws) (drop s (getD s (b + k) 0)) (downward (drop s (getD s (b + k) 0)) b k ++ ws) = rw e f in
     let g = drops-own k ws b (f′ .own) (omega arith) in
     step-on (o .heap .low) f′ g (λ w h m. omega (arith, m, count-append w (downward (drop s (getD s (b + k) 0)) b k) ws))
