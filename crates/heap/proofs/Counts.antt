@@ -1,6 +1,6 @@
 -- How often a number stands in a list, and the addresses of the free blocks.
 use Prim.Native.Nat.{ℕ, _+_, _*_, _<_, _≤_}
-use mathlib.Core.Path.{_≡_, refl, sym, ap}
+use mathlib.Core.Path.{_≡_, refl, sym, _∙_, ap}
 use mathlib.Core.Bool.{Bool, true, false, cond}
 use mathlib.Core.List.{List, [], _∷_, _++_}
 use mathlib.Core.Logic.{_⊎_, inl, inr, ⊎-elim}
@@ -60,6 +60,9 @@ pub frees-append : (a : ℕ) (xs ys : List Block) → frees a (xs ++ ys) ≡ fre
 frees-append a [] ys = refl
 frees-append a (free n ∷ xs) ys = ap (λ (l : List ℕ). a ∷ l) (frees-append (a + n) xs ys)
 frees-append a (array z k ∷ xs) ys = frees-append (a + (z + k)) xs ys
+
+pub frees-count : (x a : ℕ) (xs ys : List Block) → count x (frees a (xs ++ ys)) ≡ count x (frees a xs) + count x (frees (over a xs) ys)
+frees-count x a xs ys = ap (count x) (frees-append a xs ys) ∙ count-append x (frees a xs) (frees (over a xs) ys)
 
 pub over-append : (a : ℕ) (xs ys : List Block) → over a (xs ++ ys) ≡ over (over a xs) ys
 over-append a [] ys = refl

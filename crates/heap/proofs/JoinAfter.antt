@@ -13,7 +13,7 @@ use Rattle.storage.specs.Release.{joinAfter}
 use Rattle.storage.specs.Heap.{Block, Walk, over, frees, hit, count, Links, Heap, free, array}
 use Rattle.heap.specs.Words.{Inner, Quiet, Leaves}
 use Rattle.heap.proofs.Walks.{over-le, walk-same, walk-replace, walk-at}
-use Rattle.heap.proofs.Counts.{hit-cases, hit-same, hit-eq, count-append, frees-append, over-append, frees-within, frees-either}
+use Rattle.heap.proofs.Counts.{hit-cases, hit-same, hit-eq, frees-count, over-append, frees-within, frees-either}
 use Rattle.heap.proofs.Ring.{links-same, links-last}
 use Rattle.heap.proofs.Search.{members-once, free-ring}
 use Rattle.heap.proofs.Fields.{markFree-length, markFree-other, markFree-first, markFree-end, moveRover-length, moveRover-other, moveRover-base, moveRover-rover}
@@ -65,13 +65,7 @@ module _ {s : List ℕ} {t : List ℕ} (xs : List Block) (z k m : ℕ) (ys : Lis
   )
 
   q-in : 0 < count q (frees (blockptr s) old)
-  q-in =
-      omega (
-        arith,
-        hit-same q,
-        ap (count q) (frees-append (blockptr s) xs (array z k ∷ free m ∷ ys)),
-        count-append q (frees (blockptr s) xs) (frees a (array z k ∷ free m ∷ ys)),
-      )
+  q-in = omega (arith, hit-same q, frees-count q (blockptr s) xs (array z k ∷ free m ∷ ys))
 
   -- a member of the ring but `q` stands clear of both blocks
   far : (x : ℕ) → 0 < count x ring → x ≢ q
@@ -149,11 +143,9 @@ module _ {s : List ℕ} {t : List ℕ} (xs : List Block) (z k m : ℕ) (ys : Lis
         let e : a + (z + k + m) ≡ q + m = omega arith in
         omega (
           arith,
-          ap (count x) (frees-append (blockptr s) xs (free (z + k + m) ∷ ys)),
-          count-append x (frees (blockptr s) xs) (frees a (free (z + k + m) ∷ ys)),
+          frees-count x (blockptr s) xs (free (z + k + m) ∷ ys),
           ap (λ (y : ℕ). count x (frees y ys)) e,
-          ap (count x) (frees-append (blockptr s) xs (array z k ∷ free m ∷ ys)),
-          count-append x (frees (blockptr s) xs) (frees a (array z k ∷ free m ∷ ys)),
+          frees-count x (blockptr s) xs (array z k ∷ free m ∷ ys),
         )
 
     member-same : (x : ℕ) → 0 < count x (a ∷ b ∷ vs) → getD after (x + 1) 0 ≡ getD s1 (x + 1) 0

@@ -13,7 +13,7 @@ use Rattle.storage.specs.Release.{joinBoth}
 use Rattle.storage.specs.Heap.{Block, Walk, over, frees, hit, count, Links, Heap, free, array}
 use Rattle.heap.specs.Words.{Inner, Quiet, Leaves}
 use Rattle.heap.proofs.Walks.{over-le, walk-same, walk-replace, walk-at}
-use Rattle.heap.proofs.Counts.{hit-cases, hit-same, hit-eq, count-append, frees-append, over-append, frees-within, frees-either}
+use Rattle.heap.proofs.Counts.{hit-cases, hit-same, hit-eq, frees-count, over-append, frees-within, frees-either}
 use Rattle.heap.proofs.Ring.{links-same, links-last}
 use Rattle.heap.proofs.Search.{members-once, free-ring}
 use Rattle.heap.proofs.Fields.{markFree-length, markFree-other, markFree-first, markFree-end, moveRover-length, moveRover-other, moveRover-base, moveRover-rover}
@@ -65,7 +65,7 @@ module _ {s : List ℕ} {t : List ℕ} (xs : List Block) (j z k m : ℕ) (ys : L
   )
 
   q-in : 0 < count q (frees (blockptr s) old)
-  q-in = omega (arith, hit-same q, ap (count q) (frees-append (blockptr s) xs tail), count-append q (frees (blockptr s) xs) (frees p tail))
+  q-in = omega (arith, hit-same q, frees-count q (blockptr s) xs tail)
 
   far : (x : ℕ) → 0 < count x ring → x ≢ q → (x + 1 ≢ p) × (x + 1 ≢ p + (j + (z + k) + m) - 1) × (blockptr s ≤ x) × (x ≤ end)
   far x c n =
@@ -129,11 +129,9 @@ module _ {s : List ℕ} {t : List ℕ} (xs : List Block) (j z k m : ℕ) (ys : L
         let e : p + (j + (z + k) + m) ≡ q + m = omega arith in
         omega (
           arith,
-          ap (count x) (frees-append (blockptr s) xs (free (j + (z + k) + m) ∷ ys)),
-          count-append x (frees (blockptr s) xs) (frees p (free (j + (z + k) + m) ∷ ys)),
+          frees-count x (blockptr s) xs (free (j + (z + k) + m) ∷ ys),
           ap (λ (y : ℕ). count x (frees y ys)) e,
-          ap (count x) (frees-append (blockptr s) xs tail),
-          count-append x (frees (blockptr s) xs) (frees p tail),
+          frees-count x (blockptr s) xs tail,
         )
 
     member-same : (x : ℕ) → 0 < count x (b ∷ vs) → getD after (x + 1) 0 ≡ getD (unlink s q) (x + 1) 0
@@ -143,13 +141,7 @@ module _ {s : List ℕ} {t : List ℕ} (xs : List Block) (j z k m : ℕ) (ys : L
     s2-rover = ap (λ (w : ℕ). w % 2 ^ 16) (markFree-other (unlink s q) _ _ 1 (omega (arith, place)) ∙ low 1 (omega arith))
 
     p-in : 0 < count p (frees (blockptr s) new)
-    p-in =
-        omega (
-          arith,
-          hit-same p,
-          ap (count p) (frees-append (blockptr s) xs (free (j + (z + k) + m) ∷ ys)),
-          count-append p (frees (blockptr s) xs) (frees p (free (j + (z + k) + m) ∷ ys)),
-        )
+    p-in = omega (arith, hit-same p, frees-count p (blockptr s) xs (free (j + (z + k) + m) ∷ ys))
 
     rover-in : 0 < count (rover after) (end ∷ frees (blockptr s) new)
     rover-in =

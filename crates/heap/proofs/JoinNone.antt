@@ -13,7 +13,7 @@ use Rattle.storage.specs.Release.{joinNone}
 use Rattle.storage.specs.Heap.{Block, Walk, over, frees, hit, count, Links, Heap, free, array}
 use Rattle.heap.specs.Words.{Inner, Quiet, Leaves}
 use Rattle.heap.proofs.Walks.{over-le, walk-replace, walk-at}
-use Rattle.heap.proofs.Counts.{hit-cases, hit-same, count-append, frees-append, over-append, frees-within, frees-either}
+use Rattle.heap.proofs.Counts.{hit-cases, hit-same, frees-count, over-append, frees-within, frees-either}
 use Rattle.heap.proofs.Ring.{links-same, ring-at, links-first}
 use Rattle.heap.proofs.Search.{members-once}
 use Rattle.heap.proofs.Fields.{setPrevFree-length, setPrevFree-other, setPrevFree-same, markFree-length, markFree-other, markFree-first, markFree-end}
@@ -120,14 +120,7 @@ module _ {s : List ℕ} {t : List ℕ} (xs : List Block) (z k : ℕ) (ys : List 
   after-low i l = after-other i (omega (arith, place)) ∙ s1-tag i (inr (inr l))
 
   after-count : (x : ℕ) → count x (frees (blockptr s) new) ≡ hit x a + count x (frees (blockptr s) old)
-  after-count x =
-      omega (
-        arith,
-        ap (count x) (frees-append (blockptr s) xs (free (z + k) ∷ ys)),
-        count-append x (frees (blockptr s) xs) (frees a (free (z + k) ∷ ys)),
-        ap (count x) (frees-append (blockptr s) xs (array z k ∷ ys)),
-        count-append x (frees (blockptr s) xs) (frees a (array z k ∷ ys)),
-      )
+  after-count x = omega (arith, frees-count x (blockptr s) xs (free (z + k) ∷ ys), frees-count x (blockptr s) xs (array z k ∷ ys))
 
   member-same : (x : ℕ) → 0 < count x (end ∷ a ∷ turned .0) → getD after (x + 1) 0 ≡ getD s1 (x + 1) 0
   member-same x c =

@@ -50,15 +50,14 @@ found-cases nowhere = inl (refl, λ x c. absurd (omega arith))
 module _ {s : List ℕ} {bs : List Block} {t : List ℕ} (g : Heap s bs t) where
   -- the ring is shorter than the segment
   pub ring-short : length t < length s
-  ring-short =
-      omega (
-        arith,
-        g .low,
-        g .top,
-        g .room,
-        count-length (rover s ∷ t) (over (blockptr s) bs ∷ frees (blockptr s) bs) (g .once),
-        frees-few s (blockptr s) false bs (g .walk),
-      )
+  ring-short = omega (
+    arith,
+    g .low,
+    g .top,
+    g .room,
+    count-length (rover s ∷ t) (over (blockptr s) bs ∷ frees (blockptr s) bs) (g .once),
+    frees-few s (blockptr s) false bs (g .walk),
+  )
 
   -- no member stands twice
   pub ring-once : (x : ℕ) → count x (rover s ∷ t) ≤ 1

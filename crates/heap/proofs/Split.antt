@@ -14,7 +14,7 @@ use Rattle.storage.specs.Request.{split}
 use Rattle.storage.specs.Heap.{Block, Walk, over, frees, count, Heap, free, array}
 use Rattle.heap.specs.Words.{Quiet, Leaves}
 use Rattle.heap.proofs.Walks.{over-le, walk-replace, walk-clear}
-use Rattle.heap.proofs.Counts.{hit-cases, hit-same, count-append, frees-append, over-append, frees-cases}
+use Rattle.heap.proofs.Counts.{hit-cases, hit-same, frees-append, frees-count, over-append, frees-cases}
 use Rattle.heap.proofs.Ring.{links-same, ring-next}
 use Rattle.heap.proofs.Search.{member-within}
 use Rattle.heap.proofs.Fields.{setRover-other, setRover-rover, setRover-length, setRover-base}
@@ -147,14 +147,7 @@ module _ {s : List ℕ} {t : List ℕ} (xs : List Block) (n : ℕ) (ys : List Bl
 
   -- NEXT of the found block is in the ring
   f-member : 0 < count f (rover s ∷ t)
-  f-member =
-      omega (
-        arith,
-        g .once f,
-        hit-same f,
-        ap (count f) (frees-append (blockptr s) xs (free n ∷ ys)),
-        count-append f (frees (blockptr s) xs) (frees f (free n ∷ ys)),
-      )
+  f-member = omega (arith, g .once f, hit-same f, frees-count f (blockptr s) xs (free n ∷ ys))
 
   next-member : 0 < count (nextAt s f) (rover s ∷ t)
   next-member = omega (arith, ring-next s (rover s) t f (g .links) f-member .2 (nextAt s f), hit-same (nextAt s f))

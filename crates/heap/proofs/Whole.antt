@@ -14,7 +14,7 @@ use Rattle.storage.specs.Request.{whole}
 use Rattle.storage.specs.Heap.{Block, prevFreeBit, Walk, over, frees, hit, count, Links, Heap, free, array}
 use Rattle.heap.specs.Words.{Quiet, Leaves}
 use Rattle.heap.proofs.Walks.{over-le, walk-replace, walk-clear}
-use Rattle.heap.proofs.Counts.{hit-cases, hit-same, hit-eq, count-append, frees-append, over-append, frees-cases}
+use Rattle.heap.proofs.Counts.{hit-cases, hit-same, hit-eq, frees-count, over-append, frees-cases}
 use Rattle.heap.proofs.Ring.{links-same, links-last}
 use Rattle.heap.proofs.Search.{members-once, member-within, free-ring}
 use Rattle.heap.proofs.Fields.{setRover-other, setRover-rover, setRover-length, setRover-base}
@@ -77,13 +77,7 @@ module _ {s : List ℕ} {t : List ℕ} (xs : List Block) (n : ℕ) (ys : List Bl
   )
 
   f-free : 0 < count f members
-  f-free =
-      omega (
-        arith,
-        hit-same f,
-        ap (count f) (frees-append (blockptr s) xs (free n ∷ ys)),
-        count-append f (frees (blockptr s) xs) (frees f (free n ∷ ys)),
-      )
+  f-free = omega (arith, hit-same f, frees-count f (blockptr s) xs (free n ∷ ys))
 
   -- the ring from the found block
   turned : (b : ℕ) × (vs : List ℕ) × Links s f (b ∷ vs) f × ((x : ℕ) → count x (f ∷ b ∷ vs) ≡ count x (end ∷ members))
@@ -159,10 +153,8 @@ module _ {s : List ℕ} {t : List ℕ} (xs : List Block) (n : ℕ) (ys : List Bl
         let e : f + (size + (n - size)) ≡ f + n = omega arith in
         omega (
           arith,
-          ap (count x) (frees-append (blockptr s) xs (free n ∷ ys)),
-          count-append x (frees (blockptr s) xs) (frees f (free n ∷ ys)),
-          ap (count x) (frees-append (blockptr s) xs (array size (n - size) ∷ ys)),
-          count-append x (frees (blockptr s) xs) (frees f (array size (n - size) ∷ ys)),
+          frees-count x (blockptr s) xs (free n ∷ ys),
+          frees-count x (blockptr s) xs (array size (n - size) ∷ ys),
           ap (λ (a : ℕ). count x (frees a ys)) e,
         )
 
