@@ -11,13 +11,13 @@ use Rattle.storage.specs.Release.{joinBefore, release}
 use Rattle.storage.specs.Heap.{Heap, free}
 
 -- the words of M1's array storage, with the state words that say where it is
-abbrev m1 : List ℕ
+abbrev pub m1 : List ℕ
 m1 =
     set (set (set
     (set (set (set
     (set (set (replicate 64 0) 0 0x0024_0002) 1 0x0001_000C) 4 12) 12 0x8000_0015) 13 0x0021_0021) 32 21) 33 0x4000_0000) 34 0x000C_000C
 
-m1-heap : Heap m1 (free 21 ∷ []) (33 ∷ [])
+pub m1-heap : Heap m1 (free 21 ∷ []) (33 ∷ [])
 m1-heap = record {
   low = omega arith;
   walk = (record { alone = refl; least = omega arith; first = refl; end = refl }, refl);

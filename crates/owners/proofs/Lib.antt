@@ -9,3 +9,4 @@ pub mod Place
 pub mod Element
 pub mod Counts
 pub mod Theorems
+pub mod Marked
