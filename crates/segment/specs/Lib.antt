@@ -1,4 +1,5 @@
 -- The layout of the data segment.
 pub mod State
 pub mod Blocks
+pub mod Parts
 pub mod Stack
