@@ -1,8 +1,4 @@
--- Acceptance of a data segment, test by test, and what an accepted segment is.
-pub mod Tests
-pub mod Head
-pub mod Blocks
-pub mod Ring
+-- Acceptance of a data segment: tests 16, 17 and 18, and the table's order over all tests.
 pub mod Frames
 pub mod Cells
 pub mod Counts

@@ -6,10 +6,10 @@ use mathlib.Core.List.{List}
 use lib.ListN.{length}
 use lib.Dec.{leb, eqb}
 use Rattle.procedure.specs.Refusal.{procedureRefusal}
-use Rattle.acceptance.specs.Tests.{_and_}
-use Rattle.acceptance.specs.Head.{headTest}
-use Rattle.acceptance.specs.Blocks.{blocksTest}
-use Rattle.acceptance.specs.Ring.{ringTest}
+use Rattle.storage_tests.specs.Tests.{_and_}
+use Rattle.storage_tests.specs.Head.{headTest}
+use Rattle.storage_tests.specs.Blocks.{blocksTest}
+use Rattle.storage_tests.specs.Ring.{ringTest}
 use Rattle.acceptance.specs.Frames.{framesTest}
 use Rattle.acceptance.specs.Cells.{cellsTest}
 use Rattle.acceptance.specs.Counts.{countsTest}

@@ -8,8 +8,8 @@ use lib.Dec.{leb, eqb}
 use Rattle.segment.specs.State.{rover}
 use Rattle.segment.specs.Blocks.{nextAt, lastAt, dummy}
 use Rattle.storage.specs.Heap.{count}
-use Rattle.acceptance.specs.Tests.{_and_}
-use Rattle.acceptance.specs.Blocks.{freeStarts}
+use Rattle.storage_tests.specs.Tests.{_and_}
+use Rattle.storage_tests.specs.Blocks.{freeStarts}
 
 -- The list with `x` taken out once.
 abbrev pub without : ℕ → List ℕ → List ℕ

@@ -9,7 +9,7 @@ use Rattle.descriptor.specs.Kinds.{isScalar}
 use Rattle.segment.specs.State.{blockptr}
 use Rattle.segment.specs.Blocks.{freeAt, sizeAt, slopAt, spanAt, rankAt, dummy, part, product}
 use Rattle.storage.specs.Heap.{prevFreeBit}
-use Rattle.acceptance.specs.Tests.{_and_, every, words}
+use Rattle.storage_tests.specs.Tests.{_and_, every, words}
 
 -- ---- the walk
 

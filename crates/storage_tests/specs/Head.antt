@@ -6,7 +6,7 @@ use mathlib.Core.List.{List}
 use lib.ListN.{getD, length}
 use lib.Dec.{leb, ltb, eqb}
 use Rattle.segment.specs.State.{sbase, ltop, flags, trapWord, blockptr}
-use Rattle.acceptance.specs.Tests.{_and_}
+use Rattle.storage_tests.specs.Tests.{_and_}
 
 unfoldable pub headTest : List ℕ → Bool
 headTest s =
