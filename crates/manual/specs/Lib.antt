@@ -6,5 +6,4 @@ pub mod Effects
 pub mod Loads
 pub mod Scalars
 pub mod Memory
-pub mod Arrays
 pub mod Control
