@@ -35,7 +35,7 @@ pub record Seen : Type 0 where
   -- the variable so many words below LBASE, and the global at that address
   pub local : ℕ → OrTrap Variable
   pub global : ℕ → OrTrap Variable
-  -- is this the bottom frame, and what its result variable holds
+  -- is this the bottom frame, and what its result variable holds, where it has one
   pub bottom : Bool
   pub result : Cell
 
@@ -82,4 +82,4 @@ seenOf h words m =
       local = λ v. localAt read (depthOfFrames (m .frames) - 2) (variablesOf h) v;
       global = λ g. globalAt read (8 + length (m .globals)) g;
       bottom = noOlder (m .frames);
-      result = getD (currentCells (m .frames)) 0 undefined }
+      result = cond (h .result) (getD (currentCells (m .frames)) 0 undefined) undefined }
