@@ -12,7 +12,8 @@ use Rattle.descriptor.specs.Kinds.{isScalar}
 use Rattle.segment.specs.State.{sbase, blockptr}
 use Rattle.segment.specs.Blocks.{countAt, rankAt, part, product, shapeAt, elementsAt}
 use Rattle.storage.specs.Heap.{count}
-use Rattle.storage.specs.Owned.{ArrayIn, cell, Inside, Owned, Kept, value}
+use Rattle.segment.specs.Cells.{cell, value}
+use Rattle.storage.specs.Owned.{ArrayIn, Inside, Owned, Kept}
 use Rattle.heap.specs.Words.{Inner}
 use Rattle.heap.proofs.Counts.{hit-cases}
 use Rattle.heap.proofs.Arrays.{array-inner, array-apart}

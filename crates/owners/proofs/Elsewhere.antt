@@ -9,7 +9,8 @@ use Rattle.descriptor.specs.Fields.{arrayWord}
 use Rattle.segment.specs.State.{sbase, rover, blockptr}
 use Rattle.segment.specs.Blocks.{countAt}
 use Rattle.storage.specs.Heap.{Block, count, Heap}
-use Rattle.storage.specs.Owned.{ArrayIn, cell, Inside, Owned}
+use Rattle.segment.specs.Cells.{cell}
+use Rattle.storage.specs.Owned.{ArrayIn, Inside, Owned}
 use Rattle.heap.proofs.Walks.{over-le, walk-same}
 use Rattle.heap.proofs.Counts.{hit-same}
 use Rattle.heap.proofs.Ring.{links-same}

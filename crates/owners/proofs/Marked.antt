@@ -12,7 +12,9 @@ use Rattle.storage.specs.Request.{findFrom, find, split, give, given, requestAt
 use Rattle.storage.specs.Release.{joinBefore, release}
 use Rattle.storage.specs.Arrays.{fill, placeAt, place, raise, lower, share, drop}
 use Rattle.storage.specs.Heap.{free}
-use Rattle.storage.specs.Owned.{cell, Owned, value}
+use Rattle.descriptor.specs.Kinds.{kindOf, unsignedKind, arrayKind}
+use Rattle.segment.specs.Cells.{cell, value}
+use Rattle.storage.specs.Owned.{Owned}
 use Rattle.heap.proofs.Marked.{m1, m1-heap}
 
 m1-owned : Owned m1 []
@@ -32,7 +34,7 @@ m2 = place m1 (5 ∷ []) (1 ∷ 2 ∷ 3 ∷ 4 ∷ 5 ∷ [])
 m2-placed : (arrayWord (placeAt m1 (5 ∷ []) (1 ∷ 2 ∷ 3 ∷ 4 ∷ 5 ∷ [])) ≡ 0x0200_0019)
     × (part m2 25 8 ≡ 0x4000_0008 ∷ 0x0001_0001 ∷ 5 ∷ 1 ∷ 2 ∷ 3 ∷ 4 ∷ 5 ∷ [])
     × (cell m2 0x0200_0019 ≡ value (5 ∷ []) (1 ∷ 2 ∷ 3 ∷ 4 ∷ 5 ∷ []))
-unfolding place placeAt fill requestAt request find findFrom give given split setRover clearPrevFree cell shapeAt elementsAt
+unfolding place placeAt fill requestAt request find findFrom give given split setRover clearPrevFree cell kindOf unsignedKind arrayKind shapeAt elementsAt
 m2-placed = (refl, refl, refl)
 
 -- shared and dropped, it is as it was; dropped once more, M1's free block is back

@@ -8,7 +8,8 @@ use lib.ListN.{set}
 use Rattle.descriptor.specs.Fields.{arrayWord}
 use Rattle.segment.specs.Blocks.{rankAt, shapeAt, elementsAt}
 use Rattle.storage.specs.Heap.{count}
-use Rattle.storage.specs.Owned.{value, cell, Owned, Kept}
+use Rattle.segment.specs.Cells.{value, cell}
+use Rattle.storage.specs.Owned.{Owned, Kept}
 
 -- The segment after it: the elements start behind the two first words and the lengths.
 abbrev pub setElement : List ℕ → ℕ → ℕ → ℕ → List ℕ

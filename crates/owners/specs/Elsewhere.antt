@@ -6,7 +6,8 @@ use mathlib.Core.List.{List}
 use lib.ListN.{getD, length}
 use Rattle.segment.specs.State.{sbase, rover, blockptr}
 use Rattle.storage.specs.Heap.{count}
-use Rattle.storage.specs.Owned.{cell, Owned}
+use Rattle.segment.specs.Cells.{cell}
+use Rattle.storage.specs.Owned.{Owned}
 
 pub record Elsewhere (s after : List ℕ) : Type 0 where
   pub long : length after ≡ length s

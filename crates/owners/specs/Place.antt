@@ -8,7 +8,8 @@ use Rattle.descriptor.specs.Fields.{arrayWord}
 use Rattle.segment.specs.Blocks.{need, countAt, shapeAt, elementsAt}
 use Rattle.storage.specs.Arrays.{placeAt, place}
 use Rattle.storage.specs.Heap.{count}
-use Rattle.storage.specs.Owned.{value, cell, Owned, Step}
+use Rattle.segment.specs.Cells.{value, cell}
+use Rattle.storage.specs.Owned.{Owned, Step}
 use Rattle.heap.specs.Words.{HasRoom}
 
 -- A new array, which nothing owned before and which one word owns now.
