@@ -6,3 +6,4 @@ pub mod Arrays
 pub mod Found
 pub mod Heap
 pub mod Owned
+pub mod Examples
