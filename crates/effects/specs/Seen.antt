@@ -26,5 +26,4 @@ seen h s =
       local = λ v. localAt read (lbase s) (variablesOf h) v;
       global = λ g. globalAt read (blockptr s) g;
       bottom = leb (lbase s) (lastLbaseAt s (lbase s));
-      result = cond (h .result) (cell s (getD s (sbase s + lbase s - 1) 0)) undefined;
-    }
+      result = cond (h .result) (cell s (getD s (sbase s + lbase s - 1) 0)) undefined }

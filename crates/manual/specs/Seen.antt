@@ -82,5 +82,4 @@ seenOf h words m =
       local = λ v. localAt read (depthOfFrames (m .frames) - 2) (variablesOf h) v;
       global = λ g. globalAt read (8 + length (m .globals)) g;
       bottom = noOlder (m .frames);
-      result = cond (h .result) (getD (currentCells (m .frames)) 0 undefined) undefined;
-    }
+      result = cond (h .result) (getD (currentCells (m .frames)) 0 undefined) undefined }

@@ -26,6 +26,7 @@ m1-owned = record {
 
 -- a free block of 21 words has room for the 8 that the vector needs
 m2-owned : (elements : List ℕ) → Proper (5 ∷ []) elements → NewArray fresh [] (5 ∷ []) elements
+unfolding m1-owned
 m2-owned elements ok =
     let r = place-theorem (5 ∷ []) elements m1-owned ok in
     r .new (r .found .1 (inl (omega (arith, ok .size))))
