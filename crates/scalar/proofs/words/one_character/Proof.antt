@@ -2,8 +2,8 @@ use Prim.Native.Nat.{_-_}
 use mathlib.Core.Path.{sym, _∙_}
 use Rattle.scalar.proofs.Operands.{first-character, first-plain}
 use borrow.Author.Needs.{needs}
-use Rattle.scalar.proofs.reading.one_character.Statement.{statement}
-use Rattle.scalar.proofs.reading.one_character.Tie as tie
+use Rattle.scalar.proofs.words.one_character.Statement.{statement}
+use Rattle.scalar.proofs.words.one_character.Tie as tie
 
 is-character-requires : tie.Need-is-character-requires
 is-character-requires c κs = search needs

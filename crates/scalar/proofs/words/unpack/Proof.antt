@@ -4,8 +4,8 @@ use native.Mathlib.Omega.{arith}
 use native.Mathlib.Nat.{pos-of-ne-zero}
 use Rattle.scalar.proofs.Units.{unpacked-zero, unpacked-float, unpacked-integer, zeros-ge, zeros-lt}
 use borrow.Author.Needs.{needs}
-use Rattle.scalar.proofs.reading.unpack.Statement.{statement}
-use Rattle.scalar.proofs.reading.unpack.Tie as tie
+use Rattle.scalar.proofs.words.unpack.Statement.{statement}
+use Rattle.scalar.proofs.words.unpack.Tie as tie
 
 add-t8 : tie.Need-add-t8
 add-t8 c = search needs

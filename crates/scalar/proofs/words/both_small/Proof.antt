@@ -1,6 +1,6 @@
 use borrow.Author.Tests.{eq-eqb, ne-eqb}
-use Rattle.scalar.proofs.reading.both_small.Statement.{statement}
-use Rattle.scalar.proofs.reading.both_small.Tie as tie
+use Rattle.scalar.proofs.words.both_small.Statement.{statement}
+use Rattle.scalar.proofs.words.both_small.Tie as tie
 
 returns : tie.Need-returns
 returns c = simp (eq-eqb _ _ (c .if1 .taken))
