@@ -67,7 +67,7 @@ carried f s (trap class number) = trapped s class number
 carried f s (gives es) = cond (anyFull s es) (trapped s 1 2) (finished (dueOf f (flags s) es) (performs s es))
 
 abbrev pub stepIn : Running → List ℕ → Result
-stepIn f s = carried f s (planAt f (seen (headerOf f) s) (pctr (codeWordAt s (lbase s))))
+stepIn f s = carried f s (planAt f (seen s) (pctr (codeWordAt s (lbase s))))
 
 -- The function of the current frame; one outside its bounds is (3,1).
 abbrev pub stepFound : List ℕ → List ℕ → List ℕ → Bool → Function → Result

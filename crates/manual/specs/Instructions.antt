@@ -31,7 +31,7 @@ use Rattle.instruction.specs.declared.Decoded.the-variants as D
 use Rattle.instruction.specs.Decoding.{decodeIn}
 use Rattle.manual.specs.OrTrap.{OrTrap, gives, trap, andThen, stopIf}
 use Rattle.manual.specs.Effects.{Plan}
-use Rattle.manual.specs.Seen.{Seen, Variable}
+use Rattle.manual.specs.Seen.{Seen, Variable, variablesOf}
 use Rattle.manual.specs.Loads as loads
 use Rattle.manual.specs.Scalars as scalars
 use Rattle.manual.specs.Memory as memory
@@ -55,9 +55,9 @@ abbrev pub wordsFrom : ℕ → List ℕ → ℕ → List ℕ
 wordsFrom zero code place = []
 wordsFrom (suc n) code place = wordAt code place ∷ wordsFrom n code (place + 4)
 
-abbrev pub resolve : Seen → Address → OrTrap Variable
-resolve seen (A.Local v) = seen .local v
-resolve seen (A.Global g) = seen .global (g .0)
+abbrev pub resolve : Seen → Header → Address → OrTrap Variable
+resolve seen h (A.Local v) = seen .local (variablesOf h) v
+resolve seen h (A.Global g) = seen .global (g .0)
 
 abbrev pub scalarPlan : Seen → ℕ → Operator → Plan
 scalarPlan seen next (O.Monadic op) = scalars.monadic seen next op
@@ -98,10 +98,10 @@ jumpPlan f seen next J.GoFalse place = control.goIf seen (headerOf f) next false
 
 -- The plan of an instruction, after which stands the code place `next`.
 unfoldable pub planOf : Running → Seen → Instruction → ℕ → Plan
-planOf f seen (I.Load a) next = loads.load seen next (resolve seen a)
+planOf f seen (I.Load a) next = loads.load seen next (resolve seen (headerOf f) a)
 planOf f seen (I.ShortConstant negative magnitude) next = loads.shortConstant seen next (integerWord (bit negative) magnitude)
 planOf f seen (I.Scalar op) next = scalarPlan seen next op
-planOf f seen (I.Memory op a) next = memoryPlan seen next op (resolve seen a)
+planOf f seen (I.Memory op a) next = memoryPlan seen next op (resolve seen (headerOf f) a)
 planOf f seen (I.Stack op) next = stackPlan seen next op
 planOf f seen (I.Array op) next = arrayPlan seen next op
 planOf f seen (I.Control op) next = controlPlan f seen next op
