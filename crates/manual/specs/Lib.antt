@@ -8,3 +8,4 @@ pub mod Scalars
 pub mod Memory
 pub mod Control
 pub mod Instructions
+pub mod Examples
