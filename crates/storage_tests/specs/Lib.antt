@@ -3,3 +3,5 @@ pub mod Tests
 pub mod Head
 pub mod Blocks
 pub mod Ring
+pub mod Marks
+pub mod Answer
