@@ -7,3 +7,6 @@ pub mod Starts
 pub mod Walk
 pub mod Insides
 pub mod Rounds
+pub mod Tiling
+pub mod RingTest
+pub mod Structure

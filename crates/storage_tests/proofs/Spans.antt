@@ -96,6 +96,9 @@ array-seen s a before size slop h r =
       steps = rw (r .0, r .1);
     }
 
+pub array-size : (s : List ℕ) (a : ℕ) (before : Bool) (size slop : ℕ) → ArrayBlock s a before size slop → size < 2 ^ 16 → sizeAt s a ≡ size
+array-size s a before size slop h l = word-fields before (getD s a 0) size slop (h .first) (h .small) l .0
+
 pub seen : (s : List ℕ) (a : ℕ) (before : Bool) (b : Block) → BlockAt s a before b → span b < 2 ^ 16 → Seen s a before b
 seen s a before (free size) h l =
     let f : freeAt s a ≡ true = le-leb (2 ^ 31) (getD s a 0) (omega (arith, h .first)) in

@@ -5,3 +5,4 @@ pub mod Blocks
 pub mod Ring
 pub mod Marks
 pub mod Answer
+pub mod Structure
