@@ -35,8 +35,8 @@ round-sound zero s end a l e h = ([], link-sound s a end (sym (step-last s end a
 round-sound (suc n) s end a l e h = go (linked s a (nextAt s a)) refl (leb 1 (count (nextAt s a) l)) refl (round-sound n s end (nextAt s a) (without (nextAt s a) l))
   where
     go : (t : Bool) → linked s a (nextAt s a) ≡ t → (u : Bool) → leb 1 (count (nextAt s a) l) ≡ u
-      → (length (without (nextAt s a) l) ≡ n → roundFrom n s end (nextAt s a) (without (nextAt s a) l) ≡ true → (ring : List ℕ) × Links s (nextAt s a) ring end × ((x : ℕ) → count x ring ≡ count x (without (nextAt s a) l)))
-      → (ring : List ℕ) × Links s a ring end × ((x : ℕ) → count x ring ≡ count x l)
+        → (length (without (nextAt s a) l) ≡ n → roundFrom n s end (nextAt s a) (without (nextAt s a) l) ≡ true → (ring : List ℕ) × Links s (nextAt s a) ring end × ((x : ℕ) → count x ring ≡ count x (without (nextAt s a) l)))
+        → (ring : List ℕ) × Links s a ring end × ((x : ℕ) → count x ring ≡ count x l)
     go false p u q r = absurd (never (sym (step-bad s end a l (suc n) (omega arith) p) ∙ h))
     go true p false q r = absurd (never (sym (step-missing s end a l (suc n) (omega arith) p (omega (arith, leb-false 1 (count (nextAt s a) l) q))) ∙ h))
     go true p true q r =
