@@ -1,14 +1,14 @@
 -- Test 15 passes exactly where there is a ring.
-use Prim.Native.Nat.{ℕ, zero, suc, _+_, _-_, _<_, _≤_}
+use Prim.Native.Nat.{ℕ, zero, suc, _-_, _<_, _≤_}
 use mathlib.Core.Path.{_≡_, refl, sym, _∙_}
 use mathlib.Core.Bool.{Bool, true, false}
 use mathlib.Core.List.{List, [], _∷_}
 use native.Mathlib.Omega.{arith}
 use lib.ListN.{length}
-use lib.Dec.{leb, eqb}
+use lib.Dec.{leb}
 use borrow.Author.Tests.{leb-true, leb-false, eqb-true, le-leb, eq-eqb}
 use Rattle.segment.specs.State.{rover}
-use Rattle.segment.specs.Blocks.{nextAt, lastAt, dummy}
+use Rattle.segment.specs.Blocks.{nextAt, dummy}
 use Rattle.storage.specs.Heap.{count, Link, Links}
 use Rattle.heap.proofs.Counts.{hit-same, count-length}
 use Rattle.heap.proofs.Ring.{ring-at}
