@@ -12,14 +12,14 @@ byteAt p i = getD p i 0
 unfoldable pub halfAt : List ℕ → ℕ → ℕ
 halfAt p i = byteAt p i * 2 ^ 8 + byteAt p (i + 1)
 
--- Thirty-two bits, the high half first.
+-- Thirty-two bits, the high byte first.
 unfoldable pub wordAt : List ℕ → ℕ → ℕ
-wordAt p i = halfAt p i * 2 ^ 16 + halfAt p (i + 2)
+wordAt p i = byteAt p i * 2 ^ 24 + byteAt p (i + 1) * 2 ^ 16 + byteAt p (i + 2) * 2 ^ 8 + byteAt p (i + 3)
 
 example-half : halfAt (0x12 ∷ 0x34 ∷ []) 0 ≡ 0x1234
 unfolding halfAt
 example-half = refl
 
 example-word : wordAt (0x00 ∷ 0x12 ∷ 0x34 ∷ 0x56 ∷ 0x78 ∷ []) 1 ≡ 0x1234_5678
-unfolding wordAt halfAt
+unfolding wordAt
 example-word = refl

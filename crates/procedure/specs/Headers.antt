@@ -4,7 +4,7 @@ use Prim.Native.Nat.{ℕ, _+_, _-_, _*_, _/_, _%_, _^_}
 use mathlib.Core.Bool.{Bool, true, false, cond}
 use mathlib.Core.List.{List}
 use lib.ListN.{take, drop}
-use lib.Dec.{leb, eqb}
+use lib.Dec.{ltb, eqb}
 use Rattle.descriptor.specs.declared.address.CodeAddress.{CodeAddress}
 use Rattle.procedure.specs.declared.header.Header.{Header}
 use Rattle.procedure.specs.declared.header.Block.{Block}
@@ -53,6 +53,6 @@ codeOf p b = take (codeEnd (b .header)) (drop (4 * b .start) p)
 -- Then the code and 16-bit line entries. Line entry i stands for 1 to NLINES.
 unfoldable pub lineOf : List ℕ → Block → ℕ → Line
 lineOf p b i =
-    cond (leb 1 i)
-    (cond (leb i (b .header .nlines)) (L.At (record { 0 = halfAt p (4 * b .start + codeEnd (b .header) + 2 * (i - 1)) })) L.Absent)
-    L.Absent
+    cond (ltb i 1) L.Absent
+    (cond (ltb (b .header .nlines) i) L.Absent
+    (L.At (record { 0 = halfAt p (4 * b .start + codeEnd (b .header) + 2 * (i - 1)) })))

@@ -5,42 +5,44 @@ use mathlib.Core.Bool.{Bool, true, false, cond}
 use mathlib.Core.List.{List}
 use lib.ListN.{length}
 use lib.Dec.{ltb, leb, eqb}
+use Rattle.procedure.specs.declared.header.Header.{Header}
 use Rattle.procedure.specs.declared.refusal.Fault.{Fault}
 use Rattle.procedure.specs.declared.refusal.Fault.the-variants as F
 use Rattle.procedure.specs.declared.refusal.FunctionFault.the-variants as W
 use Rattle.procedure.specs.declared.refusal.Refusal.{Refusal}
 use Rattle.procedure.specs.declared.refusal.Refusal.the-variants as R
 use Rattle.procedure.specs.Bytes.{wordAt}
-use Rattle.procedure.specs.Headers.{unnamedBits}
-use Rattle.procedure.specs.Directory.{startOf, lengthOf, entries, nargsOf, nlocalsOf, nlinesOf, ncodeOf, resultOf}
+use Rattle.procedure.specs.Headers.{unnamedBits, headerAt}
+use Rattle.procedure.specs.Directory.{startOf, lengthOf, entries}
 
 -- Test 11: 4 to 32,768 bytes, whole words.
 unfoldable pub lengthRefused : List ℕ → Bool
 lengthRefused p = cond (ltb (length p) 4) true (cond (ltb 32768 (length p)) true (cond (eqb (length p % 4) 0) false true))
 
 -- RESULT needs NLOCALS at least 1.
-abbrev pub resultLacksLocal : List ℕ → ℕ → Bool
-resultLacksLocal p k = cond (resultOf p k) (ltb (nlocalsOf p k) 1) false
+abbrev pub resultLacksLocal : Bool → ℕ → Bool
+resultLacksLocal result nlocals = cond result (ltb nlocals 1) false
 
 -- The length is 2 + NCODE + NLINES/2 rounded up.
-abbrev pub wantedLength : List ℕ → ℕ → ℕ
-wantedLength p k = 2 + ncodeOf p k + (nlinesOf p k + 1) / 2
+abbrev pub blockLength : Header → ℕ
+blockLength h = 2 + h .ncode + (h .nlines + 1) / 2
 
--- The header of function k.
-unfoldable pub headerFault : List ℕ → ℕ → Fault
-headerFault p k =
-    cond (ltb 0 (unnamedBits (wordAt p (4 * startOf p k)))) (F.Function k W.UnnamedBits)
-    (cond (ltb 15 (nargsOf p k)) (F.Function k W.Arguments)
-    (cond (resultLacksLocal p k) (F.Function k W.ResultLocal)
-    (cond (ltb 4096 (nargsOf p k + nlocalsOf p k)) (F.Function k W.Variables)
-    (cond (eqb (lengthOf p k) (wantedLength p k)) F.Nothing (F.Function k W.Length)))))
+-- Function k's header, beside its word 0 and the length in the directory.
+unfoldable pub headerFault : ℕ → Header → ℕ → ℕ → Fault
+headerFault k h word0 long =
+    cond (ltb 0 (unnamedBits word0)) (F.Function k W.UnnamedBits)
+    (cond (ltb 15 (h .nargs)) (F.Function k W.Arguments)
+    (cond (resultLacksLocal (h .result) (h .nlocals)) (F.Function k W.ResultLocal)
+    (cond (ltb 4096 (h .nargs + h .nlocals)) (F.Function k W.Variables)
+    (cond (eqb long (blockLength h)) F.Nothing (F.Function k W.Length)))))
 
 -- Function k: it lies in the segment after the directory, and has at least a header.
 unfoldable pub functionFault : List ℕ → ℕ → Fault
 functionFault p k =
     cond (ltb (startOf p k) (entries p)) (F.Function k W.Start)
     (cond (ltb (length p) (4 * (startOf p k + lengthOf p k))) (F.Function k W.End)
-    (cond (ltb (lengthOf p k) 2) (F.Function k W.Length) (headerFault p k)))
+    (cond (ltb (lengthOf p k) 2) (F.Function k W.Length)
+    (headerFault k (headerAt p (startOf p k)) (wordAt p (4 * startOf p k)) (lengthOf p k))))
 
 -- The first of two faults, where there is one.
 abbrev pub orElse : Fault → Fault → Fault
@@ -75,12 +77,18 @@ faultNumber F.SegmentLength = 11
 faultNumber F.Entries = 12
 faultNumber (F.Function k wrong) = 12
 
+abbrev pub refuses : Fault → Bool
+refuses F.Nothing = false
+refuses F.SegmentLength = true
+refuses F.Entries = true
+refuses (F.Function k wrong) = true
+
 -- 11 covers both segments' lengths before 12 covers either's contents, the regular one first.
 unfoldable pub procedureRefusal : List ℕ → List ℕ → ℕ
 procedureRefusal regular alternate =
     cond (lengthRefused regular) 11
     (cond (lengthRefused alternate) 11
-    (cond (eqb (faultNumber (contentsFault regular)) 0) (faultNumber (contentsFault alternate)) 12))
+    (cond (refuses (contentsFault regular)) 12 (cond (refuses (contentsFault alternate)) 12 0)))
 
 -- The number of the answer.
 abbrev pub refusalNumber : Refusal → ℕ

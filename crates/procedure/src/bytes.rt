@@ -35,7 +35,7 @@ pub fn word_at(p: &[u8], at: u32) -> u32
 }
 
 fn word_of(a: u8, b: u8, c: u8, d: u8) -> u32
-    ensures { λ r. ⌜ r ≡ (a * 2 ^ 8 + b) * 2 ^ 16 + (c * 2 ^ 8 + d) ⌝ }
+    ensures { λ r. ⌜ r ≡ a * 2 ^ 24 + b * 2 ^ 16 + c * 2 ^ 8 + d ⌝ }
 {
-    (a as u32 * 0x100 + b as u32) * 0x1_0000 + (c as u32 * 0x100 + d as u32)
+    a as u32 * 0x100_0000 + b as u32 * 0x1_0000 + c as u32 * 0x100 + d as u32
 }

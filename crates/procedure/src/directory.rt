@@ -3,7 +3,7 @@ ghost use mathlib.Core.Path.{_≡_};
 ghost use Rattle.procedure.specs.Directory.{entries, startOf, lengthOf, hasFunction, inDirectory, functionOf};
 use crate::bytes::word_at;
 use crate::header::Block;
-use crate::header::block_at;
+use crate::header::header_at;
 
 pub enum Function {
     At(Block),
@@ -22,6 +22,13 @@ pub fn start_of(p: &[u8], number: u16) -> u16
     ensures { λ r. ⌜ r ≡ startOf (now (p .entry)) number ⌝ }
 {
     (word_at(p, 4 * number as u32) / 0x1_0000) as u16
+}
+
+// How long it is, in words.
+pub fn length_of(p: &[u8], number: u16) -> u16
+    ensures { λ r. ⌜ r ≡ lengthOf (now (p .entry)) number ⌝ }
+{
+    (word_at(p, 4 * number as u32) % 0x1_0000) as u16
 }
 
 pub fn has_function(p: &[u8], number: u16) -> bool
@@ -48,7 +55,11 @@ pub fn find(p: &[u8], number: u16) -> Function
     ensures { λ r. ⌜ r ≡ functionOf (now (p .entry)) number ⌝ }
 {
     if has_function(p, number) {
-        return Function::At(block_at(p, start_of(p, number)));
+        let start = start_of(p, number);
+        return Function::At(Block {
+            start: start,
+            header: header_at(p, start),
+        });
     }
     Function::Absent
 }

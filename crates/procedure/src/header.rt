@@ -1,7 +1,7 @@
 // A function's block: its header, its code and its line entries.
 ghost use mathlib.Core.Path.{_≡_};
 ghost use Prim.Native.Nat.{_*_};
-ghost use Rattle.procedure.specs.Headers.{headerAt, blockAt, codeEnd, codeOf, lineOf};
+ghost use Rattle.procedure.specs.Headers.{headerAt, codeEnd, codeOf, lineOf};
 use crate::bytes::half_at;
 use crate::bytes::word_at;
 use descriptor::address::CodeAddress;
@@ -28,14 +28,14 @@ pub enum Line {
     Absent,
 }
 
-// The block that starts at word `start`.
-pub fn block_at(p: &[u8], start: u16) -> Block
-    ensures { λ r. ⌜ r ≡ blockAt (now (p .entry)) start ⌝ }
+// The header of the block that starts at word `start`.
+pub fn header_at(p: &[u8], start: u16) -> Header
+    ensures { λ r. ⌜ r ≡ headerAt (now (p .entry)) start ⌝ }
 {
     let at = 4 * start as u32;
     let word0 = word_at(p, at);
     let word1 = word_at(p, at + 4);
-    let header = Header {
+    Header {
         calltrace: word0 / 0x8000_0000 % 2 == 1,
         rtntrace: word0 / 0x4000_0000 % 2 == 1,
         result: word0 / 0x2000_0000 % 2 == 1,
@@ -43,10 +43,6 @@ pub fn block_at(p: &[u8], start: u16) -> Block
         nlines: (word0 % 0x1_0000) as u16,
         nlocals: (word1 / 0x1_0000) as u16,
         ncode: (word1 % 0x1_0000) as u16,
-    };
-    Block {
-        start: start,
-        header: header,
     }
 }
 

@@ -1,10 +1,12 @@
 // Tests 11 and 12: what refuses a procedure segment, told before anything is read through it.
 ghost use mathlib.Core.Path.{_≡_};
-ghost use Rattle.procedure.specs.Refusal.{lengthRefused, entriesRefused, headerFault, functionFault, functionsFault, contentsFault, faultOf, procedureRefusal, refusalNumber};
-ghost use Rattle.procedure.specs.Directory.{startOf, lengthOf};
+ghost use Rattle.procedure.specs.Refusal.{lengthRefused, entriesRefused, resultLacksLocal, headerFault, functionFault, functionsFault, contentsFault, faultOf, procedureRefusal, refusalNumber};
 use crate::bytes::word_at;
 use crate::directory::entries;
-use crate::header::block_at;
+use crate::directory::length_of;
+use crate::directory::start_of;
+use crate::header::Header;
+use crate::header::header_at;
 
 // What is wrong with a function: where its block starts or ends, how long it is, or its header.
 pub enum FunctionFault {
@@ -70,7 +72,10 @@ pub fn length_refused(p: &[u8]) -> bool
     if 32768 < p.len() {
         return true;
     }
-    p.len() % 4 != 0
+    if p.len() % 4 == 0 {
+        return false;
+    }
+    true
 }
 
 // The directory, then function after function.
@@ -83,9 +88,10 @@ fn contents_fault(p: &[u8]) -> Fault
     let end = entries(p);
     let mut k = 1;
     while k < end {
-        if let Fault::Function(number, wrong) = function_fault(p, k) {
-            return Fault::Function(number, wrong);
-        }
+        let found = function_fault(p, k);
+        let Fault::Nothing = found else {
+            return found;
+        };
         k += 1;
     }
     Fault::Nothing
@@ -112,10 +118,9 @@ fn entries_refused(p: &[u8]) -> bool
 fn function_fault(p: &[u8], k: u16) -> Fault
     ensures { λ r. ⌜ r ≡ functionFault (now (p .entry)) k ⌝ }
 {
-    let entry = word_at(p, 4 * k as u32);
-    let start = entry / 0x1_0000;
-    let length = entry % 0x1_0000;
-    if start < entries(p) as u32 {
+    let start = start_of(p, k);
+    let length = length_of(p, k);
+    if start < entries(p) {
         return Fault::Function(k, FunctionFault::Start);
     }
     if p.len() < 4 * (start as usize + length as usize) {
@@ -124,35 +129,37 @@ fn function_fault(p: &[u8], k: u16) -> Fault
     if length < 2 {
         return Fault::Function(k, FunctionFault::Length);
     }
-    header_fault(p, k)
+    header_fault(k, header_at(p, start), word_at(p, 4 * start as u32), length)
 }
 
-// The header of function k.
-fn header_fault(p: &[u8], k: u16) -> Fault
-    ensures { λ r. ⌜ r ≡ headerFault (now (p .entry)) k ⌝ }
+// Function k's header, beside its word 0 and the length in the directory.
+fn header_fault(k: u16, h: Header, word0: u32, length: u16) -> Fault
+    ensures { λ r. ⌜ r ≡ headerFault k h word0 length ⌝ }
 {
-    let entry = word_at(p, 4 * k as u32);
-    let at = entry / 0x1_0000 * 4;
-    let word0 = word_at(p, at);
-    let word1 = word_at(p, at + 4);
-    let nargs = word0 / 0x1_0000 % 0x100;
-    let nlocals = word1 / 0x1_0000;
     if 0 < word0 / 0x100_0000 % 0x20 {
         return Fault::Function(k, FunctionFault::UnnamedBits);
     }
-    if 15 < nargs {
+    if 15 < h.nargs {
         return Fault::Function(k, FunctionFault::Arguments);
     }
-    if word0 / 0x2000_0000 % 2 == 1 {
-        if nlocals < 1 {
-            return Fault::Function(k, FunctionFault::ResultLocal);
-        }
+    if lacks_local(h.result, h.nlocals) {
+        return Fault::Function(k, FunctionFault::ResultLocal);
     }
-    if 4096 < nargs + nlocals {
+    if 4096 < h.nargs as u32 + h.nlocals as u32 {
         return Fault::Function(k, FunctionFault::Variables);
     }
-    if entry % 0x1_0000 == 2 + word1 % 0x1_0000 + (word0 % 0x1_0000 + 1) / 2 {
+    if length as u32 == 2 + h.ncode as u32 + (h.nlines as u32 + 1) / 2 {
         return Fault::Nothing;
     }
     Fault::Function(k, FunctionFault::Length)
+}
+
+// RESULT needs a local to take the result from.
+fn lacks_local(result: bool, nlocals: u16) -> bool
+    ensures { λ r. ⌜ r ≡ resultLacksLocal result nlocals ⌝ }
+{
+    if result {
+        return nlocals < 1;
+    }
+    false
 }

@@ -3,3 +3,4 @@ pub mod State
 pub mod Blocks
 pub mod Parts
 pub mod Stack
+pub mod Cells

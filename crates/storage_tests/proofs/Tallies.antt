@@ -23,9 +23,6 @@ zeros (suc n) (suc x) = zeros n x
 pub fresh : (n m : ℕ) → m ≤ n → Clear (replicate n 0) m
 fresh n m l = record { long = omega (arith, length-replicate {A = ℕ} n 0); empty = zeros n }
 
-pub hit-other : (x y : ℕ) → (x ≡ y → ⊥) → hit x y ≡ 0
-hit-other x y d = ⊎-elim (λ e. absurd (d (e .0))) (λ e. e .1) (hit-cases x y)
-
 -- what is not 0 stands in the table
 pub inside-table : (table : List ℕ) (a : ℕ) → 0 < getD table a 0 → a < length table
 inside-table table a h =

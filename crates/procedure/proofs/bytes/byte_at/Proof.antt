@@ -1,20 +1,8 @@
+use lib.ListN.{List·getD-eq-default}
+use mathlib.Core.Path.{sym}
 use borrow.Author.Needs.{needs}
 use Rattle.procedure.proofs.bytes.byte_at.Statement.{statement}
 use Rattle.procedure.proofs.bytes.byte_at.Tie as tie
-use Rattle.procedure.proofs.bytes.byte_at.Reads as reads
-use Rattle.procedure.proofs.bytes.byte_at.Lts as lts
-
--- src/bytes.rt:10:16
-shared-slice-read-result : tie.Need-shared-slice-read-result
-shared-slice-read-result c = search needs
-
--- src/bytes.rt:10:9
-returns : tie.Need-returns
-returns c = search needs
-
--- src/bytes.rt:6:1
-returns-2 : tie.Need-returns-2
-returns-2 c = ?
 
 pub byte-at-spec : {M : Type 1} → statement M
-byte-at-spec = tie.close (tie.spec shared-slice-read-result returns returns-2)
+byte-at-spec = tie.close (tie.spec (λ c. search needs) (λ c. search needs) (λ c. sym (List·getD-eq-default (c .before .args .p .now) 0 (c .if1 .left))))

@@ -1,75 +1,35 @@
+use Rattle.procedure.proofs.Faults.{Faulty, at-fault, past-sound, none-left}
+use Rattle.procedure.specs.Refusal.{functionsFault}
+use Rattle.procedure.specs.declared.refusal.Fault.{Fault}
+use borrow.Author.Needs.{needs}
+use native.Mathlib.Omega.{arith}
+use Prim.Native.Nat.{_-_}
+use mathlib.Core.Path.{_≡_, refl, sym, _∙_, subst}
+use Rattle.procedure.specs.Refusal.{contentsFault}
 use Rattle.procedure.proofs.refusal.contents_fault.Statement.{statement}
 use Rattle.procedure.proofs.refusal.contents_fault.Tie as tie
-use Rattle.procedure.proofs.refusal.contents_fault.Reads as reads
-use Rattle.procedure.proofs.refusal.contents_fault.Lts as lts
-use Rattle.procedure.proofs.directory.entries.Reads as entries-reads
-use Rattle.procedure.proofs.refusal.entries_refused.Reads as entries-refused-reads
-use Rattle.procedure.proofs.refusal.function_fault.Reads as function-fault-reads
 
 abbrev Inv-loop : tie.InvT-loop
-Inv-loop p end k₀ k = ?
+Inv-loop p end k₀ k = functionsFault (end - k) p k ≡ functionsFault (end - 1) p 1
 
 abbrev μ-loop : tie.MeasureT-loop
-μ-loop p end k₀ k = ?
-
--- src/refusal.rt:80:8
-entries-refused-requires : tie.Need-entries-refused-requires Inv-loop μ-loop
-entries-refused-requires c κs = ?
-
--- src/refusal.rt:81:9
-returns : tie.Need-returns Inv-loop μ-loop
-returns c = ?
-
--- src/refusal.rt:83:9
-entries-requires : tie.Need-entries-requires Inv-loop μ-loop
-entries-requires c κs = ?
-
--- src/refusal.rt:85:5
-loop-holds : tie.Need-loop-holds Inv-loop μ-loop
-loop-holds c = ?
-
--- src/refusal.rt:86:49
-function-fault-requires : tie.Need-function-fault-requires Inv-loop μ-loop
-function-fault-requires c κs = ?
-
--- src/refusal.rt:86:32
-enum-known-number : tie.Need-enum-known-number Inv-loop μ-loop
-enum-known-number c = ?
-
--- src/refusal.rt:87:13
-returns-2 : tie.Need-returns-2 Inv-loop μ-loop
-returns-2 c = ?
-
--- src/refusal.rt:89:9
-add-k : tie.Need-add-k Inv-loop μ-loop
-add-k c = ?
-
--- src/refusal.rt:85:5
-loop-less : tie.Need-loop-less Inv-loop μ-loop
-loop-less c = ?
-
--- src/refusal.rt:85:5
-loop-again : tie.Need-loop-again Inv-loop μ-loop
-loop-again c = ?
-
--- src/refusal.rt:77:1
-returns-3 : tie.Need-returns-3 Inv-loop μ-loop
-returns-3 c = ?
+μ-loop p end k₀ k = end - k
 
 pub contents-fault-spec : {M : Type 1} → statement M
+unfolding contentsFault
 contents-fault-spec =
     tie.close
     (tie.spec
     Inv-loop
     μ-loop
-    entries-refused-requires
-    returns
-    entries-requires
-    loop-holds
-    function-fault-requires
-    enum-known-number
-    returns-2
-    add-k
-    loop-less
-    loop-again
-    returns-3)
+    (λ c κs. search needs)
+    (λ c. simp (← c .before .entries-refused .ensures, c .if1 .taken))
+    (λ c κs. search needs)
+    (λ c. refl)
+    (λ c κs. search needs)
+    (λ c. search needs)
+    (λ c. simp (← c .before .before .before .before .before .before .entries-refused .ensures, c .before .before .before .before .before .if1 .left, ← c .before .before .before .before .entries .ensures) (c .before .function-fault .ensures ∙ sym (at-fault _ _ _ (c .before .before .loop-test .taken) (subst (λ (f : Fault). Faulty f) (c .before .function-fault .ensures) (c .match .keys2))) ∙ c .before .before .before .loop .inv))
+    (λ c. omega arith)
+    (λ c. omega arith)
+    (λ c. sym (past-sound _ _ _ (c .before .before .before .loop-test .taken) (sym (c .before .before .function-fault .ensures) ∙ c .enum-told .given .1)) ∙ c .before .before .before .before .loop .inv)
+    (λ c. simp (← c .before .before .before .before .entries-refused .ensures, c .before .before .before .if1 .left, ← c .before .before .entries .ensures) (sym (none-left _ _ _ (c .loop-test .left)) ∙ c .before .loop .inv)))
