@@ -1,0 +1,2 @@
+// Loops over the element words of arrays: parts of lent slices, with proved indices.
+pub mod copies;
