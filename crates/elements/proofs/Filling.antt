@@ -1,13 +1,14 @@
--- A loop that writes a list word by word.
-use Prim.Native.Nat.{ℕ, zero, suc, _+_, _-_, _*_, _≤_, _<_}
-use native.Mathlib.Nat.{le-of-suc-le-suc, not-suc-le-zero, add-zero, add-suc, suc-add, suc-mul, add-assoc, le-of-lt, zero-add, zero-mul, add-comm}
+-- Loops that write a list: word by word, or by copies of a part.
+use Prim.Native.Nat.{ℕ, zero, suc, _+_, _-_, _*_, _≤_, _<_, min}
+use native.Mathlib.Nat.{le-of-suc-le-suc, not-suc-le-zero, add-zero, add-suc, suc-add, suc-mul, add-assoc, le-of-lt, zero-add, zero-mul, mul-one, add-comm, eq-zero-or-pos}
+use mathlib.Core.Logic.{⊎-elim}
 use native.Mathlib.Numerals.{add-one}
 use native.Mathlib.Omega.{arith}
 use mathlib.Core.Path.{_≡_, refl, sym, ap, _∙_}
 use mathlib.Core.List.{List, [], _∷_, _++_, append-assoc, append-nil}
-use lib.ListN.{length, getD, take, drop, set, length-append, length-take, length-drop, length-set, List·getD-append, drop-of-length-le}
-use borrow.Rule.Slice.PartMut.{putMid}
-use lib.Seq.{take-append-seam, drop-append-seam, set-at, take-suc, drop-cons, append-snoc, length-take-le, take-length, drop-length, getD-take, getD-append-add}
+use lib.ListN.{length, getD, take, drop, set, replicate, length-replicate, getD-replicate, length-append, length-take, length-drop, length-set, List·getD-append, drop-of-length-le}
+use borrow.Rule.Slice.PartMut.{putMid, post-is}
+use lib.Seq.{ext-getD, take-at, take-add, drop-append-add, drop-drop, getD-drop, set-at, take-suc, drop-cons, append-snoc, length-take-le, take-length, drop-length, getD-take, getD-append-add}
 use Rattle.manual.specs.Values.{cycle, copies, upFrom}
 
 -- the first i words of d are those of goal, and the rest are those of d₀
@@ -33,6 +34,28 @@ filled-all {goal} {d₀} {d} {i} f hg hd =
     f .so-far ∙ ap (λ (k : ℕ). take k goal ++ drop i d₀) (sym hg) ∙ ap (λ (k : ℕ). take (length goal) goal ++ drop k d₀) (sym hd)
     ∙ rw (take-length goal, drop-length d₀) (append-nil goal)
 
+-- a part is written by one copy
+pub filled-part : {goal d₀ d part : List ℕ} {i e : ℕ} → Filled goal d₀ d i → i ≤ e → e ≤ length goal → part ≡ take (e - i) (drop i goal) → Filled goal d₀ (putMid i (e - i) d part) e
+filled-part {goal} {d₀} {d} {part} {i} {e} f h g p =
+    record {
+      so-far =
+          rw (f .so-far, post-is i e (take i goal ++ drop i d₀) h, take-at (take i goal) (drop i d₀) i front, p)
+          (ap (λ (l : List ℕ). take i goal ++ (take (e - i) (drop i goal) ++ l)) behind
+          ∙ sym (append-assoc (take i goal) (take (e - i) (drop i goal)) (drop e d₀))
+          ∙ ap (λ (l : List ℕ). l ++ drop e d₀) (sym (take-add i (e - i) goal) ∙ ap (λ (k : ℕ). take k goal) sum));
+    }
+  where
+    front : length (take i goal) ≡ i
+    front = length-take-le i goal (omega arith)
+
+    sum : i + (e - i) ≡ e
+    sum = omega arith
+
+    behind : drop e (take i goal ++ drop i d₀) ≡ drop e d₀
+    behind =
+        ap (λ (k : ℕ). drop k (take i goal ++ drop i d₀)) (sym (ap (λ (k : ℕ). k + (e - i)) front ∙ sum))
+        ∙ drop-append-add (take i goal) (drop i d₀) (e - i) ∙ drop-drop (e - i) i d₀ ∙ ap (λ (k : ℕ). drop k d₀) sum
+
 -- ---- copies
 
 pub length-copies : (k : ℕ) (r : List ℕ) → length (copies k r) ≡ k * length r
@@ -47,35 +70,73 @@ getD-copies (suc k) (suc q) j r h l =
     ∙ getD-append-add r (copies k r) (q * length r + j) 0
     ∙ getD-copies k q j r (le-of-suc-le-suc h) l
 
--- the loop's place in the source: i is q rounds and j
-pub record Round (i j : ℕ) (r : List ℕ) : Type 0 where
-  pub rounds : ℕ
-  pub is : i ≡ rounds * length r + j
-  pub below : j < length r
+-- i is some rounds and j
+record Round (i j : ℕ) (r : List ℕ) : Type 0 where
+  rounds : ℕ
+  is : i ≡ rounds * length r + j
+  below : j < length r
 
 le-times : (q m : ℕ) → 0 < m → q ≤ q * m
 le-times zero m h = omega arith
 le-times (suc q) m h = rw (suc-mul q m) (omega (arith, le-times q m h))
 
-pub length-cycle : (n : ℕ) (r : List ℕ) → 0 < length r → length (cycle n r) ≡ n
-unfolding cycle
-length-cycle n r h = length-take-le n (copies n r) (rw (length-copies n r) (le-times n (length r) h))
+-- where there is something to write there is something to take
+pub filled-from : {n : ℕ} (r : List ℕ) → (length r ≡ 0 → n ≡ 0) → 0 < n → 0 < length r
+filled-from {n} r h l = ⊎-elim (λ (e : length r ≡ 0). absurd (omega (arith, h e))) (λ (e : 0 < length r). e) (eq-zero-or-pos (length r))
 
-pub cycle-at : {n i j : ℕ} {r : List ℕ} → i < n → Round i j r → getD r j 0 ≡ getD (cycle n r) i 0
+length-cycle-some : (n : ℕ) (r : List ℕ) → 0 < length r → length (cycle n r) ≡ n
+unfolding cycle
+length-cycle-some n r h = length-take-le n (copies n r) (rw (length-copies n r) (le-times n (length r) h))
+
+length-cycle-none : (r : List ℕ) → length (cycle 0 r) ≡ 0
+unfolding cycle
+length-cycle-none r = refl
+
+-- of nothing there is no cycle
+pub length-cycle : (n : ℕ) (r : List ℕ) → (length r ≡ 0 → n ≡ 0) → length (cycle n r) ≡ n
+length-cycle zero r h = length-cycle-none r
+length-cycle (suc n) r h = length-cycle-some (suc n) r (filled-from r h (omega arith))
+
+cycle-at : {n i j : ℕ} {r : List ℕ} → i < n → Round i j r → getD r j 0 ≡ getD (cycle n r) i 0
 unfolding cycle
 cycle-at {n} {i} {j} {r} h p =
     let b : p .rounds ≤ p .rounds * length r = le-times (p .rounds) (length r) (omega (arith, p .below)) in
     let e = p .is in
     sym (getD-take n (copies n r) i 0 h ∙ ap (λ (m : ℕ). getD (copies n r) m 0) e ∙ getD-copies n (p .rounds) j r (omega arith) (p .below))
 
-pub round-start : {r : List ℕ} → 0 < length r → Round 0 0 r
-round-start {r} h = record { rounds = 0; is = rw (zero-mul (length r)) (omega arith); below = h }
+-- one word, round and round
+pub cycle-single : (n : ℕ) (r : List ℕ) → length r ≡ 1 → replicate n (getD r 0 0) ≡ cycle n r
+cycle-single n r h =
+    ext-getD 0 (replicate n (getD r 0 0)) (cycle n r) (length-replicate n (getD r 0 0) ∙ sym (length-cycle-some n r (omega arith)))
+    (λ i l. at i (rw (length-replicate n (getD r 0 0)) at l))
+  where
+    at : (i : ℕ) → i < n → getD (replicate n (getD r 0 0)) i 0 ≡ getD (cycle n r) i 0
+    at i l = getD-replicate n i (getD r 0 0) 0 l ∙ cycle-at l (record { rounds = i; is = rw (h, mul-one i) (sym (add-zero i)); below = omega arith })
 
-pub round-on : {i j : ℕ} {r : List ℕ} → Round i j r → (j + 1 ≡ length r → ⊥) → Round (i + 1) (j + 1) r
-round-on p h = record { rounds = p .rounds; is = omega (arith, p .is); below = omega (arith, p .below) }
+-- i is whole rounds, or the end
+pub record Rounds (i n : ℕ) (r : List ℕ) : Type 0 where
+  pub rounds : ℕ
+  pub is : i < n → i ≡ rounds * length r
 
-pub round-over : {i j : ℕ} {r : List ℕ} → Round i j r → j + 1 ≡ length r → Round (i + 1) 0 r
-round-over {r = r} p h = record { rounds = suc (p .rounds); is = rw (suc-mul (p .rounds) (length r)) (omega (arith, p .is)); below = omega arith }
+pub rounds-start : {n : ℕ} {r : List ℕ} → Rounds 0 n r
+rounds-start {n} {r} = record { rounds = 0; is = λ h. sym (zero-mul (length r)) }
+
+pub rounds-on : {i n c : ℕ} {r : List ℕ} → Rounds i n r → i < n → c ≡ min (length r) (n - i) → Rounds (i + c) n r
+rounds-on {i} {n} {c} {r} p h e = record { rounds = suc (p .rounds); is = λ k. rw (suc-mul (p .rounds) (length r)) (omega (arith, p .is h)) }
+
+-- the words of a round are the source's
+pub round-is : {i n c : ℕ} {r : List ℕ} → Rounds i n r → i < n → (length r ≡ 0 → n ≡ 0) → c ≡ min (length r) (n - i) → take c (drop i (cycle n r)) ≡ take c r
+round-is {i} {n} {c} {r} p h s e =
+    ext-getD 0 (take c (drop i (cycle n r))) (take c r) (long ∙ sym (length-take-le c r (omega arith))) (λ j l. at j (rw long at l))
+  where
+    long : length (take c (drop i (cycle n r))) ≡ c
+    long = length-take-le c (drop i (cycle n r)) (rw (length-drop i (cycle n r), length-cycle n r s) (omega arith))
+
+    at : (j : ℕ) → j < c → getD (take c (drop i (cycle n r))) j 0 ≡ getD (take c r) j 0
+    at j l =
+        getD-take c (drop i (cycle n r)) j 0 l ∙ getD-drop i (cycle n r) j 0
+        ∙ sym (cycle-at {n = n} {i = i + j} {j = j} {r = r} (omega arith) (record { rounds = p .rounds; is = omega (arith, p .is h); below = omega arith }))
+        ∙ sym (getD-take c r j 0 l)
 
 -- ---- numbers that follow one another
 
