@@ -1,19 +1,19 @@
 -- Loops that write the results of elements: the results so far, and the first trap.
-use Prim.Native.Nat.{ℕ, zero, suc, _+_, _-_, _≤_, _<_, min}
+use Prim.Native.Nat.{ℕ, zero, suc, _+_, _-_, _<_}
 use native.Mathlib.Nat.{le-of-suc-le-suc, not-suc-le-zero}
 use native.Mathlib.Numerals.{add-one}
 use native.Mathlib.Omega.{arith}
 use mathlib.Core.Path.{_≡_, refl, sym, ap, _∙_}
-use mathlib.Core.Bool.{Bool, true, false, cond}
+use mathlib.Core.Bool.{Bool, true, false}
 use mathlib.Core.List.{List, [], _∷_, _++_, append-assoc, append-nil, map}
 use lib.Dec.{eqb}
 use borrow.Author.Tests.{eq-eqb, ne-eqb, eqb-true, eqb-false}
-use lib.ListN.{length, getD, take, drop, set, replicate, length-replicate, getD-replicate, length-take, length-drop, length-set}
-use lib.Seq.{take-suc-set, drop-cons, take-all}
+use lib.ListN.{length, getD, take, drop, set, length-replicate, getD-replicate}
+use lib.Seq.{take-suc-set, drop-cons}
 use Rattle.manual.specs.OrTrap.{OrTrap, gives, trap, andThen}
 use Rattle.elements.specs.Answers.{Paired}
 use Rattle.elements.specs.Parts.{Spans, Operands}
-use Rattle.manual.specs.Values.{collect, each, zip, spread, isSingle, extent, pairwise}
+use Rattle.manual.specs.Values.{collect, zip, spread, isSingle, extent, pairwise}
 
 -- words, then what is left
 abbrev pub joined : List ℕ → OrTrap (List ℕ) → OrTrap (List ℕ)

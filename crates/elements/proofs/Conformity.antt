@@ -1,15 +1,15 @@
 -- Operands that conform are paired, and the result has as many elements as its shape says.
 use Prim.Native.Nat.{ℕ}
 use mathlib.Core.Path.{_≡_, refl, sym, ap, _∙_}
-use mathlib.Core.Bool.{Bool, true, false, cond, not, _&&_}
+use mathlib.Core.Bool.{Bool, true, false, not}
 use mathlib.Core.List.{List, [], _∷_}
-use lib.Dec.{eqb, ltb}
-use borrow.Author.Tests.{eqb-true, eq-eqb, ne-eqb}
+use lib.Dec.{eqb}
+use borrow.Author.Tests.{eqb-true, ne-eqb}
 use native.Mathlib.Omega.{arith}
 use lib.ListN.{length}
 use Rattle.segment.specs.Blocks.{product}
-use Rattle.manual.specs.OrTrap.{OrTrap, gives, trap, stopIf}
-use Rattle.manual.specs.Values.{same, conform, extent, isSingle}
+use Rattle.manual.specs.OrTrap.{gives, trap, stopIf}
+use Rattle.manual.specs.Values.{same, conform}
 use Rattle.elements.specs.Answers.{Paired}
 
 pub same-is : (xs ys : List ℕ) → same xs ys ≡ true → xs ≡ ys

@@ -1,12 +1,12 @@
 -- Loops that write a list: word by word, or by copies of a part.
 use Prim.Native.Nat.{ℕ, zero, suc, _+_, _-_, _*_, _≤_, _<_, min}
-use native.Mathlib.Nat.{le-of-suc-le-suc, not-suc-le-zero, add-zero, add-suc, suc-add, suc-mul, add-assoc, le-of-lt, zero-add, zero-mul, mul-one, add-comm, eq-zero-or-pos}
+use native.Mathlib.Nat.{le-of-suc-le-suc, not-suc-le-zero, add-zero, suc-mul, le-of-lt, zero-add, zero-mul, mul-one, add-comm, eq-zero-or-pos, add-sub-cancel-left}
 use mathlib.Core.Logic.{⊎-elim}
 use native.Mathlib.Numerals.{add-one}
 use native.Mathlib.Omega.{arith}
 use mathlib.Core.Path.{_≡_, refl, sym, ap, _∙_}
-use mathlib.Core.List.{List, [], _∷_, _++_, append-assoc, append-nil}
-use lib.ListN.{length, getD, take, drop, set, replicate, length-replicate, getD-replicate, length-append, length-take, length-drop, length-set, List·getD-append, drop-of-length-le}
+use mathlib.Core.List.{List, _++_, append-assoc, append-nil}
+use lib.ListN.{length, getD, take, drop, set, replicate, length-replicate, getD-replicate, length-append, length-drop, List·getD-append}
 use borrow.Rule.Slice.PartMut.{putMid, post-is}
 use lib.Seq.{ext-getD, take-at, take-add, drop-append-add, drop-drop, getD-drop, set-at, take-suc, drop-cons, append-snoc, length-take-le, take-length, drop-length, getD-take, getD-append-add}
 use Rattle.manual.specs.Values.{cycle, copies, upFrom}
@@ -125,18 +125,23 @@ pub rounds-on : {i n c : ℕ} {r : List ℕ} → Rounds i n r → i < n → c �
 rounds-on {i} {n} {c} {r} p h e = record { rounds = suc (p .rounds); is = λ k. rw (suc-mul (p .rounds) (length r)) (omega (arith, p .is h)) }
 
 -- the words of a round are the source's
-pub round-is : {i n c : ℕ} {r : List ℕ} → Rounds i n r → i < n → (length r ≡ 0 → n ≡ 0) → c ≡ min (length r) (n - i) → take c (drop i (cycle n r)) ≡ take c r
+pub round-is : {i n c : ℕ} {r : List ℕ} → Rounds i n r → i < n → (length r ≡ 0 → n ≡ 0) → c ≡ min (length r) (n - i) → take c r ≡ take (i + c - i) (drop i (cycle n r))
 round-is {i} {n} {c} {r} p h s e =
-    ext-getD 0 (take c (drop i (cycle n r))) (take c r) (long ∙ sym (length-take-le c r (omega arith))) (λ j l. at j (rw long at l))
+    rw (add-sub-cancel-left i c)
+    (ext-getD 0 (take c r) (take c (drop i (cycle n r))) (length-take-le c r (omega arith) ∙ sym long) (λ j l. at j (rw (length-take-le c r (omega arith)) at l)))
   where
     long : length (take c (drop i (cycle n r))) ≡ c
     long = length-take-le c (drop i (cycle n r)) (rw (length-drop i (cycle n r), length-cycle n r s) (omega arith))
 
-    at : (j : ℕ) → j < c → getD (take c (drop i (cycle n r))) j 0 ≡ getD (take c r) j 0
+    at : (j : ℕ) → j < c → getD (take c r) j 0 ≡ getD (take c (drop i (cycle n r))) j 0
     at j l =
-        getD-take c (drop i (cycle n r)) j 0 l ∙ getD-drop i (cycle n r) j 0
-        ∙ sym (cycle-at {n = n} {i = i + j} {j = j} {r = r} (omega arith) (record { rounds = p .rounds; is = omega (arith, p .is h); below = omega arith }))
-        ∙ sym (getD-take c r j 0 l)
+        getD-take c r j 0 l
+        ∙ cycle-at {n = n} {i = i + j} {j = j} {r = r} (omega arith) (record { rounds = p .rounds; is = omega (arith, p .is h); below = omega arith })
+        ∙ sym (getD-take c (drop i (cycle n r)) j 0 l ∙ getD-drop i (cycle n r) j 0)
+
+-- a round fits its part
+pub round-fits : (c i : ℕ) (r d : List ℕ) → c ≤ length r → i + c ≤ length d → length (take c r) ≡ length (take (i + c - i) (drop i d))
+round-fits c i r d h k = rw (add-sub-cancel-left i c) (length-take-le c r h ∙ sym (length-take-le c (drop i d) (rw (length-drop i d) (omega arith))))
 
 -- ---- numbers that follow one another
 

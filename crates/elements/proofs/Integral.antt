@@ -4,7 +4,7 @@ use native.Mathlib.Nat.{mod-eq-of-lt, lt-of-le-of-lt, le-of-lt, mul-le-mul-left,
 use lib.Pow.{pow-pos}
 use native.Mathlib.Omega.{arith}
 use mathlib.Core.Path.{_≡_, refl, sym, ap, ap₂, _∙_}
-use mathlib.Core.Bool.{Bool, false, cond, _||_}
+use mathlib.Core.Bool.{false, _||_}
 use lib.Dec.{eqb}
 use borrow.Author.Tests.{eq-eqb, ne-eqb, lt-ltb}
 use Rattle.descriptor.specs.Fields.{sign, magnitude, isCharacter}

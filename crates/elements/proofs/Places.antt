@@ -1,5 +1,5 @@
 -- Loops over subscripts: the worst fault, and the place in the ravel, summed from the left.
-use Prim.Native.Nat.{ℕ, zero, suc, _+_, _-_, _*_, _/_, _%_, _^_, _≤_, _<_, max}
+use Prim.Native.Nat.{ℕ, suc, _+_, _-_, _*_, _/_, _%_, _≤_, _<_, max}
 use native.Mathlib.Nat.{mul-le-mul-right, mul-le-mul-left, add-mul, mul-assoc, mul-one, one-mul, zero-mul, zero-add, add-zero, add-assoc}
 use native.Mathlib.Numerals.{add-one}
 use native.Mathlib.Omega.{arith}
@@ -8,7 +8,7 @@ use mathlib.Core.Path.{_≡_, refl, sym, ap, _∙_}
 use mathlib.Core.Bool.{Bool, true, false, cond, not, _&&_, _||_}
 use mathlib.Core.List.{List, [], _∷_}
 use lib.Dec.{ltb, leb, eqb}
-use borrow.Author.Tests.{lt-ltb, le-ltb, le-leb, lt-leb, ltb-true, leb-true}
+use borrow.Author.Tests.{lt-ltb, le-ltb, ltb-true, leb-true}
 use lib.ListN.{length, getD, drop, length-drop}
 use lib.Seq.{drop-cons, drop-length}
 use Rattle.descriptor.specs.Fields.{sign, isCharacter}
@@ -17,7 +17,7 @@ use Rattle.scalar.specs.declared.Whole.{Whole}
 use Rattle.scalar.specs.declared.Whole.the-variants as W
 use Rattle.scalar.specs.Reading.{wholeOf, wholeUnits, wholeNumber}
 use Rattle.segment.specs.Blocks.{product}
-use Rattle.manual.specs.OrTrap.{OrTrap, gives, trap}
+use Rattle.manual.specs.OrTrap.{gives, trap}
 use Rattle.manual.specs.Values.{any, isFraction, inRange, inRanges, offset, placeOf, place}
 use Rattle.elements.specs.Parts.{faultOf, worstOf}
 

@@ -10,7 +10,12 @@ ghost use Rattle.manual.specs.OrTrap.{gives};
 ghost use Rattle.manual.specs.Values as values;
 ghost use Rattle.elements.specs.Parts.{Operands};
 use crate::dyadic::pick;
-use crate::words::{difference_word, is_zero, oddness, product_oddness, product_word, sum_word};
+use crate::words::difference_word;
+use crate::words::is_zero;
+use crate::words::oddness;
+use crate::words::product_oddness;
+use crate::words::product_word;
+use crate::words::sum_word;
 use operator::Dyadic;
 use segment::word;
 

@@ -1,17 +1,11 @@
-use Prim.Native.Nat.{ℕ, _≤_, _<_, _-_, _+_, _*_, _^_}
-use mathlib.Core.Path.{_≡_, refl, sym, ap, _∙_}
-use mathlib.Core.Bool.{true, false}
+use Prim.Native.Nat.{_≤_, _-_}
+use mathlib.Core.Path.{_≡_, refl, _∙_}
 use native.Mathlib.Omega.{arith}
-use borrow.Author.Needs.{needs}
-use borrow.Author.Tests.{lt-ltb, le-ltb, le-leb, lt-leb, eq-eqb, ne-eqb, not-true, not-false}
-use lib.ListN.{length, length-set, replicate, length-replicate, getD-replicate}
-use Rattle.manual.specs.Values.{cycle, upFrom}
-use Rattle.elements.proofs.Filling.{Filled, begun, filled-on, filled-part, filled-all, Rounds, rounds-start, rounds-on, round-is, filled-from, length-cycle, cycle-single, length-upFrom, getD-upFrom}
-use lib.Seq.{length-take-le}
+use lib.ListN.{length, length-set}
+use Rattle.manual.specs.Values.{upFrom}
+use Rattle.elements.proofs.Filling.{Filled, begun, filled-on, filled-all, length-upFrom, getD-upFrom}
 use Rattle.elements.proofs.copies.up_from.Statement.{statement}
 use Rattle.elements.proofs.copies.up_from.Tie as tie
-use Rattle.elements.proofs.copies.up_from.Reads as reads
-use Rattle.elements.proofs.copies.up_from.Lts as lts
 
 abbrev Inv-loop : tie.InvT-loop
 Inv-loop k to₀ n i₀ to i = (i ≤ n) × (n ≡ length to₀) × (length to ≡ length to₀) × Filled (upFrom k n) to₀ to i
@@ -19,35 +13,27 @@ Inv-loop k to₀ n i₀ to i = (i ≤ n) × (n ≡ length to₀) × (length to �
 abbrev μ-loop : tie.MeasureT-loop
 μ-loop k to₀ n i₀ to i = n - i
 
--- src/copies.rt:37:5
 loop-holds : tie.Need-loop-holds Inv-loop μ-loop
 loop-holds c = (omega arith, refl, refl, begun)
 
--- src/copies.rt:38:21
 cast-to : tie.Need-cast-to Inv-loop μ-loop
 cast-to c = omega arith
 
--- src/copies.rt:38:17
 add-to : tie.Need-add-to Inv-loop μ-loop
 add-to c = omega arith
 
--- src/copies.rt:38:9
 mul-to : tie.Need-mul-to Inv-loop μ-loop
 mul-to c = omega arith
 
--- src/copies.rt:38:9
 slice-write-to : tie.Need-slice-write-to Inv-loop μ-loop
 slice-write-to c = omega arith
 
--- src/copies.rt:39:9
 add-i : tie.Need-add-i Inv-loop μ-loop
 add-i c = omega arith
 
--- src/copies.rt:37:5
 loop-less : tie.Need-loop-less Inv-loop μ-loop
 loop-less c = omega arith
 
--- src/copies.rt:37:5
 loop-again : tie.Need-loop-again Inv-loop μ-loop
 loop-again c = (
   omega arith,
@@ -56,11 +42,9 @@ loop-again c = (
   filled-on (c .before .loop .inv .3) (rw (length-upFrom _ _) (c .loop-test .taken)) (omega arith) (getD-upFrom _ _ _ (c .loop-test .taken)),
 )
 
--- src/copies.rt:31:1
 same-length : tie.Need-same-length Inv-loop μ-loop
 same-length c = c .before .loop .inv .2
 
--- src/copies.rt:31:1
 returns : tie.Need-returns Inv-loop μ-loop
 returns c = filled-all (c .before .loop .inv .3) (length-upFrom _ _ ∙ omega arith) (omega arith)
 

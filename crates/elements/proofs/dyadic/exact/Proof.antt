@@ -1,22 +1,15 @@
 use Rattle.manual.specs.OrTrap.{OrTrap}
 use Rattle.operator.specs.declared.Dyadic.{Dyadic}
-use Prim.Native.Nat.{ℕ, _≤_, _<_, _-_, _+_, _*_, _^_}
+use Prim.Native.Nat.{ℕ, _≤_, _-_}
 use mathlib.Core.Path.{_≡_, refl, sym, ap, _∙_}
-use mathlib.Core.Bool.{true, false}
 use native.Mathlib.Omega.{arith}
 use borrow.Author.Needs.{needs}
-use borrow.Author.Tests.{lt-ltb, le-ltb, le-leb, lt-leb, eq-eqb, ne-eqb, not-true, not-false}
 use lib.ListN.{length, length-set}
-use Rattle.scalar.specs.Operators.{sum, difference, less, equal, product, dyadicOf, monadicOf}
-use Rattle.manual.specs.Values.{answered, each, pairwise, zip, spread}
-use Rattle.elements.proofs.Collecting.{Written, start, trapped, word, ended, pair-at, pairs-are, length-pairs, spans-below, fast-on, fast-end, each-at, length-each, spread-one, spread-all}
-use Rattle.elements.proofs.Integral.{difference-by, less-by, equal-by}
+use Rattle.scalar.specs.Operators.{dyadicOf}
+use Rattle.manual.specs.Values.{answered, zip, spread}
+use Rattle.elements.proofs.Collecting.{Written, start, trapped, word, ended, pair-at, pairs-are, length-pairs, spans-below}
 use Rattle.elements.proofs.dyadic.exact.Statement.{statement}
 use Rattle.elements.proofs.dyadic.exact.Tie as tie
-use Rattle.elements.proofs.dyadic.exact.Reads as reads
-use Rattle.elements.proofs.dyadic.exact.Lts as lts
-use Rattle.elements.proofs.dyadic.pick.Reads as pick-reads
-use Rattle.scalar.proofs.dyadic.Reads as dyadic-reads
 
 -- what is done with a pair of elements
 abbrev applied : Dyadic → ℕ → ℕ → OrTrap ℕ
@@ -28,45 +21,35 @@ Inv-loop operator a b n out₀ i₀ out i = (i ≤ n) × (length out ≡ length 
 abbrev μ-loop : tie.MeasureT-loop
 μ-loop operator a b n out₀ i₀ out i = n - i
 
--- src/dyadic.rt:42:5
 loop-holds : tie.Need-loop-holds Inv-loop μ-loop
 loop-holds c = (omega arith, refl, start)
 
--- src/dyadic.rt:43:42
 pick-requires : tie.Need-pick-requires Inv-loop μ-loop
 pick-requires c κs = spans-below (c .before .before .before .before .before .pre .0 .first) (c .loop-test .taken)
 
--- src/dyadic.rt:43:54
 pick-requires-2 : tie.Need-pick-requires-2 Inv-loop μ-loop
 pick-requires-2 c κs = spans-below (c .before .before .before .before .before .before .pre .0 .second) (c .before .loop-test .taken)
 
--- src/dyadic.rt:43:13
 dyadic-requires : tie.Need-dyadic-requires Inv-loop μ-loop
 dyadic-requires c κs = search needs
 
--- src/dyadic.rt:45:26
 enum-known-r : tie.Need-enum-known-r Inv-loop μ-loop
 enum-known-r c = search needs
 
--- src/dyadic.rt:46:17
 mul-out : tie.Need-mul-out Inv-loop μ-loop
 mul-out c = omega arith
 
--- src/dyadic.rt:46:17
 slice-write-out : tie.Need-slice-write-out Inv-loop μ-loop
 slice-write-out c = omega arith
 
--- src/dyadic.rt:48:26
 enum-known-r-2 : tie.Need-enum-known-r-2 Inv-loop μ-loop
 enum-known-r-2 c = search needs
 
--- src/dyadic.rt:49:17
 same-length : tie.Need-same-length Inv-loop μ-loop
 same-length c = c .before .before .before .before .before .before .before .loop .inv .1
 
--- src/dyadic.rt:49:17
 returns : tie.Need-returns Inv-loop μ-loop
-returns c = 
+returns c =
     let o = c .before .before .before in
     let y = o .before in
     let x = y .before in
@@ -78,17 +61,14 @@ returns c =
     (ap answered (sym (o .dyadic .ensures) ∙ c .before .r2 .given .1)))
     ∙ pairs-are f (s .pre .0)
 
--- src/dyadic.rt:52:9
 add-i : tie.Need-add-i Inv-loop μ-loop
 add-i c = omega arith
 
--- src/dyadic.rt:42:5
 loop-less : tie.Need-loop-less Inv-loop μ-loop
 loop-less c = omega arith
 
--- src/dyadic.rt:42:5
 loop-again : tie.Need-loop-again Inv-loop μ-loop
-loop-again c = 
+loop-again c =
     let o = c .before .before .before in
     let y = o .before in
     let x = y .before in
@@ -98,16 +78,14 @@ loop-again c =
       omega arith,
       simp length-set (l .before .loop .inv .1),
       word (l .before .loop .inv .2) (pair-at (applied (s .args .operator)) (s .pre .0) below (x .pick .ensures _ below) (y .pick2 .ensures _ below))
-      (ap answered (sym (o .dyadic .ensures) ∙ c .before .r .given .1)) (omega arith),
+          (ap answered (sym (o .dyadic .ensures) ∙ c .before .r .given .1)) (omega arith),
     )
 
--- src/dyadic.rt:37:1
 same-length-2 : tie.Need-same-length-2 Inv-loop μ-loop
 same-length-2 c = c .before .loop .inv .1
 
--- src/dyadic.rt:37:1
 returns-2 : tie.Need-returns-2 Inv-loop μ-loop
-returns-2 c = 
+returns-2 c =
     let s = c .before .before .before .before .before in
     let f = applied (s .args .operator) in
     sym (ended _ (c .before .loop .inv .2) (length-pairs f (s .pre .0)) (omega arith)) ∙ pairs-are f (s .pre .0)

@@ -1,21 +1,14 @@
-use Prim.Native.Nat.{ℕ, _≤_, _<_, _-_, _+_, _*_, _^_}
-use mathlib.Core.Path.{_≡_, refl, sym, ap, _∙_}
-use mathlib.Core.Bool.{true, false}
+use Prim.Native.Nat.{_≤_, _-_, _*_}
+use mathlib.Core.Path.{_≡_, refl, ap}
 use native.Mathlib.Omega.{arith}
 use borrow.Author.Needs.{needs}
-use borrow.Author.Tests.{lt-ltb, le-ltb, le-leb, lt-leb, eq-eqb, ne-eqb, not-true, not-false}
 use lib.ListN.{length, length-set}
-use Rattle.scalar.specs.Operators.{sum, difference, less, equal, product, dyadicOf, monadicOf}
-use Rattle.manual.specs.Values.{answered, each, pairwise, zip, spread}
-use Rattle.elements.proofs.Collecting.{Written, start, trapped, word, ended, pair-at, pairs-are, length-pairs, spans-below, fast-on, fast-end, each-at, length-each, spread-one, spread-all}
-use Rattle.elements.proofs.Integral.{difference-by, less-by, equal-by}
+use Rattle.scalar.specs.Operators.{difference}
+use Rattle.manual.specs.Values.{answered, zip, spread}
+use Rattle.elements.proofs.Collecting.{Written, start, spans-below, fast-on, fast-end}
+use Rattle.elements.proofs.Integral.{difference-by}
 use Rattle.elements.proofs.integers.difference.Statement.{statement}
 use Rattle.elements.proofs.integers.difference.Tie as tie
-use Rattle.elements.proofs.integers.difference.Reads as reads
-use Rattle.elements.proofs.integers.difference.Lts as lts
-use Rattle.elements.proofs.dyadic.pick.Reads as pick-reads
-use Rattle.elements.proofs.words.difference_word.Reads as difference-word-reads
-use Rattle.elements.proofs.words.oddness.Reads as oddness-reads
 
 abbrev Inv-loop : tie.InvT-loop
 Inv-loop a b n out₀ odd₀ i₀ out odd i = (i ≤ n) × (odd ≤ 1024 * i) × (length out ≡ length out₀) × (odd ≡ 0 → Written (zip (λ x y. answered (difference x y)) (spread n a) (spread n b)) out i)
@@ -23,49 +16,38 @@ Inv-loop a b n out₀ odd₀ i₀ out odd i = (i ≤ n) × (odd ≤ 1024 * i) ×
 abbrev μ-loop : tie.MeasureT-loop
 μ-loop a b n out₀ odd₀ i₀ out odd i = n - i
 
--- src/integers.rt:56:5
 loop-holds : tie.Need-loop-holds Inv-loop μ-loop
 loop-holds c = (omega arith, omega arith, refl, λ z. start)
 
--- src/integers.rt:57:13
 pick-requires : tie.Need-pick-requires Inv-loop μ-loop
 pick-requires c κs = spans-below (c .before .before .before .before .before .pre .0 .first) (c .loop-test .taken)
 
--- src/integers.rt:58:13
 pick-requires-2 : tie.Need-pick-requires-2 Inv-loop μ-loop
 pick-requires-2 c κs = spans-below (c .before .before .before .before .before .before .pre .0 .second) (c .before .loop-test .taken)
 
--- src/integers.rt:59:13
 difference-word-requires : tie.Need-difference-word-requires Inv-loop μ-loop
 difference-word-requires c κs = search needs
 
--- src/integers.rt:60:9
 mul-out : tie.Need-mul-out Inv-loop μ-loop
 mul-out c = omega arith
 
--- src/integers.rt:60:9
 slice-write-out : tie.Need-slice-write-out Inv-loop μ-loop
 slice-write-out c = omega arith
 
--- src/integers.rt:61:16
 oddness-requires : tie.Need-oddness-requires Inv-loop μ-loop
 oddness-requires c κs = search needs
 
--- src/integers.rt:61:9
 add-odd : tie.Need-add-odd Inv-loop μ-loop
 add-odd c = omega arith
 
--- src/integers.rt:62:9
 add-i : tie.Need-add-i Inv-loop μ-loop
 add-i c = omega arith
 
--- src/integers.rt:56:5
 loop-less : tie.Need-loop-less Inv-loop μ-loop
 loop-less c = omega arith
 
--- src/integers.rt:56:5
 loop-again : tie.Need-loop-again Inv-loop μ-loop
-loop-again c = 
+loop-again c =
     let w = c .before in
     let y = w .before in
     let x = y .before in
@@ -76,14 +58,12 @@ loop-again c =
       omega arith,
       simp length-set (l .before .loop .inv .2),
       fast-on (λ x y. answered (difference x y)) (s .pre .0) below (omega arith) (x .pick .ensures _ below) (y .pick2 .ensures _ below)
-      (λ z. let p = c .oddness .ensures .1 z in ap answered (difference-by _ _ _ (p .0) (p .1) (w .difference-word .ensures (p .0) (p .1) (p .2)))) (l .before .loop .inv .3),
+          (λ z. let p = c .oddness .ensures .1 z in ap answered (difference-by _ _ _ (p .0) (p .1) (w .difference-word .ensures (p .0) (p .1) (p .2)))) (l .before .loop .inv .3),
     )
 
--- src/integers.rt:50:1
 same-length : tie.Need-same-length Inv-loop μ-loop
 same-length c = c .before .loop .inv .2
 
--- src/integers.rt:50:1
 returns : tie.Need-returns Inv-loop μ-loop
 returns c = fast-end (λ x y. answered (difference x y)) (c .before .before .before .before .before .pre .0) (omega arith) (c .before .loop .inv .3)
 

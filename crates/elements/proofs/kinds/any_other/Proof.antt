@@ -1,20 +1,13 @@
-use Prim.Native.Nat.{ℕ, _≤_, _<_, _-_, _+_, _*_, _^_}
-use mathlib.Core.Path.{_≡_, refl, sym, ap, _∙_}
-use mathlib.Core.Bool.{true, false}
+use Prim.Native.Nat.{_≤_, _-_}
+use mathlib.Core.Path.{sym, ap, _∙_}
 use native.Mathlib.Omega.{arith}
 use borrow.Author.Needs.{needs}
-use borrow.Author.Tests.{lt-ltb, le-ltb, le-leb, lt-leb, eq-eqb, ne-eqb, not-true, not-false}
 use lib.ListN.{length}
-use Rattle.descriptor.specs.Fields.{isCharacter}
 use Rattle.descriptor.specs.Kinds.{isScalar}
 use mathlib.Core.Bool.{not}
 use Rattle.elements.proofs.Testing.{AnyFrom, any-start, any-hit, any-on, any-none}
 use Rattle.elements.proofs.kinds.any_other.Statement.{statement}
 use Rattle.elements.proofs.kinds.any_other.Tie as tie
-use Rattle.elements.proofs.kinds.any_other.Reads as reads
-use Rattle.elements.proofs.kinds.any_other.Lts as lts
-use Rattle.descriptor.proofs.Descriptor.is_scalar.Reads as is-scalar-reads
-use Rattle.descriptor.proofs.Descriptor.of.Reads as of-reads
 
 abbrev Inv-loop : tie.InvT-loop
 Inv-loop words i₀ i = (i ≤ length words) × AnyFrom (λ w. not (isScalar w)) words i
@@ -22,43 +15,33 @@ Inv-loop words i₀ i = (i ≤ length words) × AnyFrom (λ w. not (isScalar w))
 abbrev μ-loop : tie.MeasureT-loop
 μ-loop words i₀ i = length words - i
 
--- src/kinds.rt:28:5
 loop-holds : tie.Need-loop-holds Inv-loop μ-loop
 loop-holds c = (omega arith, any-start)
 
--- src/kinds.rt:29:28
 mul-of : tie.Need-mul-of Inv-loop μ-loop
 mul-of c = omega arith
 
--- src/kinds.rt:29:28
 shared-slice-read-of : tie.Need-shared-slice-read-of Inv-loop μ-loop
 shared-slice-read-of c = omega arith
 
--- src/kinds.rt:29:13
 of-requires : tie.Need-of-requires Inv-loop μ-loop
 of-requires c κs = search needs
 
--- src/kinds.rt:29:13
 is-scalar-requires : tie.Need-is-scalar-requires Inv-loop μ-loop
 is-scalar-requires c κs = search needs
 
--- src/kinds.rt:30:13
 returns : tie.Need-returns Inv-loop μ-loop
 returns c = any-hit (c .before .before .before .before .before .loop .inv .1) (omega arith) (ap not (ap isScalar (sym (c .before .before .of .ensures)) ∙ sym (c .before .is-scalar .ensures)) ∙ c .if1 .taken)
 
--- src/kinds.rt:32:9
 add-i : tie.Need-add-i Inv-loop μ-loop
 add-i c = omega arith
 
--- src/kinds.rt:28:5
 loop-less : tie.Need-loop-less Inv-loop μ-loop
 loop-less c = omega arith
 
--- src/kinds.rt:28:5
 loop-again : tie.Need-loop-again Inv-loop μ-loop
 loop-again c = (omega arith, any-on (c .before .before .before .before .before .loop .inv .1) (omega arith) (ap not (ap isScalar (sym (c .before .before .of .ensures)) ∙ sym (c .before .is-scalar .ensures)) ∙ c .if1 .left))
 
--- src/kinds.rt:24:1
 returns-2 : tie.Need-returns-2 Inv-loop μ-loop
 returns-2 c = any-none (c .before .loop .inv .1) (omega arith)
 

@@ -1,20 +1,14 @@
-use Prim.Native.Nat.{ℕ, _≤_, _<_, _-_, _+_, _*_, _^_}
+use Prim.Native.Nat.{_≤_, _-_}
 use mathlib.Core.Path.{_≡_, refl, sym, ap, _∙_}
-use mathlib.Core.Bool.{true, false}
 use native.Mathlib.Omega.{arith}
 use borrow.Author.Needs.{needs}
-use borrow.Author.Tests.{lt-ltb, le-ltb, le-leb, lt-leb, eq-eqb, ne-eqb, not-true, not-false}
 use lib.ListN.{length, length-set}
-use Rattle.scalar.specs.Operators.{sum, difference, less, equal, product, dyadicOf, monadicOf}
-use Rattle.manual.specs.Values.{answered, each, pairwise, zip, spread}
-use Rattle.elements.proofs.Collecting.{Written, start, trapped, word, ended, pair-at, pairs-are, length-pairs, spans-below, fast-on, fast-end, each-at, length-each, spread-one, spread-all}
-use Rattle.elements.proofs.Integral.{difference-by, less-by, equal-by}
+use Rattle.scalar.specs.Operators.{monadicOf}
+use Rattle.manual.specs.Values.{answered, each}
+use Rattle.elements.proofs.Collecting.{Written, start, trapped, word, ended, each-at, length-each}
 use mathlib.Core.List.{map}
 use Rattle.elements.proofs.monadic.monadic.Statement.{statement}
 use Rattle.elements.proofs.monadic.monadic.Tie as tie
-use Rattle.elements.proofs.monadic.monadic.Reads as reads
-use Rattle.elements.proofs.monadic.monadic.Lts as lts
-use Rattle.scalar.proofs.monadic.Reads as monadic-reads
 
 abbrev Inv-loop : tie.InvT-loop
 Inv-loop operator a out₀ i₀ out i = (i ≤ length a) × (length out ≡ length out₀) × Written (map (λ w. answered (monadicOf operator w)) a) out i
@@ -22,62 +16,49 @@ Inv-loop operator a out₀ i₀ out i = (i ≤ length a) × (length out ≡ leng
 abbrev μ-loop : tie.MeasureT-loop
 μ-loop operator a out₀ i₀ out i = length a - i
 
--- src/monadic.rt:18:5
 loop-holds : tie.Need-loop-holds Inv-loop μ-loop
 loop-holds c = (omega arith, refl, start)
 
--- src/monadic.rt:19:43
 mul-monadic : tie.Need-mul-monadic Inv-loop μ-loop
 mul-monadic c = omega arith
 
--- src/monadic.rt:19:43
 shared-slice-read-monadic : tie.Need-shared-slice-read-monadic Inv-loop μ-loop
 shared-slice-read-monadic c = omega arith
 
--- src/monadic.rt:19:13
 monadic-requires : tie.Need-monadic-requires Inv-loop μ-loop
 monadic-requires c κs = search needs
 
--- src/monadic.rt:21:26
 enum-known-r : tie.Need-enum-known-r Inv-loop μ-loop
 enum-known-r c = search needs
 
--- src/monadic.rt:22:17
 mul-out : tie.Need-mul-out Inv-loop μ-loop
 mul-out c = omega arith
 
--- src/monadic.rt:22:17
 slice-write-out : tie.Need-slice-write-out Inv-loop μ-loop
 slice-write-out c = omega arith
 
--- src/monadic.rt:24:26
 enum-known-r-2 : tie.Need-enum-known-r-2 Inv-loop μ-loop
 enum-known-r-2 c = search needs
 
--- src/monadic.rt:25:17
 same-length : tie.Need-same-length Inv-loop μ-loop
 same-length c = c .before .before .before .before .before .before .loop .inv .1
 
--- src/monadic.rt:25:17
 returns : tie.Need-returns Inv-loop μ-loop
 unfolding each
-returns c = 
+returns c =
     let x = c .before .before .before in
     let l = x .before .before in
     let s = l .before .before .before .before in
     sym (trapped (l .before .loop .inv .2) (each-at (λ w. answered (monadicOf (s .args .operator) w)) (s .args .a .now) (l .before .loop .i) (l .loop-test .taken)) (ap answered (sym (x .monadic .ensures) ∙ c .before .r2 .given .1)))
 
--- src/monadic.rt:28:9
 add-i : tie.Need-add-i Inv-loop μ-loop
 add-i c = omega arith
 
--- src/monadic.rt:18:5
 loop-less : tie.Need-loop-less Inv-loop μ-loop
 loop-less c = omega arith
 
--- src/monadic.rt:18:5
 loop-again : tie.Need-loop-again Inv-loop μ-loop
-loop-again c = 
+loop-again c =
     let x = c .before .before .before in
     let l = x .before .before in
     let s = l .before .before .before .before in (
@@ -86,11 +67,9 @@ loop-again c =
       word (l .before .loop .inv .2) (each-at (λ w. answered (monadicOf (s .args .operator) w)) (s .args .a .now) (l .before .loop .i) (l .loop-test .taken)) (ap answered (sym (x .monadic .ensures) ∙ c .before .r .given .1)) (omega arith),
     )
 
--- src/monadic.rt:13:1
 same-length-2 : tie.Need-same-length-2 Inv-loop μ-loop
 same-length-2 c = c .before .loop .inv .1
 
--- src/monadic.rt:13:1
 returns-2 : tie.Need-returns-2 Inv-loop μ-loop
 unfolding each
 returns-2 c = let a = c .before .before .before .before .args .a .now in sym (ended (length a) (c .before .loop .inv .2) (length-each _ a) (omega arith))

@@ -3,45 +3,34 @@ use borrow.Author.Tests.{lt-ltb, le-ltb, eq-eqb, ne-eqb}
 use borrow.Author.Needs.{needs}
 use Rattle.elements.proofs.shapes.conform.Statement.{statement}
 use Rattle.elements.proofs.shapes.conform.Tie as tie
-use Rattle.elements.proofs.shapes.conform.Reads as reads
-use Rattle.elements.proofs.shapes.conform.Lts as lts
-use Rattle.elements.proofs.shapes.same.Reads as same-reads
 
--- src/shapes.rt:25:17
 returns : tie.Need-returns
 unfolding conform
 returns c = simp (eq-eqb _ _ (c .before .before .if1 .taken), eq-eqb _ _ (c .before .if2 .taken), lt-ltb _ _ (c .if3 .taken))
 
--- src/shapes.rt:27:13
 returns-2 : tie.Need-returns-2
 unfolding conform
 returns-2 c = simp (eq-eqb _ _ (c .before .before .if1 .taken), eq-eqb _ _ (c .before .if2 .taken), le-ltb _ _ (c .if3 .left))
 
--- src/shapes.rt:29:9
 returns-3 : tie.Need-returns-3
 unfolding conform
 returns-3 c = simp (eq-eqb _ _ (c .before .if1 .taken), ne-eqb _ _ (c .if2 .left))
 
--- src/shapes.rt:32:9
 returns-4 : tie.Need-returns-4
 unfolding conform
 returns-4 c = simp (ne-eqb _ _ (c .before .if1 .left), eq-eqb _ _ (c .if4 .taken))
 
--- src/shapes.rt:35:9
 returns-5 : tie.Need-returns-5
 unfolding conform
 returns-5 c = simp (ne-eqb _ _ (c .before .before .if1 .left), ne-eqb _ _ (c .before .if4 .left), ne-eqb _ _ (c .if5 .taken))
 
--- src/shapes.rt:37:8
 same-requires : tie.Need-same-requires
 same-requires c κs = search needs
 
--- src/shapes.rt:38:9
 returns-6 : tie.Need-returns-6
 unfolding conform
 returns-6 c = simp (ne-eqb _ _ (c .before .before .before .before .if1 .left), ne-eqb _ _ (c .before .before .before .if4 .left), eq-eqb _ _ (c .before .before .if5 .left), ← c .before .same .ensures, c .if6 .taken)
 
--- src/shapes.rt:19:1
 returns-7 : tie.Need-returns-7
 unfolding conform
 returns-7 c = simp (ne-eqb _ _ (c .before .before .before .before .if1 .left), ne-eqb _ _ (c .before .before .before .if4 .left), eq-eqb _ _ (c .before .before .if5 .left), ← c .before .same .ensures, c .if6 .left)

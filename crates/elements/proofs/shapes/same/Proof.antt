@@ -1,15 +1,9 @@
-use Prim.Native.Nat.{ℕ, _≤_, _<_, _-_, _+_, _*_, _^_}
-use mathlib.Core.Path.{_≡_, refl, sym, ap, _∙_}
-use mathlib.Core.Bool.{true, false}
+use Prim.Native.Nat.{_≤_, _-_}
 use native.Mathlib.Omega.{arith}
-use borrow.Author.Needs.{needs}
-use borrow.Author.Tests.{lt-ltb, le-ltb, le-leb, lt-leb, eq-eqb, ne-eqb, not-true, not-false}
 use lib.ListN.{length}
-use Rattle.elements.proofs.Lengths.{Agree, agree-start, agree-on, agree-not, agree-all, Bounded, bounded-start, bounded-on, bounded-fits, bounded-done}
+use Rattle.elements.proofs.Lengths.{Agree, agree-start, agree-on, agree-not, agree-all}
 use Rattle.elements.proofs.shapes.same.Statement.{statement}
 use Rattle.elements.proofs.shapes.same.Tie as tie
-use Rattle.elements.proofs.shapes.same.Reads as reads
-use Rattle.elements.proofs.shapes.same.Lts as lts
 
 abbrev Inv-loop : tie.InvT-loop
 Inv-loop a b i₀ i = (i ≤ length a) × Agree a b i
@@ -17,43 +11,33 @@ Inv-loop a b i₀ i = (i ≤ length a) × Agree a b i
 abbrev μ-loop : tie.MeasureT-loop
 μ-loop a b i₀ i = length a - i
 
--- src/shapes.rt:48:5
 loop-holds : tie.Need-loop-holds Inv-loop μ-loop
 loop-holds c = (omega arith, agree-start)
 
--- src/shapes.rt:49:12
 mul-if1 : tie.Need-mul-if1 Inv-loop μ-loop
 mul-if1 c = omega arith
 
--- src/shapes.rt:49:12
 shared-slice-read-if1 : tie.Need-shared-slice-read-if1 Inv-loop μ-loop
 shared-slice-read-if1 c = omega arith
 
--- src/shapes.rt:49:20
 mul-if1-2 : tie.Need-mul-if1-2 Inv-loop μ-loop
 mul-if1-2 c = omega arith
 
--- src/shapes.rt:49:20
 shared-slice-read-if1-2 : tie.Need-shared-slice-read-if1-2 Inv-loop μ-loop
 shared-slice-read-if1-2 c = omega arith
 
--- src/shapes.rt:50:13
 returns : tie.Need-returns Inv-loop μ-loop
 returns c = agree-not (c .before .before .before .before .loop .inv .1) (omega arith) (omega arith) (c .if1 .taken)
 
--- src/shapes.rt:52:9
 add-i : tie.Need-add-i Inv-loop μ-loop
 add-i c = omega arith
 
--- src/shapes.rt:48:5
 loop-less : tie.Need-loop-less Inv-loop μ-loop
 loop-less c = omega arith
 
--- src/shapes.rt:48:5
 loop-again : tie.Need-loop-again Inv-loop μ-loop
 loop-again c = (omega arith, agree-on (c .before .before .before .before .loop .inv .1) (omega arith) (omega arith) (c .if1 .left))
 
--- src/shapes.rt:43:1
 returns-2 : tie.Need-returns-2 Inv-loop μ-loop
 returns-2 c = agree-all (c .before .loop .inv .1) (omega arith) (omega arith)
 

@@ -1,22 +1,15 @@
-use Prim.Native.Nat.{ℕ, _≤_, _<_, _-_, _+_, _*_, _^_}
+use Prim.Native.Nat.{_≤_, _-_}
 use mathlib.Core.Path.{_≡_, refl, sym, ap, _∙_}
-use mathlib.Core.Bool.{true, false}
 use native.Mathlib.Omega.{arith}
 use borrow.Author.Needs.{needs}
-use borrow.Author.Tests.{lt-ltb, le-ltb, le-leb, lt-leb, eq-eqb, ne-eqb, not-true, not-false}
 use lib.ListN.{length, length-set}
-use Rattle.scalar.specs.Operators.{sum, difference, less, equal, product, dyadicOf, monadicOf}
-use Rattle.manual.specs.Values.{answered, each, pairwise, zip, spread}
-use Rattle.elements.proofs.Collecting.{Written, start, trapped, word, ended, pair-at, pairs-are, length-pairs, spans-below, fast-on, fast-end, each-at, length-each, spread-one, spread-all}
-use Rattle.elements.proofs.Integral.{difference-by, less-by, equal-by}
+use Rattle.manual.specs.Values.{answered, each}
+use Rattle.elements.proofs.Collecting.{Written, start, trapped, word, ended, each-at, length-each}
 use mathlib.Core.List.{map}
 use Rattle.manual.specs.Values.{shortOf}
 use Rattle.scalar.specs.Reading.{wholeOf}
 use Rattle.elements.proofs.shapes.shorts.Statement.{statement}
 use Rattle.elements.proofs.shapes.shorts.Tie as tie
-use Rattle.elements.proofs.shapes.shorts.Reads as reads
-use Rattle.elements.proofs.shapes.shorts.Lts as lts
-use Rattle.elements.proofs.shapes.short.Reads as short-reads
 
 abbrev Inv-loop : tie.InvT-loop
 Inv-loop ravel out₀ i₀ out i = (i ≤ length ravel) × (length out ≡ length out₀) × Written (map (λ w. shortOf (wholeOf w)) ravel) out i
@@ -24,62 +17,49 @@ Inv-loop ravel out₀ i₀ out i = (i ≤ length ravel) × (length out ≡ lengt
 abbrev μ-loop : tie.MeasureT-loop
 μ-loop ravel out₀ i₀ out i = length ravel - i
 
--- src/shapes.rt:73:5
 loop-holds : tie.Need-loop-holds Inv-loop μ-loop
 loop-holds c = (omega arith, refl, start)
 
--- src/shapes.rt:74:23
 mul-short : tie.Need-mul-short Inv-loop μ-loop
 mul-short c = omega arith
 
--- src/shapes.rt:74:23
 shared-slice-read-short : tie.Need-shared-slice-read-short Inv-loop μ-loop
 shared-slice-read-short c = omega arith
 
--- src/shapes.rt:74:13
 short-requires : tie.Need-short-requires Inv-loop μ-loop
 short-requires c κs = search needs
 
--- src/shapes.rt:76:26
 enum-known-r : tie.Need-enum-known-r Inv-loop μ-loop
 enum-known-r c = search needs
 
--- src/shapes.rt:77:17
 mul-out : tie.Need-mul-out Inv-loop μ-loop
 mul-out c = omega arith
 
--- src/shapes.rt:77:17
 slice-write-out : tie.Need-slice-write-out Inv-loop μ-loop
 slice-write-out c = omega arith
 
--- src/shapes.rt:79:26
 enum-known-r-2 : tie.Need-enum-known-r-2 Inv-loop μ-loop
 enum-known-r-2 c = search needs
 
--- src/shapes.rt:80:17
 same-length : tie.Need-same-length Inv-loop μ-loop
 same-length c = c .before .before .before .before .before .before .loop .inv .1
 
--- src/shapes.rt:80:17
 returns : tie.Need-returns Inv-loop μ-loop
 unfolding each
-returns c = 
+returns c =
     let x = c .before .before .before in
     let l = x .before .before in
     let s = l .before .before .before .before in
     sym (trapped (l .before .loop .inv .2) (each-at (λ w. shortOf (wholeOf w)) (s .args .ravel .now) (l .before .loop .i) (l .loop-test .taken)) (sym (x .short .ensures) ∙ ap answered (c .before .r2 .given .1)))
 
--- src/shapes.rt:83:9
 add-i : tie.Need-add-i Inv-loop μ-loop
 add-i c = omega arith
 
--- src/shapes.rt:73:5
 loop-less : tie.Need-loop-less Inv-loop μ-loop
 loop-less c = omega arith
 
--- src/shapes.rt:73:5
 loop-again : tie.Need-loop-again Inv-loop μ-loop
-loop-again c = 
+loop-again c =
     let x = c .before .before .before in
     let l = x .before .before in
     let s = l .before .before .before .before in (
@@ -88,11 +68,9 @@ loop-again c =
       word (l .before .loop .inv .2) (each-at (λ w. shortOf (wholeOf w)) (s .args .ravel .now) (l .before .loop .i) (l .loop-test .taken)) (sym (x .short .ensures) ∙ ap answered (c .before .r .given .1)) (omega arith),
     )
 
--- src/shapes.rt:68:1
 same-length-2 : tie.Need-same-length-2 Inv-loop μ-loop
 same-length-2 c = c .before .loop .inv .1
 
--- src/shapes.rt:68:1
 returns-2 : tie.Need-returns-2 Inv-loop μ-loop
 unfolding each
 returns-2 c = let a = c .before .before .before .before .args .ravel .now in sym (ended (length a) (c .before .loop .inv .2) (length-each _ a) (omega arith))

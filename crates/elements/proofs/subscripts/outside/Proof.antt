@@ -1,30 +1,20 @@
-use Prim.Native.Nat.{ℕ, _≤_, _<_, _-_, _+_, _*_, _^_}
-use mathlib.Core.Path.{_≡_, refl, sym, ap, _∙_}
-use mathlib.Core.Bool.{true, false}
+use Prim.Native.Nat.{_-_, _+_}
 use native.Mathlib.Omega.{arith}
 use borrow.Author.Needs.{needs}
-use borrow.Author.Tests.{lt-ltb, le-ltb, le-leb, lt-leb, eq-eqb, ne-eqb, not-true, not-false}
-use Rattle.manual.specs.Values.{shortOf, answered, offset}
-use Rattle.elements.specs.Parts.{faultOf, worstOf}
+use borrow.Author.Tests.{lt-ltb, le-ltb, le-leb, lt-leb}
 use borrow.Author.Needs.{needs}
 use Rattle.elements.proofs.subscripts.outside.Statement.{statement}
 use Rattle.elements.proofs.subscripts.outside.Tie as tie
-use Rattle.elements.proofs.subscripts.outside.Reads as reads
-use Rattle.elements.proofs.subscripts.outside.Lts as lts
 
--- src/subscripts.rt:67:9
 returns : tie.Need-returns
 returns c = search needs
 
--- src/subscripts.rt:70:9
 returns-2 : tie.Need-returns-2
 returns-2 c = simp (c .before .if1 .left, lt-leb _ _ (c .if2 .taken))
 
--- src/subscripts.rt:73:9
 returns-3 : tie.Need-returns-3
 returns-3 c = let s = c .before .before .before in simp (c .before .before .if1 .left, le-leb _ _ (c .before .if2 .left), lt-ltb (s .args .magnitude) (s .args .length + s .args .origin) (omega arith))
 
--- src/subscripts.rt:63:1
 returns-4 : tie.Need-returns-4
 returns-4 c = let s = c .before .before .before in simp (c .before .before .if1 .left, le-leb _ _ (c .before .if2 .left), le-ltb (s .args .magnitude) (s .args .length + s .args .origin) (omega arith))
 

@@ -5,32 +5,22 @@ use Rattle.elements.proofs.Places.{all-in-range, place-within, place-ou
 use borrow.Author.Needs.{needs}
 use Rattle.elements.proofs.subscripts.place.Statement.{statement}
 use Rattle.elements.proofs.subscripts.place.Tie as tie
-use Rattle.elements.proofs.subscripts.place.Reads as reads
-use Rattle.elements.proofs.subscripts.place.Lts as lts
-use Rattle.elements.proofs.subscripts.place_of.Reads as place-of-reads
-use Rattle.elements.proofs.subscripts.worst.Reads as worst-reads
 
--- src/subscripts.rt:21:11
 worst-requires : tie.Need-worst-requires
 worst-requires c κs = search needs
 
--- src/subscripts.rt:22:24
 place-of-requires : tie.Need-place-of-requires
 place-of-requires c κs = let s = c .before .before .before .before in (s .pre .0, s .pre .1, all-in-range (s .args .origin) (s .args .subscripts .now) (s .args .lengths .now) (s .pre .0) (omega arith))
 
--- src/subscripts.rt:17:1
 returns : tie.Need-returns
 returns c = let s = c .before .before .before .before .before in ap gives (c .place-of .ensures) ∙ place-within (s .args .origin) (s .args .subscripts .now) (s .args .lengths .now) (s .pre .0) (omega arith)
 
--- src/subscripts.rt:17:1
 returns-2 : tie.Need-returns-2
 returns-2 c = let s = c .before .before .before .before in place-outside (s .args .origin) (s .args .subscripts .now) (s .args .lengths .now) (s .pre .0) (omega arith)
 
--- src/subscripts.rt:17:1
 returns-3 : tie.Need-returns-3
 returns-3 c = let s = c .before .before .before .before in place-fraction (s .args .origin) (s .args .subscripts .now) (s .args .lengths .now) (s .pre .0) (omega arith)
 
--- src/subscripts.rt:17:1
 returns-4 : tie.Need-returns-4
 returns-4 c = let s = c .before .before .before .before in place-letter (s .args .origin) (s .args .subscripts .now) (s .args .lengths .now) (s .pre .0) (omega arith)
 
