@@ -13,7 +13,7 @@ use lib.Seq.{take-suc-set, drop-cons}
 use Rattle.manual.specs.OrTrap.{OrTrap, gives, trap, andThen}
 use Rattle.elements.specs.Answers.{Paired}
 use Rattle.elements.specs.Parts.{Spans, Operands}
-use Rattle.manual.specs.Values.{collect, zip, spread, isSingle, extent, pairwise}
+use Rattle.manual.specs.Values.{collect, each, zip, spread, isSingle, extent, pairwise}
 
 -- words, then what is left
 abbrev pub joined : List ℕ → OrTrap (List ℕ) → OrTrap (List ℕ)
@@ -71,14 +71,14 @@ ended {rs} {out} {i} n inv h e =
 
 -- ---- a one-element operand is repeated
 
-pub length-spread : (n : ℕ) (a : List ℕ) → ((length a ≡ 1 → ⊥) → length a ≡ n) → length (spread n a) ≡ n
+length-spread : (n : ℕ) (a : List ℕ) → ((length a ≡ 1 → ⊥) → length a ≡ n) → length (spread n a) ≡ n
 length-spread n a h = go (isSingle a) refl
   where
     go : (t : Bool) → isSingle a ≡ t → length (spread n a) ≡ n
     go true e = rw e (length-replicate n (getD a 0 0))
     go false e = rw e (h (eqb-false (length a) 1 e))
 
-pub length-zip : {A : Type 0} (f : ℕ → ℕ → A) (xs ys : List ℕ) (n : ℕ) → length xs ≡ n → length ys ≡ n → length (zip f xs ys) ≡ n
+length-zip : {A : Type 0} (f : ℕ → ℕ → A) (xs ys : List ℕ) (n : ℕ) → length xs ≡ n → length ys ≡ n → length (zip f xs ys) ≡ n
 length-zip f [] ys n p q = p
 length-zip f (x ∷ xs) [] n p q = q
 length-zip f (x ∷ xs) (y ∷ ys) zero p q = absurd (omega arith)
@@ -87,7 +87,7 @@ length-zip f (x ∷ xs) (y ∷ ys) (suc n) p q = ap suc (length-zip f xs ys n (o
 pub length-pairs : {A : Type 0} (f : ℕ → ℕ → A) {n : ℕ} {a b : List ℕ} → Operands a b n → length (zip f (spread n a) (spread n b)) ≡ n
 length-pairs f {n} {a} {b} o = length-zip f (spread n a) (spread n b) n (length-spread n a (o .first .fits)) (length-spread n b (o .second .fits))
 
-pub getD-zip : {A : Type 0} (f : ℕ → ℕ → A) (xs ys : List ℕ) (i : ℕ) (d : A) → i < length xs → i < length ys
+getD-zip : {A : Type 0} (f : ℕ → ℕ → A) (xs ys : List ℕ) (i : ℕ) (d : A) → i < length xs → i < length ys
     → getD (zip f xs ys) i d ≡ f (getD xs i 0) (getD ys i 0)
 getD-zip f [] ys i d p q = absurd (not-suc-le-zero p)
 getD-zip f (x ∷ xs) [] i d p q = absurd (not-suc-le-zero q)
@@ -154,3 +154,50 @@ fast-on f o h l p q e inv z = word (inv (omega arith)) (pair-at f o h p q) (e (o
 pub fast-end : (f : ℕ → ℕ → OrTrap ℕ) {a b out : List ℕ} {n i odd : ℕ} → Operands a b n → i ≡ n
     → (odd ≡ 0 → Written (zip f (spread n a) (spread n b)) out i) → eqb odd 0 ≡ true → gives (take n out) ≡ pairwise f a b
 fast-end f {n = n} {odd = odd} o e inv t = sym (ended n (inv (eqb-true odd 0 t)) (length-pairs f o) e) ∙ pairs-are f o
+
+-- ---- as many words as elements
+
+collected : (rs : List (OrTrap ℕ)) (ws : List ℕ) → collect rs ≡ gives ws → length ws ≡ length rs
+collected [] ws e = let z : ws ≡ [] = cc in ap length z
+collected ((trap class number) ∷ rs) ws e = let z : _≡_ {A = ℕ} 0 1 = cc in absurd (omega arith)
+collected ((gives w) ∷ rs) ws e = go (collect rs) refl (λ vs f. collected rs vs f)
+  where
+    go : (r : OrTrap (List ℕ)) → collect rs ≡ r → ((vs : List ℕ) → collect rs ≡ gives vs → length vs ≡ length rs) → length ws ≡ suc (length rs)
+    go (gives vs) f ih = let g : gives (w ∷ vs) ≡ gives ws = rw f at e in let z : (w ∷ vs) ≡ ws = cc in sym (ap length z) ∙ ap suc (ih vs f)
+    go (trap class number) f ih = let g : trap class number ≡ gives ws = rw f at e in let z : _≡_ {A = ℕ} 0 1 = cc in absurd (omega arith)
+
+pub each-gives : (f : ℕ → OrTrap ℕ) (a ws : List ℕ) → each f a ≡ gives ws → length ws ≡ length a
+unfolding each
+each-gives f a ws e = collected (map f a) ws e ∙ length-each f a
+
+pub pairwise-gives : (f : ℕ → ℕ → OrTrap ℕ) {a b : List ℕ} → Paired a b → (ws : List ℕ) → pairwise f a b ≡ gives ws → length ws ≡ extent a b
+pairwise-gives f {a} {b} p ws e =
+    let o : Operands a b (extent a b) = operands p refl in
+    collected (zip f (spread (extent a b) a) (spread (extent a b) b)) ws (pairs-are f o ∙ e) ∙ length-pairs f o
+
+-- ---- each word is its element's result
+
+collected-at : (rs : List (OrTrap ℕ)) (ws : List ℕ) → collect rs ≡ gives ws → (i : ℕ) → i < length rs → getD rs i (trap 0 0) ≡ gives (getD ws i 0)
+collected-at [] ws e i h = absurd (not-suc-le-zero h)
+collected-at ((trap class number) ∷ rs) ws e i h = let z : _≡_ {A = ℕ} 0 1 = cc in absurd (omega arith)
+collected-at ((gives w) ∷ rs) ws e i h = go (collect rs) refl (λ vs f. collected-at rs vs f) i h
+  where
+    go : (r : OrTrap (List ℕ)) → collect rs ≡ r → ((vs : List ℕ) → collect rs ≡ gives vs → (j : ℕ) → j < length rs → getD rs j (trap 0 0) ≡ gives (getD vs j 0))
+        → (j : ℕ) → j < suc (length rs) → getD ((gives w) ∷ rs) j (trap 0 0) ≡ gives (getD ws j 0)
+    go (gives vs) f ih zero k = let g : gives (w ∷ vs) ≡ gives ws = rw f at e in let z : (w ∷ vs) ≡ ws = cc in ap (λ (l : List ℕ). gives (getD l 0 0)) z
+    go (gives vs) f ih (suc j) k =
+        let g : gives (w ∷ vs) ≡ gives ws = rw f at e in
+        let z : (w ∷ vs) ≡ ws = cc in
+        ih vs f j (le-of-suc-le-suc k) ∙ ap (λ (l : List ℕ). gives (getD l (suc j) 0)) z
+    go (trap class number) f ih j k = let g : trap class number ≡ gives ws = rw f at e in let z : _≡_ {A = ℕ} 0 1 = cc in absurd (omega arith)
+
+pub each-word : (f : ℕ → OrTrap ℕ) (a ws : List ℕ) → each f a ≡ gives ws → (i : ℕ) → i < length a → f (getD a i 0) ≡ gives (getD ws i 0)
+unfolding each
+each-word f a ws e i h = let at = each-at f a i h in sym (at .is) ∙ collected-at (map f a) ws e i (at .below)
+
+pub pairwise-word : (f : ℕ → ℕ → OrTrap ℕ) {a b : List ℕ} → Paired a b → (ws : List ℕ) → pairwise f a b ≡ gives ws → (i : ℕ) → i < extent a b
+    → f (getD (spread (extent a b) a) i 0) (getD (spread (extent a b) b) i 0) ≡ gives (getD ws i 0)
+pairwise-word f {a} {b} p ws e i h =
+    let o : Operands a b (extent a b) = operands p refl in
+    let at = pair-at f o h refl refl in
+    sym (at .is) ∙ collected-at (zip f (spread (extent a b) a) (spread (extent a b) b)) ws (pairs-are f o ∙ e) i (at .below)

@@ -3,16 +3,16 @@ use Prim.Native.Nat.{ℕ}
 use mathlib.Core.Path.{_≡_, refl, sym, ap, _∙_}
 use mathlib.Core.Bool.{Bool, true, false, not}
 use mathlib.Core.List.{List, [], _∷_}
-use lib.Dec.{eqb}
-use borrow.Author.Tests.{eqb-true, ne-eqb}
+use lib.Dec.{eqb, ltb}
+use borrow.Author.Tests.{eqb-true, eqb-false, eq-eqb, ne-eqb}
 use native.Mathlib.Omega.{arith}
 use lib.ListN.{length}
 use Rattle.segment.specs.Blocks.{product}
 use Rattle.manual.specs.OrTrap.{gives, trap, stopIf}
-use Rattle.manual.specs.Values.{same, conform}
+use Rattle.manual.specs.Values.{same, conform, extent, isSingle}
 use Rattle.elements.specs.Answers.{Paired}
 
-pub same-is : (xs ys : List ℕ) → same xs ys ≡ true → xs ≡ ys
+same-is : (xs ys : List ℕ) → same xs ys ≡ true → xs ≡ ys
 same-is [] [] h = refl
 same-is [] (y ∷ ys) h = cc
 same-is (x ∷ xs) [] h = cc
@@ -39,3 +39,34 @@ module _ (a b s t shape : List ℕ) (counted-a : length a ≡ product s) (counte
 
   pub conform-paired : Paired a b
   conform-paired = record { fits = λ p q. counted-a ∙ ap product (alike p q .0) ∙ sym counted-b }
+
+  -- one has a single element
+  first-single : length a ≡ 1 → (u v : Bool) → isSingle b ≡ u → ltb (length t) (length s) ≡ v → length b ≡ product shape
+  unfolding conform
+  first-single p true true q r =
+      let k : gives s ≡ gives shape = simp (eq-eqb (length a) 1 p, q, r) at h in
+      let e : s ≡ shape = cc in
+      eqb-true (length b) 1 q ∙ sym p ∙ counted-a ∙ ap product e
+  first-single p true false q r =
+      let k : gives t ≡ gives shape = simp (eq-eqb (length a) 1 p, q, r) at h in
+      let e : t ≡ shape = cc in
+      counted-b ∙ ap product e
+  first-single p false v q r =
+      let k : gives t ≡ gives shape = simp (eq-eqb (length a) 1 p, q) at h in
+      let e : t ≡ shape = cc in
+      counted-b ∙ ap product e
+
+  second-single : (length a ≡ 1 → ⊥) → (u : Bool) → isSingle b ≡ u → length a ≡ product shape
+  unfolding conform
+  second-single p true q =
+      let k : gives s ≡ gives shape = simp (ne-eqb (length a) 1 p, q) at h in
+      let e : s ≡ shape = cc in
+      counted-a ∙ ap product e
+  second-single p false q = counted-a ∙ ap product (alike p (eqb-false (length b) 1 q) .1)
+
+  pub conform-extent : extent a b ≡ product shape
+  conform-extent = go (isSingle a) refl
+    where
+      go : (u : Bool) → isSingle a ≡ u → extent a b ≡ product shape
+      go true p = rw p (first-single (eqb-true (length a) 1 p) (isSingle b) (ltb (length t) (length s)) refl refl)
+      go false p = rw p (second-single (eqb-false (length a) 1 p) (isSingle b) refl)

@@ -58,11 +58,11 @@ filled-part {goal} {d₀} {d} {part} {i} {e} f h g p =
 
 -- ---- copies
 
-pub length-copies : (k : ℕ) (r : List ℕ) → length (copies k r) ≡ k * length r
+length-copies : (k : ℕ) (r : List ℕ) → length (copies k r) ≡ k * length r
 length-copies zero r = sym (zero-mul (length r))
 length-copies (suc k) r = length-append r (copies k r) ∙ rw (length-copies k r, suc-mul k (length r)) (add-comm (length r) (k * length r))
 
-pub getD-copies : (k q j : ℕ) (r : List ℕ) → q < k → j < length r → getD (copies k r) (q * length r + j) 0 ≡ getD r j 0
+getD-copies : (k q j : ℕ) (r : List ℕ) → q < k → j < length r → getD (copies k r) (q * length r + j) 0 ≡ getD r j 0
 getD-copies zero q j r h l = absurd (not-suc-le-zero h)
 getD-copies (suc k) zero j r h l = rw (zero-mul (length r), zero-add j) (List·getD-append r (copies k r) 0 j l)
 getD-copies (suc k) (suc q) j r h l =
