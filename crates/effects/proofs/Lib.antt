@@ -1,0 +1,6 @@
+-- The laws of effects on words, and the theorems of specs/.
+pub mod Machines
+pub mod Cells
+pub mod Frames
+pub mod Sound
+pub mod Cellwise
