@@ -4,3 +4,6 @@ pub mod Cells
 pub mod Frames
 pub mod Sound
 pub mod Cellwise
+pub mod Variables
+pub mod Sources
+pub mod Replace
