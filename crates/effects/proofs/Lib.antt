@@ -7,3 +7,6 @@ pub mod Cellwise
 pub mod Variables
 pub mod Sources
 pub mod Replace
+pub mod Discard
+pub mod Swap
+pub mod State
