@@ -10,3 +10,4 @@ pub mod Replace
 pub mod Discard
 pub mod Swap
 pub mod State
+pub mod Store

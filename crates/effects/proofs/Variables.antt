@@ -27,7 +27,7 @@ use Rattle.effects.specs.Sound.{Chain, bottom, upon, Sound}
 use Rattle.effects.specs.Fits.{InFrames, InMachine, IsVariable}
 use Rattle.effects.proofs.Machines.{cells-count, count-getD}
 use Rattle.effects.proofs.Cells.{undefined-cell}
-use Rattle.effects.proofs.Frames.{downward-length, part-length, frame, frames-bottom, frames-next, frames-same, depth-is}
+use Rattle.effects.proofs.Frames.{downward-length, part-length, frame, frames-bottom, frames-next, frames-same, chain-same, depth-is}
 use Rattle.effects.proofs.Sound.{Bounds, bounds}
 use Rattle.effects.proofs.Cellwise.{put-here, put-below, in-depth, in-cases, count-put, look-put, map-look}
 
@@ -128,6 +128,34 @@ module _ (s : List ℕ) (w : ℕ) (some : 1 ≤ sbase s) where
             (sym
             (put-below a w (frame s (codeWordAt s base) (sbase s) (lastLbaseAt s base + 2) base) (framesFrom n s (lastLbaseAt s base)) (omega (arith, d))))
 
+  -- a frame's first word is no cell
+  first-kept : (a base : ℕ) → a < base → lastLbaseAt (set s (sbase s + a) w) base ≡ lastLbaseAt s base
+  first-kept a base k =
+      let n : sbase s + base ≢ sbase s + a = omega arith in
+      rw (bound (sbase s + a) (omega arith)) (rw getD-set-other)
+
+  in-older : (n base a : ℕ) → lastLbaseAt s base + 2 ≤ base → depthOfFrames (framesFrom n s (lastLbaseAt s base)) ≡ lastLbaseAt s base + 2
+      → a < lastLbaseAt s base + 2 → InFrames a (framesFrom (suc n) s base) → InFrames a (framesFrom n s (lastLbaseAt s base))
+  in-older n base a q d k h = go (rw (frames-next n s base _ _ _ refl refl refl (omega arith)) at h)
+    where
+      go : InFrames a (frame s (codeWordAt s base) (sbase s) (lastLbaseAt s base + 2) base ∷ framesFrom n s (lastLbaseAt s base))
+          → InFrames a (framesFrom n s (lastLbaseAt s base))
+      go (inl x) = absurd (omega (arith, x, d, k))
+      go (inr x) = x
+
+  chain-put : {base : ℕ} → Chain s base → (n a : ℕ) → base < n → InFrames a (framesFrom n s base) → Chain (set s (sbase s + a) w) base
+  chain-put {base} c zero a l h = absurd (omega arith)
+  chain-put {base} (bottom q) (suc n) a l h =
+      bottom {base = base} (first-kept a base (in-base (bottom {base = base} q) (suc n) a l h) ∙ q)
+  chain-put {base} (upon q c) (suc n) a l h =
+      let e = first-kept a base (in-base (upon {base = base} q c) (suc n) a l h) in
+      upon {base = base} (omega (arith, e, q))
+      (rw e
+      (⊎-elim (λ (k : lastLbaseAt s base + 2 ≤ a). chain-same (set s (sbase s + a) w) c (bound (sbase s + a) (omega arith))
+      (λ i x y. other (sbase s + a) (omega arith) i (omega arith)))
+      (λ (k : a < lastLbaseAt s base + 2). chain-put c n a (omega arith) (in-older n base a q (depth-is c n (omega arith)) k h))
+      (order (lastLbaseAt s base + 2) a)))
+
   frames-put : {base : ℕ} → Chain s base → (n a : ℕ) → base < n → InFrames a (framesFrom n s base) → sbase s + base ≤ length s
       → framesFrom n (set s (sbase s + a) w) base ≡ putFrames a w (framesFrom n s base)
   frames-put {base} c zero a l h f = absurd (omega arith)
@@ -137,15 +165,6 @@ module _ (s : List ℕ) (w : ℕ) (some : 1 ≤ sbase s) where
       put-upon (sbase s + a) (omega arith) n base a (omega arith) f refl (in-base (upon {base = base} q c) (suc n) a l h) (depth-is c n (omega arith)) q
       (λ k. let older = in-older n base a q (depth-is c n (omega arith)) k h in
       (in-base c n a (omega arith) older, frames-put c n a (omega arith) older (omega arith)))
-    where
-      in-older : (n base a : ℕ) → lastLbaseAt s base + 2 ≤ base → depthOfFrames (framesFrom n s (lastLbaseAt s base)) ≡ lastLbaseAt s base + 2
-          → a < lastLbaseAt s base + 2 → InFrames a (framesFrom (suc n) s base) → InFrames a (framesFrom n s (lastLbaseAt s base))
-      in-older n base a q d k h = go (rw (frames-next n s base _ _ _ refl refl refl (omega arith)) at h)
-        where
-          go : InFrames a (frame s (codeWordAt s base) (sbase s) (lastLbaseAt s base + 2) base ∷ framesFrom n s (lastLbaseAt s base))
-              → InFrames a (framesFrom n s (lastLbaseAt s base))
-          go (inl x) = absurd (omega (arith, x, d, k))
-          go (inr x) = x
 
 -- where the variables stand
 pub record Place (s : List ℕ) (i : ℕ) : Type 0 where
@@ -209,6 +228,15 @@ module _ (s : List ℕ) (g : Sound s) where
   unfolding words
   words-put w (Global q) h = words-global w (q .0) (h .0) (omega (arith, h, part-length s 8 (blockptr s - 8), bounds g))
   words-put w (Local a) h = words-local w (a .0) (sbase s + a .0) h refl
+
+  pub variable-chain : (w : ℕ) (t : Target) → IsVariable s t → Chain (set s (addressOf s t) w) (lbase s)
+  unfolding words
+  variable-chain w (Global q) h =
+      let b = bounds g in
+      let k : q .0 < blockptr s = omega (arith, h, part-length s 8 (blockptr s - 8)) in
+      let other : (j : ℕ) → j ≢ q .0 → getD (set s (q .0) w) j 0 ≡ getD s j 0 = λ j (m : j ≢ q .0). rw getD-set-other in
+      chain-same (set s (q .0) w) (g .chain) (ap (λ (m : ℕ). m / 2 ^ 16) (other 0 (omega (arith, h)))) (λ i x y. other i (omega arith))
+  variable-chain w (Local a) h = chain-put s w (omega (arith, bounds g)) (g .chain) (suc (lbase s)) (a .0) (omega arith) h
 
   module _ (t : Target) (at : IsVariable s t) where
     pub same-put : put t (heldAt s t) (words s) ≡ words s
