@@ -2,7 +2,7 @@
 use Prim.Native.Nat.{ℕ, zero, suc, _+_, _-_, _<_, _≤_}
 use mathlib.Core.Path.{_≡_, refl, sym, _∙_, ap}
 use mathlib.Core.List.{List, [], _∷_, _++_, map}
-use mathlib.Core.Logic.{_≢_, _⊎_, inl, inr, ⊎-elim}
+use mathlib.Core.Logic.{_↔_, _≢_, _⊎_, inl, inr, ⊎-elim}
 use native.Mathlib.Omega.{arith}
 use lib.ListN.{getD, set, length, length-set, length-map, List·getD-map}
 use lib.Seq.{getD-set-same, getD-set-other, set-set}
@@ -203,3 +203,35 @@ look-other none c (Global g) (Local b) m p q n = refl
 look-other none c (Local a) (Global h) m p q n = refl
 look-other none c (Local a) (Local b) m p q n =
     other-putFrames none c (a .0) (b .0) (m .frames) p q (λ e. n (ap (λ (i : ℕ). Local (stack i)) e))
+
+-- the variables are the same after a store
+in-putFrames : {A : Type 0} (c : A) (a b : ℕ) (l : List (Frame A)) → InFrames b l → InFrames b (putFrames a c l)
+in-putFrames c a b [] h = absurd h
+in-putFrames c a b (r ∷ l) h = go (λ k. in-putFrames c a b l k) (order (depthOfFrames l) a) h
+  where
+    go : (InFrames b l → InFrames b (putFrames a c l)) → (depthOfFrames l ≤ a) ⊎ (a < depthOfFrames l) → InFrames b (r ∷ l) → InFrames b (putFrames a c (r ∷ l))
+    go more (inl p) (inl k) =
+        rw (put-here a c r l p) (inl (omega (arith, k), omega (arith, k, length-set (r .cells) (indexIn (r .cells) l a) c)))
+    go more (inl p) (inr k) = rw (put-here a c r l p) (inr k)
+    go more (inr p) (inl k) = rw (put-below a c r l p) (inl (omega (arith, k, depth-put a c l), omega (arith, k, depth-put a c l)))
+    go more (inr p) (inr k) = rw (put-below a c r l p) (inr (more k))
+
+pub in-put : {A : Type 0} (c : A) (t u : Target) (m : Machine A) → InMachine u m → InMachine u (put t c m)
+in-put c (Global g) (Global h) m k = (k .0, omega (arith, k, length-set (m .globals) (g .0 - 8) c))
+in-put c (Global g) (Local b) m k = k
+in-put c (Local a) (Global h) m k = k
+in-put c (Local a) (Local b) m k = in-putFrames c (a .0) (b .0) (m .frames) k
+
+-- nor does it matter by what function a machine is seen
+in-mapFrames : {A : Type 0} (f : ℕ → A) (a : ℕ) (l : List (Frame ℕ)) → InFrames a l ↔ InFrames a (mapFrames f l)
+in-mapFrames f a [] = (λ h. h, λ h. h)
+in-mapFrames f a (r ∷ l) =
+    let d = depth-map f l in
+    let n = length-map (r .cells) f in
+    let more = in-mapFrames f a l in
+    (λ h. ⊎-elim (λ k. inl (omega (arith, k), omega (arith, k))) (λ k. inr (more .0 k)) h,
+    λ h. ⊎-elim (λ k. inl (omega (arith, k), omega (arith, k))) (λ k. inr (more .1 k)) h)
+
+pub in-map : {A : Type 0} (f : ℕ → A) (t : Target) (m : Machine ℕ) → InMachine t m ↔ InMachine t (mapMachine f m)
+in-map f (Global g) m = let n = length-map (m .globals) f in (λ h. omega (arith, h), λ h. omega (arith, h))
+in-map f (Local a) m = in-mapFrames f (a .0) (m .frames)

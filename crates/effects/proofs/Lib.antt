@@ -11,3 +11,4 @@ pub mod Discard
 pub mod Swap
 pub mod State
 pub mod Store
+pub mod Element

@@ -29,7 +29,7 @@ use Rattle.effects.proofs.Machines.{cells-count, count-getD}
 use Rattle.effects.proofs.Cells.{undefined-cell}
 use Rattle.effects.proofs.Frames.{downward-length, part-length, frame, frames-bottom, frames-next, frames-same, chain-same, depth-is}
 use Rattle.effects.proofs.Sound.{Bounds, bounds}
-use Rattle.effects.proofs.Cellwise.{put-here, put-below, in-depth, in-cases, count-put, look-put, map-look}
+use Rattle.effects.proofs.Cellwise.{put-here, put-below, in-depth, in-cases, count-put, look-put, map-look, in-map}
 
 downward-set : (s : List ℕ) (a n j w : ℕ) → j < n → a + n ≤ length s → downward (set s (a + n - 1 - j) w) a n ≡ set (downward s a n) j w
 downward-set s a zero j w h l = absurd (omega arith)
@@ -260,6 +260,11 @@ module _ (s : List ℕ) (g : Sound s) where
         sym
         (ap (λ (c : Cell). look c t (mapMachine (cell s) (words s))) (sym (undefined-cell s)) ∙ map-look (cell s) undefinedWord t (words s)
         ∙ ap (cell s) (look-words undefinedWord))
+
+-- a variable of the words is one of the view
+pub in-view : (s : List ℕ) (t : Target) → IsVariable s t → InMachine t (view s)
+unfolding view
+in-view s t h = in-map (cell s) t (words s) .0 h
 
 -- what an operand is
 module _ (s : List ℕ) (i : ℕ) (h : i < temporaries s) where
