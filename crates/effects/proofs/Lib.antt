@@ -12,3 +12,5 @@ pub mod Swap
 pub mod State
 pub mod Store
 pub mod Element
+pub mod Enter
+pub mod Leave

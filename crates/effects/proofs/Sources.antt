@@ -28,7 +28,7 @@ pub record Put (s ws s1 : List ℕ) (w : ℕ) (c : Cell) : Type 0 where
   pub step : Step s ws s1 (w ∷ ws)
   pub shown : cell s1 w ≡ c
 
-put-shared : {s ws : List ℕ} (w : ℕ) (c : Cell) → Owned s ws → length ws < 65535 → 0 < count w ws → cell s w ≡ c → Put s ws (share s w) w c
+pub put-shared : {s ws : List ℕ} (w : ℕ) (c : Cell) → Owned s ws → length ws < 65535 → 0 < count w ws → cell s w ≡ c → Put s ws (share s w) w c
 put-shared {s} {ws} w c o few h e =
     let f = share-own w o few (inl h) in
     record { step = f; shown = f .same w h (omega (arith, hit-same w)) ∙ e }
