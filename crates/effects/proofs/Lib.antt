@@ -14,3 +14,7 @@ pub mod Store
 pub mod Element
 pub mod Enter
 pub mod Leave
+pub mod Effects
+pub mod Lists
+pub mod Others
+pub mod Theorems

@@ -4,3 +4,4 @@ pub mod Perform
 pub mod Seen
 pub mod Sound
 pub mod Fits
+pub mod Theorems
