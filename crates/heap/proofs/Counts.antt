@@ -3,7 +3,7 @@ use Prim.Native.Nat.{ℕ, _+_, _*_, _<_, _≤_}
 use mathlib.Core.Path.{_≡_, refl, sym, _∙_, ap}
 use mathlib.Core.Bool.{Bool, true, false, cond}
 use mathlib.Core.List.{List, [], _∷_, _++_}
-use mathlib.Core.Logic.{_⊎_, inl, inr, ⊎-elim}
+use mathlib.Core.Logic.{_≢_, _⊎_, inl, inr, ⊎-elim}
 use native.Mathlib.Omega.{arith}
 use lib.ListN.{length, length-append}
 use lib.Dec.{leb, eqb}
@@ -33,6 +33,9 @@ hit-same x = simp (eq-eqb x x refl)
 
 pub hit-eq : (x y : ℕ) → x ≡ y → hit x y ≡ 1
 hit-eq x y e = rw e (hit-same y)
+
+pub hit-not : (x y : ℕ) → x ≢ y → hit x y ≡ 0
+hit-not x y n = ⊎-elim (λ e. absurd (n (e .0))) (λ e. e .1) (hit-cases x y)
 
 pub count-append : (x : ℕ) (l m : List ℕ) → count x (l ++ m) ≡ count x l + count x m
 count-append x [] m = omega arith

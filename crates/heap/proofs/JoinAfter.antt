@@ -13,7 +13,7 @@ use Rattle.storage.specs.Release.{joinAfter}
 use Rattle.storage.specs.Heap.{Block, Walk, over, frees, hit, count, Links, Heap, free, array}
 use Rattle.heap.specs.Words.{Inner, Quiet, Leaves}
 use Rattle.heap.proofs.Walks.{over-le, walk-same, walk-replace, walk-at}
-use Rattle.heap.proofs.Counts.{hit-cases, hit-same, hit-eq, frees-count, over-append, frees-within, frees-either}
+use Rattle.heap.proofs.Counts.{hit-cases, hit-same, hit-eq, hit-not, frees-count, over-append, frees-within, frees-either}
 use Rattle.heap.proofs.Ring.{links-same, links-last}
 use Rattle.heap.proofs.Search.{members-once, free-ring}
 use Rattle.heap.proofs.Fields.{markFree-length, markFree-other, markFree-first, markFree-end, moveRover-length, moveRover-other, moveRover-base, moveRover-rover}
@@ -160,14 +160,11 @@ module _ {s : List ℕ} {t : List ℕ} (xs : List Block) (z k m : ℕ) (ys : Lis
     rover-in =
         ⊎-elim (λ e. omega (arith, after-count (rover after), hit-eq (rover after) a e, far-q (rover after) e))
         (λ e. let o : rover after ≡ rover s = e .1 ∙ s2-rover in
-        rw o (omega (arith, after-count (rover s), g .once (rover s), hit-same (rover s), not-q (λ w. e .0 (s2-rover ∙ w)))))
+        rw o (omega (arith, after-count (rover s), g .once (rover s), hit-same (rover s), hit-not (rover s) q (λ w. e .0 (s2-rover ∙ w)))))
         (moveRover-rover s2 q a (omega (arith, place, markFree-length s1 a (z + k + m), s1-length)) (omega (arith, place)))
       where
         far-q : (x : ℕ) → x ≡ a → hit x q ≡ 0
-        far-q x e = ⊎-elim (λ w. absurd (omega (arith, place, w, e))) (λ w. w .1) (hit-cases x q)
-
-        not-q : (rover s ≢ q) → hit (rover s) q ≡ 0
-        not-q n = ⊎-elim (λ w. absurd (n (w .0))) (λ w. w .1) (hit-cases (rover s) q)
+        far-q x e = hit-not x q (omega (arith, place, e))
 
     above : (i : ℕ) → end + 2 ≤ i → getD after i 0 ≡ getD s i 0
     above i l =

@@ -23,4 +23,3 @@ pub mod Release
 pub mod Stores
 pub mod Tiling
 pub mod Theorems
-pub mod Marked

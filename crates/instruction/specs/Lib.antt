@@ -4,3 +4,4 @@ pub mod Reading
 pub mod Variables
 pub mod Tables
 pub mod Decoding
+pub mod Examples

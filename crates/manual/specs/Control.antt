@@ -39,7 +39,7 @@ abbrev pub leaving : Seen → Header → ℕ → List Effect → Plan
 leaving seen h temporaries before =
     stopIf (ltb 0 temporaries) 3 12
     (stopIf (seen .bottom) 3 13
-    (stopIf (h .result && isUndefined (seen .result)) 10 0
+    (stopIf (h .result && isUndefined (seen .result (h .result))) 10 0
     (gives (before ++ (leaves (variablesOf h) (h .result) ∷ [])))))
 
 unfoldable pub return : Seen → Header → Plan

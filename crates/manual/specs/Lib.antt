@@ -7,3 +7,4 @@ pub mod Loads
 pub mod Scalars
 pub mod Memory
 pub mod Control
+pub mod Instructions

@@ -9,4 +9,4 @@ pub mod Place
 pub mod Element
 pub mod Counts
 pub mod Theorems
-pub mod Marked
+pub mod Examples

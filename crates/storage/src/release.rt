@@ -12,7 +12,7 @@ use descriptor::address::SegmentAddress;
 use segment::blocks::free_at;
 use segment::blocks::prev_free_at;
 use segment::blocks::size_at;
-use segment::blocks::span_at;
+use segment::blocks::slop_at;
 use segment::minus;
 
 // All SIZE + SLOP words of the block are freed.
@@ -21,7 +21,7 @@ pub fn release(seg: &mut [u32], block: SegmentAddress)
     ensures { λ _. ⌜ now (seg .exit) ≡ releases.release (now (seg .entry)) (block .0) ⌝ }
 {
     let a = block.number();
-    let n = span_at(seg, a);
+    let n = size_at(seg, a) as u32 + slop_at(seg, a);
     let after = a + n;
     if prev_free_at(seg, a) {
         let before = size_at(seg, minus(a, 1)) as u32;

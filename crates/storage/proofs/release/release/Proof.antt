@@ -7,8 +7,17 @@ use Rattle.storage.proofs.release.release.Tie as tie
 number-requires : tie.Need-number-requires
 number-requires c κs = search needs
 
-span-at-requires : tie.Need-span-at-requires
-span-at-requires c κs = search needs
+size-at-requires : tie.Need-size-at-requires
+size-at-requires c κs = search needs
+
+cast-n : tie.Need-cast-n
+cast-n c = search needs
+
+slop-at-requires : tie.Need-slop-at-requires
+slop-at-requires c κs = search needs
+
+add-n : tie.Need-add-n
+add-n c = search needs
 
 add-after : tie.Need-add-after
 add-after c = search needs
@@ -19,8 +28,8 @@ prev-free-at-requires c κs = search needs
 minus-requires : tie.Need-minus-requires
 minus-requires c κs = search needs
 
-size-at-requires : tie.Need-size-at-requires
-size-at-requires c κs = search needs
+size-at-requires-2 : tie.Need-size-at-requires-2
+size-at-requires-2 c κs = search needs
 
 cast-before : tie.Need-cast-before
 cast-before c = search needs
@@ -90,11 +99,14 @@ release-spec =
     tie.close
     (tie.spec
     number-requires
-    span-at-requires
+    size-at-requires
+    cast-n
+    slop-at-requires
+    add-n
     add-after
     prev-free-at-requires
     minus-requires
-    size-at-requires
+    size-at-requires-2
     cast-before
     minus-requires-2
     cast-p

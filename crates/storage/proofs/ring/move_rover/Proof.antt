@@ -1,3 +1,4 @@
+use native.Mathlib.Omega.{arith}
 use mathlib.Core.Path.{sym, _∙_}
 use Rattle.storage.proofs.Releases.{moveRover-on, moveRover-off}
 use borrow.Author.Needs.{needs}
@@ -26,7 +27,7 @@ same-length-2 : tie.Need-same-length-2
 same-length-2 c = search needs
 
 returns-2 : tie.Need-returns-2
-returns-2 c = sym (moveRover-off _ _ _ (λ e. c .if1 .left ((cc) ∙ e)))
+returns-2 c = sym (moveRover-off _ _ _ (omega arith))
 
 pub move-rover-spec : {M : Type 1} → statement M
 move-rover-spec =
