@@ -1,5 +1,5 @@
 -- What the words that no array has are seen as.
-use Prim.Native.Nat.{ℕ, _+_, _/_, _^_, _<_}
+use Prim.Native.Nat.{ℕ, _/_, _^_, _<_}
 use mathlib.Core.Path.{_≡_, refl, sym, _∙_, ap}
 use mathlib.Core.Bool.{true, false}
 use mathlib.Core.List.{List, [], _∷_}
@@ -14,7 +14,7 @@ use Rattle.descriptor.specs.Fields.{isArray, address, undefinedWord}
 use Rattle.descriptor.specs.Kinds.{segment, kindOf, scalarKind, isScalar}
 use Rattle.descriptor.specs.Inverse.{TargetFits}
 use Rattle.descriptor.proofs.Inverse.{inverse}
-use Rattle.segment.specs.Cells.{Cell, undefined, indirect, value, cell, cellOfKind}
+use Rattle.segment.specs.Cells.{undefined, indirect, value, cell, cellOfKind}
 use Rattle.heap.proofs.Ways.{decide}
 use Rattle.owners.proofs.Cells.{array-of}
 use Rattle.effects.specs.Sources.{referenceWord}

@@ -1,8 +1,8 @@
 -- Operands taken.
-use Prim.Native.Nat.{ℕ, zero, suc, _+_, _-_, _*_, _/_, _%_, _^_, _<_, _≤_}
-use mathlib.Core.Path.{_≡_, refl, sym, _∙_, ap}
-use mathlib.Core.List.{List, [], _∷_, _++_, map}
-use mathlib.Core.Logic.{_≢_, _⊎_, inl, inr}
+use Prim.Native.Nat.{ℕ, suc, _+_, _-_, _*_, _/_, _%_, _^_, _<_, _≤_}
+use mathlib.Core.Path.{_≡_, sym, _∙_, ap}
+use mathlib.Core.List.{List, _++_}
+use mathlib.Core.Logic.{_≢_, inr}
 use native.Mathlib.Omega.{arith}
 use lib.ListN.{getD, set, length, drop, length-set}
 use lib.Seq.{getD-set-same, getD-set-other}
@@ -10,11 +10,11 @@ use Rattle.descriptor.specs.Fields.{arrayWord}
 use Rattle.segment.specs.State.{sbase, ltop, lbase, blockptr, setLtop}
 use Rattle.segment.specs.Blocks.{part}
 use Rattle.segment.specs.Stack.{downward}
-use Rattle.segment.specs.Cells.{Cell, cell}
+use Rattle.segment.specs.Cells.{cell}
 use Rattle.storage.specs.Arrays.{drops}
 use Rattle.storage.specs.Heap.{count}
 use Rattle.storage.specs.Owned.{Step}
-use Rattle.view.specs.Machine.{Machine, mapMachine, allCells}
+use Rattle.view.specs.Machine.{mapMachine, allCells}
 use Rattle.view.specs.View.{framesFrom, words, owners, view}
 use Rattle.manual.specs.Effects as manual
 use Rattle.heap.proofs.Counts.{count-append}

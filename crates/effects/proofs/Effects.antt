@@ -1,33 +1,28 @@
 -- Every effect on words is the effect on the view, and its request is found exactly where a free block is long enough.
-use Prim.Native.Nat.{ℕ, zero, suc, _+_, _-_, _/_, _^_, _<_, _≤_}
-use mathlib.Core.Path.{_≡_, refl, sym, _∙_, ap}
-use mathlib.Core.Bool.{Bool, true, false, cond, _||_}
-use mathlib.Core.Logic.{_↔_, _≢_, _⊎_, inl, inr, ⊎-elim}
-use mathlib.Core.List.{List, [], _∷_}
+use Prim.Native.Nat.{ℕ, _-_, _^_, _<_, _≤_}
+use mathlib.Core.Path.{_≡_, sym, _∙_, ap}
+use mathlib.Core.Bool.{true, false, cond}
+use mathlib.Core.Logic.{_≢_, _⊎_, inl, inr, ⊎-elim}
+use mathlib.Core.List.{List}
 use native.Mathlib.Omega.{arith}
-use lib.ListN.{length}
-use lib.Dec.{leb, eqb}
-use borrow.Author.Tests.{eqb-true, eqb-false, eq-eqb, ne-eqb, le-leb, lt-leb}
+use lib.Dec.{eqb}
+use borrow.Author.Tests.{eqb-false, ne-eqb, le-leb}
 use Rattle.descriptor.specs.declared.Target.{Target}
-use Rattle.descriptor.specs.Fields.{isArray, address, arrayWord}
+use Rattle.descriptor.specs.Fields.{arrayWord}
 use Rattle.segment.specs.Blocks.{countAt, shapeAt, elementsAt, need}
-use Rattle.segment.specs.Cells.{Cell, undefined, value, cell}
+use Rattle.segment.specs.Cells.{undefined, value, cell}
 use Rattle.storage.specs.Request.{requestAt}
 use Rattle.storage.specs.Arrays.{placeAt}
-use Rattle.storage.specs.Owned.{Proper}
 use Rattle.view.specs.View.{view}
-use Rattle.heap.specs.Words.{HasRoom}
 use Rattle.manual.specs.Effects as manual
-use Rattle.manual.specs.Effects.{Source, variable, operand, word, undefinedValue, reference, made, Effect, replaces, discards, swaps, stores, storesElement, enters, leaves, jumps, setsOrigin, performOn, performAll}
+use Rattle.manual.specs.Effects.{Source, variable, operand, word, undefinedValue, reference, made, Effect, replaces, discards, swaps, stores, storesElement, enters, leaves, jumps, setsOrigin}
 use Rattle.heap.proofs.Counts.{order}
-use Rattle.heap.proofs.Ways.{decide}
-use Rattle.heap.proofs.Request.{request-theorem}
 use Rattle.owners.proofs.Cells.{array-of, cell-array}
 use Rattle.effects.specs.Sources.{addressOf, heldAt, wordOf, placed}
-use Rattle.effects.specs.Perform.{blockOf, replace, storeAt, store, perform, performs, sourceNeed, wanted, isFull, anyFull}
+use Rattle.effects.specs.Perform.{blockOf, replace, storeAt, store, sourceNeed, isFull}
 use Rattle.effects.specs.Sound.{Sound}
-use Rattle.effects.specs.Fits.{Available, CanReplace, HasElement, Fits}
-use Rattle.effects.specs.Theorems.{Performed, AllFit, makes, asks, NoneAsks, OneRequest, PerformedAll, AsksInVain}
+use Rattle.effects.specs.Fits.{HasElement, Fits}
+use Rattle.effects.specs.Theorems.{Performed}
 use Rattle.effects.proofs.Variables.{look-view}
 use Rattle.effects.proofs.Sources.{Found, put-source}
 use Rattle.effects.proofs.Replace.{finish-view, finish-sound}
@@ -35,7 +30,7 @@ use Rattle.effects.proofs.Discard.{discard-view, discard-sound}
 use Rattle.effects.proofs.Swap.{swap-view, swap-sound}
 use Rattle.effects.proofs.State.{jump-view, jump-sound, origin-view, origin-sound}
 use Rattle.effects.proofs.Store.{stored-view, stored-sound}
-use Rattle.effects.proofs.Element.{array-proper, stored-element-view, stored-element-sound}
+use Rattle.effects.proofs.Element.{stored-element-view, stored-element-sound}
 use Rattle.effects.proofs.Enter.{enter-view, enter-sound}
 use Rattle.effects.proofs.Leave.{with-view, with-sound, without-view, without-sound}
 

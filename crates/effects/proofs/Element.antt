@@ -1,39 +1,38 @@
 -- An element of a variable's array written anew: first the variable gets an array of its own.
-use Prim.Native.Nat.{ℕ, zero, suc, _+_, _-_, _/_, _%_, _^_, _<_, _≤_}
-use mathlib.Core.Path.{_≡_, refl, sym, _∙_, ap, subst}
-use mathlib.Core.Bool.{true, false, cond}
-use mathlib.Core.List.{List, [], _∷_, _++_}
+use Prim.Native.Nat.{ℕ, _+_, _-_, _%_, _^_, _<_, _≤_}
+use mathlib.Core.Path.{_≡_, refl, sym, _∙_, ap}
+use mathlib.Core.Bool.{true, cond}
+use mathlib.Core.List.{List}
 use mathlib.Core.Logic.{_≢_, _⊎_, inl, inr, ⊎-elim}
 use native.Mathlib.Omega.{arith}
-use lib.ListN.{getD, set, length, length-set}
+use lib.ListN.{getD, set, length}
 use lib.Dec.{leb}
 use borrow.Author.Tests.{le-leb, lt-leb}
 use Rattle.descriptor.specs.declared.Target.{Target}
 use Rattle.descriptor.specs.declared.Target.the-variants.{Local, Global}
-use Rattle.descriptor.specs.Fields.{arrayWord, isArray, address}
+use Rattle.descriptor.specs.Fields.{arrayWord}
 use Rattle.descriptor.specs.Kinds.{isScalar}
-use Rattle.segment.specs.State.{sbase, ltop, lbase, blockptr}
+use Rattle.segment.specs.State.{sbase, blockptr}
 use Rattle.segment.specs.Blocks.{countAt, rankAt, shapeAt, elementsAt, product, need}
 use Rattle.segment.specs.Cells.{Cell, undefined, value, cell}
-use Rattle.storage.specs.Arrays.{placeAt, place}
+use Rattle.storage.specs.Arrays.{placeAt}
 use Rattle.storage.specs.Heap.{hit, count}
-use Rattle.storage.specs.Owned.{ArrayIn, Inside, Kept, Proper}
-use Rattle.view.specs.Machine.{Frame, Machine, mapMachine, allCells, depthOfFrames}
+use Rattle.storage.specs.Owned.{ArrayIn, Inside, Proper}
+use Rattle.view.specs.Machine.{Machine, mapMachine, allCells}
 use Rattle.view.specs.View.{words, owners, view}
 use Rattle.manual.specs.Effects as manual
 use Rattle.heap.proofs.Counts.{order, hit-eq, hit-same, hit-cases}
 use Rattle.owners.specs.Element.{setElement, Element}
 use Rattle.owners.specs.Place.{NewArray}
-use Rattle.owners.proofs.Cells.{array-of, cell-array, cell-other, arrayWord-same}
-use Rattle.owners.proofs.Owners.{array-place}
+use Rattle.owners.proofs.Cells.{cell-array, cell-other}
 use Rattle.heap.specs.Request.{Served}
 use Rattle.heap.proofs.Request.{request-theorem}
 use Rattle.owners.proofs.Place.{fresh-place, place-theorem}
 use Rattle.owners.proofs.Element.{element-theorem}
-use Rattle.effects.specs.Sources.{addressOf, heldAt, wordOf, placed}
-use Rattle.effects.specs.Perform.{bottomOf, replace, storeAt, blockOf, unshare, writeElement, storeElement}
+use Rattle.effects.specs.Sources.{addressOf, heldAt, placed}
+use Rattle.effects.specs.Perform.{replace, storeAt, unshare, writeElement, storeElement}
 use Rattle.effects.specs.Sound.{Sound}
-use Rattle.effects.specs.Fits.{InFrames, InMachine, IsVariable, CanReplace, HasElement}
+use Rattle.effects.specs.Fits.{InMachine, IsVariable, CanReplace}
 use Rattle.effects.proofs.Machines.{machine-agree}
 use Rattle.effects.proofs.Frames.{part-length, chain-same, words-kept}
 use Rattle.effects.proofs.Sound.{Bounds, bounds, Regs, kept-regs}

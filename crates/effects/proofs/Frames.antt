@@ -1,19 +1,17 @@
 -- The frames of a segment and their chain: one turn of each, and what they are read off.
 use Prim.Native.Nat.{ℕ, zero, suc, _+_, _-_, _/_, _%_, _^_, _<_, _≤_}
 use mathlib.Core.Path.{_≡_, refl, sym, _∙_, ap, subst}
-use mathlib.Core.Bool.{Bool, true, false, cond}
-use mathlib.Core.List.{List, [], _∷_, _++_, map}
+use mathlib.Core.List.{List, [], _∷_}
 use mathlib.Core.Logic.{_⊎_, inl, inr, ⊎-elim}
 use native.Mathlib.Omega.{arith}
 use lib.ListN.{getD, length, drop, length-append}
-use lib.Dec.{leb}
-use borrow.Author.Tests.{leb-false, le-leb, lt-leb}
-use Rattle.segment.specs.State.{sbase, ltop, lbase, flags, blockptr}
+use borrow.Author.Tests.{le-leb, lt-leb}
+use Rattle.segment.specs.State.{sbase, ltop, lbase, blockptr}
 use Rattle.segment.specs.Blocks.{part}
 use Rattle.segment.specs.Stack.{lastLbaseAt, codeWordAt, downward}
 use Rattle.storage.specs.Owned.{Kept}
-use Rattle.view.specs.Machine.{Frame, Machine, cellsOfFrames, depthOfFrames, depth}
-use Rattle.view.specs.View.{frameAt, framesFrom, words}
+use Rattle.view.specs.Machine.{Frame, cellsOfFrames, depthOfFrames}
+use Rattle.view.specs.View.{framesFrom, words}
 use Rattle.heap.proofs.Counts.{order}
 use Rattle.heap.proofs.Walks.{Same}
 use Rattle.owners.proofs.Cells.{part-same}

@@ -1,9 +1,9 @@
 -- The current frame goes, with or without a result.
-use Prim.Native.Nat.{ℕ, zero, suc, _+_, _-_, _*_, _/_, _%_, _^_, _<_, _≤_}
+use Prim.Native.Nat.{ℕ, suc, _+_, _-_, _*_, _/_, _%_, _^_, _<_, _≤_}
 use mathlib.Core.Path.{_≡_, refl, sym, _∙_, ap, subst}
 use mathlib.Core.Bool.{true, false}
 use mathlib.Core.List.{List, [], _∷_, _++_, map}
-use mathlib.Core.Logic.{_≢_, _⊎_, inl, inr, ⊎-elim}
+use mathlib.Core.Logic.{_≢_, inr}
 use native.Mathlib.Omega.{arith}
 use lib.ListN.{getD, set, length, drop, length-set, List·getD-map}
 use lib.Seq.{getD-set-same, getD-set-other}
@@ -15,10 +15,10 @@ use Rattle.segment.specs.Cells.{Cell, undefined, cell}
 use Rattle.storage.specs.Arrays.{share, drops}
 use Rattle.storage.specs.Heap.{count}
 use Rattle.storage.specs.Owned.{Owned, Kept, Step}
-use Rattle.view.specs.Machine.{Frame, Machine, mapMachine, cellsOfFrames, allCells}
+use Rattle.view.specs.Machine.{Machine, mapMachine, cellsOfFrames, allCells}
 use Rattle.view.specs.View.{framesFrom, words, owners, view}
 use Rattle.manual.specs.Effects as manual
-use Rattle.heap.proofs.Counts.{hit-same, count-append}
+use Rattle.heap.proofs.Counts.{count-append}
 use Rattle.owners.specs.Elsewhere.{Elsewhere}
 use Rattle.owners.proofs.Cells.{part-same}
 use Rattle.owners.proofs.Owners.{reown}

@@ -17,4 +17,5 @@ pub mod Leave
 pub mod Effects
 pub mod Lists
 pub mod Others
+pub mod Seen
 pub mod Theorems

@@ -1,23 +1,21 @@
 -- Effects one after the other, and when storage is full for them.
-use Prim.Native.Nat.{ℕ, zero, suc, _+_, _<_, _≤_}
+use Prim.Native.Nat.{ℕ, _<_, _≤_}
 use mathlib.Core.Path.{_≡_, refl, sym, _∙_, ap}
 use mathlib.Core.Bool.{Bool, true, false, cond, _||_}
 use mathlib.Core.Logic.{_↔_, _≢_, _⊎_, inl, inr, ⊎-elim}
 use mathlib.Core.List.{List, [], _∷_}
 use native.Mathlib.Omega.{arith}
-use lib.ListN.{length}
-use lib.Dec.{leb, eqb}
+use lib.Dec.{eqb}
 use borrow.Author.Tests.{eqb-true, eqb-false, eq-eqb, ne-eqb, le-leb, lt-leb}
-use Rattle.segment.specs.Blocks.{countAt, shapeAt, elementsAt, need}
+use Rattle.segment.specs.Blocks.{countAt}
 use Rattle.storage.specs.Request.{requestAt}
-use Rattle.view.specs.View.{view}
 use Rattle.heap.specs.Words.{HasRoom}
-use Rattle.manual.specs.Effects.{Source, variable, operand, word, undefinedValue, reference, made, Effect, replaces, discards, swaps, stores, storesElement, enters, leaves, jumps, setsOrigin, performOn, performAll}
+use Rattle.manual.specs.Effects.{Source, variable, operand, word, undefinedValue, reference, made, Effect, replaces, discards, swaps, stores, storesElement, enters, leaves, jumps, setsOrigin, performAll}
 use Rattle.heap.proofs.Counts.{order}
 use Rattle.heap.proofs.Ways.{decide}
 use Rattle.heap.proofs.Request.{request-theorem}
 use Rattle.effects.specs.Sources.{addressOf}
-use Rattle.effects.specs.Perform.{blockOf, perform, performs, sourceNeed, wanted, isFull, anyFull}
+use Rattle.effects.specs.Perform.{blockOf, perform, sourceNeed, wanted, isFull, anyFull}
 use Rattle.effects.specs.Sound.{Sound}
 use Rattle.effects.specs.Fits.{Available, Fits}
 use Rattle.effects.specs.Theorems.{Performed, AllFit, makes, asks, NoneAsks, OneRequest, PerformedAll, AsksInVain}

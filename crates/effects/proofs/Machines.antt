@@ -1,11 +1,11 @@
 -- Machines of cells: how often a word stands in one, and the same machine seen by two functions that agree on its words.
-use Prim.Native.Nat.{ℕ, zero, suc, _+_, _-_, _<_, _≤_}
+use Prim.Native.Nat.{ℕ, zero, suc, _+_, _-_, _<_}
 use mathlib.Core.Path.{_≡_, refl, _∙_, ap}
 use mathlib.Core.List.{List, [], _∷_, _++_, map}
 use native.Mathlib.Omega.{arith}
-use lib.ListN.{getD, set, length, drop, replicate, length-append, length-map}
+use lib.ListN.{getD, set, length, drop, replicate, length-map}
 use Rattle.storage.specs.Heap.{hit, count}
-use Rattle.view.specs.Machine.{Frame, Machine, mapFrames, mapMachine, cellsOfFrames, allCells, depthOfFrames, depth}
+use Rattle.view.specs.Machine.{Frame, Machine, mapFrames, mapMachine, cellsOfFrames, allCells, depthOfFrames}
 use Rattle.manual.specs.Effects.{swapped, currentCells, older, jumpFrames}
 use Rattle.heap.proofs.Counts.{hit-same, count-append}
 

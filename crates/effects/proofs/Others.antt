@@ -1,22 +1,20 @@
 -- A variable that an effect does not store to is seen as before.
-use Prim.Native.Nat.{ℕ, _+_, _/_, _%_, _^_, _<_}
+use Prim.Native.Nat.{ℕ, _+_, _/_, _%_, _^_}
 use mathlib.Core.Path.{_≡_, refl, sym, _∙_, ap}
 use mathlib.Core.Bool.{false}
 use mathlib.Core.List.{List, [], _∷_, _++_}
-use mathlib.Core.Logic.{_≢_}
-use native.Mathlib.Omega.{arith}
 use lib.ListN.{replicate}
 use Rattle.descriptor.specs.declared.Target.{Target}
 use Rattle.descriptor.specs.declared.Target.the-variants.{Local, Global}
 use Rattle.segment.specs.Cells.{Cell, undefined}
-use Rattle.view.specs.Machine.{Frame, Machine, mapMachine}
-use Rattle.view.specs.View.{words, view}
+use Rattle.view.specs.Machine.{Frame, Machine}
+use Rattle.view.specs.View.{view}
 use Rattle.manual.specs.Effects as manual
 use Rattle.manual.specs.Effects.{Effect, replaces, discards, swaps, stores, storesElement, enters, leaves, jumps, setsOrigin, look, performOn}
 use Rattle.effects.specs.Perform.{perform, isFull}
 use Rattle.effects.specs.Sound.{Sound}
 use Rattle.effects.specs.Fits.{InFrames, InMachine, IsVariable, Fits}
-use Rattle.effects.specs.Theorems.{Performed, StoresTo}
+use Rattle.effects.specs.Theorems.{StoresTo}
 use Rattle.effects.proofs.Cellwise.{look-below, in-depth, look-other}
 use Rattle.effects.proofs.Variables.{in-view}
 use Rattle.effects.proofs.Effects.{perform-theorem}

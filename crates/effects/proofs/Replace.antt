@@ -1,8 +1,8 @@
 -- Operands taken and a result in their place.
-use Prim.Native.Nat.{ℕ, zero, suc, _+_, _-_, _*_, _/_, _%_, _^_, _<_, _≤_}
-use mathlib.Core.Path.{_≡_, refl, sym, _∙_, ap, subst}
-use mathlib.Core.List.{List, [], _∷_, _++_, map}
-use mathlib.Core.Logic.{_≢_, _⊎_, inl, inr, ⊎-elim}
+use Prim.Native.Nat.{ℕ, suc, _+_, _-_, _*_, _/_, _%_, _^_, _<_, _≤_}
+use mathlib.Core.Path.{_≡_, sym, _∙_, ap, subst}
+use mathlib.Core.List.{List, _∷_, _++_}
+use mathlib.Core.Logic.{_≢_, inr}
 use native.Mathlib.Omega.{arith}
 use lib.ListN.{getD, set, length, drop, length-set}
 use lib.Seq.{getD-set-same, getD-set-other}

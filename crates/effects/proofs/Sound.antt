@@ -1,14 +1,12 @@
 -- What a sound segment has: the bounds of its parts, few cells, and soundness after a write outside array storage.
-use Prim.Native.Nat.{ℕ, zero, suc, _+_, _-_, _/_, _%_, _^_, _<_, _≤_}
-use mathlib.Core.Path.{_≡_, refl, sym, _∙_, ap}
-use mathlib.Core.List.{List, [], _∷_, _++_}
-use mathlib.Core.Logic.{_≢_, _⊎_, inl, inr, ⊎-elim}
+use Prim.Native.Nat.{ℕ, suc, _+_, _-_, _/_, _%_, _^_, _<_, _≤_}
+use mathlib.Core.Path.{_≡_, ap}
+use mathlib.Core.List.{List, _++_}
+use mathlib.Core.Logic.{_≢_, _⊎_, inl, ⊎-elim}
 use native.Mathlib.Omega.{arith}
 use lib.ListN.{getD, set, length, length-set, length-append}
 use lib.Seq.{getD-set-other}
 use Rattle.segment.specs.State.{sbase, ltop, lbase, blockptr}
-use Rattle.segment.specs.Stack.{downward}
-use Rattle.segment.specs.Blocks.{part}
 use Rattle.storage.specs.Owned.{Kept}
 use Rattle.view.specs.Machine.{cellsOfFrames, depth}
 use Rattle.view.specs.View.{words, owners}

@@ -1,20 +1,19 @@
 -- A result placed or shared: one owner more, seen as the source means.
 use Prim.Native.Nat.{ℕ, _<_}
-use mathlib.Core.Path.{_≡_, refl, sym, _∙_}
-use mathlib.Core.Bool.{true, false}
-use mathlib.Core.Logic.{_≢_, inl, inr}
-use mathlib.Core.List.{List, [], _∷_}
+use mathlib.Core.Path.{_≡_, refl, _∙_}
+use mathlib.Core.Bool.{false}
+use mathlib.Core.Logic.{_≢_, inl}
+use mathlib.Core.List.{List, _∷_}
 use native.Mathlib.Omega.{arith}
 use lib.ListN.{length}
 use Rattle.descriptor.specs.Fields.{isArray, undefinedWord}
 use Rattle.segment.specs.Cells.{Cell, undefined, cell}
-use Rattle.storage.specs.Arrays.{placeAt, place, share}
+use Rattle.storage.specs.Arrays.{placeAt, share}
 use Rattle.storage.specs.Heap.{count}
 use Rattle.storage.specs.Owned.{Owned, Step}
 use Rattle.view.specs.View.{owners, view}
 use Rattle.manual.specs.Effects.{Source, variable, operand, word, undefinedValue, reference, made, meant}
 use Rattle.heap.proofs.Counts.{hit-same}
-use Rattle.owners.specs.Place.{NewArray}
 use Rattle.owners.proofs.Steps.{step-none, plain, share-own}
 use Rattle.owners.proofs.Place.{place-theorem}
 use Rattle.effects.specs.Sources.{heldAt, operandAt, referenceWord, wordOf, placed}

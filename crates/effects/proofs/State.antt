@@ -1,7 +1,7 @@
 -- PCTR of the current frame, and the index origin.
-use Prim.Native.Nat.{ℕ, zero, suc, _+_, _-_, _*_, _/_, _%_, _^_, _<_, _≤_}
+use Prim.Native.Nat.{ℕ, suc, _+_, _-_, _*_, _/_, _%_, _^_, _<_, _≤_}
 use mathlib.Core.Path.{_≡_, refl, sym, _∙_, ap}
-use mathlib.Core.List.{List, [], _∷_, _++_, map}
+use mathlib.Core.List.{List}
 use mathlib.Core.Logic.{_≢_, inr, ⊎-elim}
 use native.Mathlib.Omega.{arith}
 use lib.ListN.{getD, set, length, length-set}
@@ -10,7 +10,7 @@ use Rattle.segment.specs.State.{sbase, ltop, lbase, flags, blockptr, setIorg}
 use Rattle.segment.specs.Blocks.{part}
 use Rattle.segment.specs.Stack.{lastLbaseAt, codeWordAt, downward, setPctr}
 use Rattle.segment.specs.Cells.{cell}
-use Rattle.view.specs.Machine.{Machine, mapMachine}
+use Rattle.view.specs.Machine.{mapMachine}
 use Rattle.view.specs.View.{framesFrom, words, view}
 use Rattle.manual.specs.Effects as manual
 use Rattle.heap.proofs.Counts.{order}

@@ -1,14 +1,14 @@
 -- A result stored into a variable.
-use Prim.Native.Nat.{ℕ, zero, suc, _+_, _-_, _/_, _%_, _^_, _<_, _≤_}
-use mathlib.Core.Path.{_≡_, refl, sym, _∙_, ap, subst}
-use mathlib.Core.List.{List, [], _∷_, _++_}
+use Prim.Native.Nat.{ℕ, suc, _-_, _/_, _%_, _^_, _<_, _≤_}
+use mathlib.Core.Path.{_≡_, refl, sym, _∙_, ap}
+use mathlib.Core.List.{List, _∷_}
 use mathlib.Core.Logic.{_≢_, _⊎_, inl, inr, ⊎-elim}
 use native.Mathlib.Omega.{arith}
 use lib.ListN.{getD, set, length, length-set}
 use lib.Seq.{getD-set-same, getD-set-other}
 use Rattle.descriptor.specs.declared.Target.{Target}
 use Rattle.descriptor.specs.Fields.{arrayWord}
-use Rattle.segment.specs.State.{sbase, ltop, lbase, blockptr}
+use Rattle.segment.specs.State.{blockptr}
 use Rattle.segment.specs.Cells.{Cell, cell}
 use Rattle.storage.specs.Arrays.{drop}
 use Rattle.storage.specs.Heap.{hit, count}

@@ -1,7 +1,7 @@
 -- The first two operands change places.
-use Prim.Native.Nat.{ℕ, zero, suc, _+_, _-_, _*_, _/_, _%_, _^_, _<_, _≤_}
-use mathlib.Core.Path.{_≡_, refl, sym, _∙_, ap}
-use mathlib.Core.List.{List, [], _∷_, _++_, map}
+use Prim.Native.Nat.{ℕ, suc, _+_, _-_, _/_, _%_, _^_, _<_, _≤_}
+use mathlib.Core.Path.{_≡_, _∙_, ap}
+use mathlib.Core.List.{List}
 use mathlib.Core.Logic.{_≢_}
 use native.Mathlib.Omega.{arith}
 use lib.ListN.{getD, set, length, length-set}
@@ -12,7 +12,7 @@ use Rattle.segment.specs.Blocks.{part}
 use Rattle.segment.specs.Stack.{downward}
 use Rattle.segment.specs.Cells.{cell}
 use Rattle.storage.specs.Heap.{count}
-use Rattle.view.specs.Machine.{Machine, mapMachine, allCells}
+use Rattle.view.specs.Machine.{mapMachine, allCells}
 use Rattle.view.specs.View.{framesFrom, words, owners, view}
 use Rattle.manual.specs.Effects as manual
 use Rattle.owners.specs.Elsewhere.{Elsewhere}

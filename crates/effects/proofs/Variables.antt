@@ -1,7 +1,7 @@
 -- A variable's cell among the words: where it stands, a store to it, and what it is seen as.
-use Prim.Native.Nat.{ℕ, zero, suc, _+_, _-_, _/_, _%_, _^_, _<_, _≤_}
-use mathlib.Core.Path.{_≡_, refl, sym, _∙_, ap, subst}
-use mathlib.Core.List.{List, [], _∷_, _++_, map}
+use Prim.Native.Nat.{ℕ, zero, suc, _+_, _-_, _/_, _^_, _<_, _≤_}
+use mathlib.Core.Path.{_≡_, refl, sym, _∙_, ap}
+use mathlib.Core.List.{List, [], _∷_, map}
 use mathlib.Core.Logic.{_≢_, _⊎_, inl, inr, ⊎-elim}
 use native.Mathlib.Omega.{arith}
 use lib.ListN.{getD, set, length, List·getD-map}
@@ -13,8 +13,8 @@ use Rattle.segment.specs.State.{sbase, ltop, lbase, blockptr}
 use Rattle.segment.specs.Blocks.{part}
 use Rattle.segment.specs.Stack.{lastLbaseAt, codeWordAt, downward}
 use Rattle.segment.specs.Cells.{Cell, undefined, cell}
-use Rattle.storage.specs.Heap.{hit, count}
-use Rattle.view.specs.Machine.{Frame, Machine, mapMachine, allCells, depthOfFrames}
+use Rattle.storage.specs.Heap.{count}
+use Rattle.view.specs.Machine.{Machine, mapMachine, allCells, depthOfFrames}
 use Rattle.view.specs.View.{framesFrom, words, owners, view}
 use Rattle.manual.specs.Effects.{indexIn, look, putFrames, put}
 use Rattle.heap.proofs.Counts.{order, hit-same, hit-cases}
@@ -28,8 +28,8 @@ use Rattle.effects.specs.Fits.{InFrames, InMachine, IsVariable}
 use Rattle.effects.proofs.Machines.{cells-count, count-getD}
 use Rattle.effects.proofs.Cells.{undefined-cell}
 use Rattle.effects.proofs.Frames.{downward-length, part-length, frame, frames-bottom, frames-next, frames-same, chain-same, depth-is}
-use Rattle.effects.proofs.Sound.{Bounds, bounds}
-use Rattle.effects.proofs.Cellwise.{put-here, put-below, in-depth, in-cases, count-put, look-put, map-look, in-map}
+use Rattle.effects.proofs.Sound.{bounds}
+use Rattle.effects.proofs.Cellwise.{put-here, put-below, count-put, look-put, map-look, in-map}
 
 downward-set : (s : List ℕ) (a n j w : ℕ) → j < n → a + n ≤ length s → downward (set s (a + n - 1 - j) w) a n ≡ set (downward s a n) j w
 downward-set s a zero j w h l = absurd (omega arith)

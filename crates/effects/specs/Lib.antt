@@ -4,4 +4,5 @@ pub mod Perform
 pub mod Seen
 pub mod Sound
 pub mod Fits
+pub mod Alike
 pub mod Theorems

@@ -1,18 +1,23 @@
 -- What is proved of effects on words. Demand 2 of document 01 rests on it: what an instruction leaves is sound again, its view
 -- is the effect that the manual speaks of, every variable that is not stored to is seen as before, though arrays are shared,
 -- and (1,2) is given exactly where no free block is long enough. Proved in proofs/Theorems. Assumes nothing.
-use Prim.Native.Nat.{ℕ}
+use Prim.Native.Nat.{ℕ, _-_}
 use mathlib.Core.Path.{_≡_}
 use mathlib.Core.Bool.{Bool, true, false}
 use mathlib.Core.Logic.{_↔_, _≢_, _⊎_}
 use mathlib.Core.List.{List, [], _∷_}
+use lib.ListN.{length}
 use Rattle.descriptor.specs.declared.Target.{Target}
+use Rattle.segment.specs.State.{sbase}
 use Rattle.segment.specs.Cells.{undefined}
 use Rattle.storage.specs.Heap.{Block}
 use Rattle.view.specs.View.{view}
 use Rattle.heap.specs.Words.{HasRoom}
 use Rattle.manual.specs.Effects.{Source, variable, operand, word, undefinedValue, reference, made, Effect, replaces, discards, swaps, stores, storesElement, enters, leaves, jumps, setsOrigin, look, performOn, performAll}
+use Rattle.manual.specs.Seen.{seenOf}
 use Rattle.effects.specs.Perform.{perform, performs, wanted, isFull, anyFull}
+use Rattle.effects.specs.Seen.{seen}
+use Rattle.effects.specs.Alike.{seenBy, Runs}
 use Rattle.effects.specs.Sound.{Sound}
 use Rattle.effects.specs.Fits.{IsVariable, Fits}
 
@@ -89,3 +94,6 @@ pub record EffectsTheorems : Type 0 where
   pub allPerformed : (s : List ℕ) → Sound s → (es : List Effect) → AllFit s es → OneRequest es → anyFull s es ≡ false → PerformedAll s es
   -- (1,2) is given exactly where a block is asked for and none is long enough.
   pub full : (s : List ℕ) (sound : Sound s) (es : List Effect) → AllFit s es → OneRequest es → (anyFull s es ≡ true) ↔ AsksInVain s (sound .own .blocks) es
+  -- What an instruction of the running function sees of the words is what it sees of the view.
+  pub alike : (s : List ℕ) → Sound s → (variables : ℕ) (result : Bool) → Runs s variables result
+      → seenBy variables result (seen s) ≡ seenBy variables result (seenOf (length s - sbase s) (view s))
