@@ -56,14 +56,20 @@ count-frames x (r ∷ l) a u v h = go (λ k. count-frames x l a u v k) (in-cases
         → count x (cellsOfFrames (putFrames a u (r ∷ l))) + hit x v ≡ count x (cellsOfFrames (putFrames a v (r ∷ l))) + hit x u
     go more (inl k) =
         rw (put-here a u r l (k .0), put-here a v r l (k .0))
-        (omega
-        (arith, count-append x (set (r .cells) (indexIn (r .cells) l a) u) (cellsOfFrames l),
-        count-append x (set (r .cells) (indexIn (r .cells) l a) v) (cellsOfFrames l), count-set x (r .cells) (indexIn (r .cells) l a) u v (k .1)))
+        (omega (
+          arith,
+          count-append x (set (r .cells) (indexIn (r .cells) l a) u) (cellsOfFrames l),
+          count-append x (set (r .cells) (indexIn (r .cells) l a) v) (cellsOfFrames l),
+          count-set x (r .cells) (indexIn (r .cells) l a) u v (k .1),
+        ))
     go more (inr k) =
         rw (put-below a u r l (k .0), put-below a v r l (k .0))
-        (omega
-        (arith, count-append x (r .cells) (cellsOfFrames (putFrames a u l)), count-append x (r .cells) (cellsOfFrames (putFrames a v l)),
-        more (k .1)))
+        (omega (
+          arith,
+          count-append x (r .cells) (cellsOfFrames (putFrames a u l)),
+          count-append x (r .cells) (cellsOfFrames (putFrames a v l)),
+          more (k .1),
+        ))
 
 pub count-put : (x : ℕ) (t : Target) (m : Machine ℕ) (u v : ℕ) → InMachine t m
     → count x (allCells (put t u m)) + hit x v ≡ count x (allCells (put t v m)) + hit x u
@@ -227,9 +233,10 @@ in-mapFrames f a [] = (λ h. h, λ h. h)
 in-mapFrames f a (r ∷ l) =
     let d = depth-map f l in
     let n = length-map (r .cells) f in
-    let more = in-mapFrames f a l in
-    (λ h. ⊎-elim (λ k. inl (omega (arith, k), omega (arith, k))) (λ k. inr (more .0 k)) h,
-    λ h. ⊎-elim (λ k. inl (omega (arith, k), omega (arith, k))) (λ k. inr (more .1 k)) h)
+    let more = in-mapFrames f a l in (
+      λ h. ⊎-elim (λ k. inl (omega (arith, k), omega (arith, k))) (λ k. inr (more .0 k)) h,
+      λ h. ⊎-elim (λ k. inl (omega (arith, k), omega (arith, k))) (λ k. inr (more .1 k)) h,
+    )
 
 pub in-map : {A : Type 0} (f : ℕ → A) (t : Target) (m : Machine ℕ) → InMachine t m ↔ InMachine t (mapMachine f m)
 in-map f (Global g) m = let n = length-map (m .globals) f in (λ h. omega (arith, h), λ h. omega (arith, h))

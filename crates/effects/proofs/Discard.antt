@@ -63,13 +63,13 @@ module _ (s : List ℕ) (n : ℕ) (some : n ≤ ltop s - (lbase s + 1)) (low : 8
       let o4 : getD s′ 4 0 ≡ getD s 4 0 = cut-other 4 (omega arith) in
       let gl : part s′ 8 (blockptr s - 8) ≡ part s 8 (blockptr s - 8) = part-same s s′ 8 (blockptr s - 8) (λ j l u. cut-other j (omega arith)) in
       let fr : framesFrom (suc (lbase s)) s′ (lbase s) ≡ framesFrom (suc (lbase s)) s (lbase s) = frames-same (suc (lbase s)) s s′ (lbase s) (cut-regs .0)
-          (λ j l u. cut-other j (omega arith)) in
+      (λ j l u. cut-other j (omega arith)) in
       let e : ltop s - n - (lbase s + 1) ≡ ltop s - (lbase s + 1) - n = omega arith in
       let k : ltop s - (lbase s + 1) ≡ ltop s - (lbase s + 1) - n + n = omega arith in
       let tm : downward s′ (sbase s + lbase s + 2) (ltop s - (lbase s + 1) - n) ≡ drop n (downward s (sbase s + lbase s + 2) (ltop s - (lbase s + 1))) =
-          downward-same s s′ (sbase s + lbase s + 2) (ltop s - (lbase s + 1) - n) (λ j l u. cut-other j (omega arith))
-          ∙ sym
-          (ap (λ (i : ℕ). drop n (downward s (sbase s + lbase s + 2) i)) k ∙ drop-downward s (sbase s + lbase s + 2) (ltop s - (lbase s + 1) - n) n) in
+      downward-same s s′ (sbase s + lbase s + 2) (ltop s - (lbase s + 1) - n) (λ j l u. cut-other j (omega arith))
+      ∙ sym
+      (ap (λ (i : ℕ). drop n (downward s (sbase s + lbase s + 2) i)) k ∙ drop-downward s (sbase s + lbase s + 2) (ltop s - (lbase s + 1) - n) n) in
       rw (cut-regs .0, cut-regs .1, o1, o2, o4, gl, fr, e, tm)
 
 module _ (s : List ℕ) (g : Sound s) (n : ℕ) (some : n ≤ temporaries s) where
@@ -87,9 +87,14 @@ module _ (s : List ℕ) (g : Sound s) (n : ℕ) (some : n ≤ temporaries s) whe
 
   split-count : (x : ℕ) → count x (downward s b n ++ us) ≡ count x (owners s)
   split-count x =
-      omega
-      (arith, count-append x (downward s b n) us, cells-count x (manual.discard n (words s)), cells-count x (words s),
-      ap (count x) (temporaries-split s n some (g .above)), count-append x (downward s b n) (drop n (words s .temporaries)))
+      omega (
+        arith,
+        count-append x (downward s b n) us,
+        cells-count x (manual.discard n (words s)),
+        cells-count x (words s),
+        ap (count x) (temporaries-split s n some (g .above)),
+        count-append x (downward s b n) (drop n (words s .temporaries)),
+      )
 
   dropped : Step s (downward s b n ++ us) s2 us
   dropped = drops-own n us b (reown (downward s b n ++ us) (λ x l. split-count (arrayWord x)) (g .own)) (omega (arith, low, some))

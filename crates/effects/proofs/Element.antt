@@ -203,11 +203,17 @@ module _ (s : List ℕ) (g : Sound s) (t : Target) (at : IsVariable s t) (x : �
     once =
         let u = new .unowned in
         let d : hit (arrayWord y) (arrayWord x) ≡ 0 = ⊎-elim
-            (λ e. absurd (omega (arith, u, variable-owner s g t at, ap (λ (v : ℕ). count v (owners s)) (is ∙ sym (e .0))))) (λ e. e .1)
-            (hit-cases (arrayWord y) (arrayWord x)) in
-        omega
-        (arith, ap (λ (m : Machine ℕ). count (arrayWord y) (allCells m)) words1, count-put (arrayWord y) t (words s) (arrayWord y) (arrayWord x) at,
-        hit-same (arrayWord y), d, u, ap (λ (m : Machine ℕ). count (arrayWord y) (allCells m)) (rw is at (same-put s g t at)))
+        (λ e. absurd (omega (arith, u, variable-owner s g t at, ap (λ (v : ℕ). count v (owners s)) (is ∙ sym (e .0))))) (λ e. e .1)
+        (hit-cases (arrayWord y) (arrayWord x)) in
+        omega (
+          arith,
+          ap (λ (m : Machine ℕ). count (arrayWord y) (allCells m)) words1,
+          count-put (arrayWord y) t (words s) (arrayWord y) (arrayWord x) at,
+          hit-same (arrayWord y),
+          d,
+          u,
+          ap (λ (m : Machine ℕ). count (arrayWord y) (allCells m)) (rw is at (same-put s g t at)),
+        )
 
     this : value (shapeAt s1 y) (elementsAt s1 y) ≡ value (shapeAt s x) (elementsAt s x)
     unfolding storeAt

@@ -143,9 +143,9 @@ module _ (s : List ℕ) (g : Sound s) (n f : ℕ) (fit : sbase s + ltop s + n + 
       let o : sbase s + (lbase s + 2) ≡ sbase s + lbase s + 2 = omega arith in
       let a : sbase s + lbase s + 2 + (ltop s - (lbase s + 1)) ≡ t = omega (arith, low) in
       let r : downward s2 t n ≡ replicate n undefinedWord = downward-run n s2 t undefinedWord
-          (λ k l. over1 (t + k) (omega (arith, low)) (omega (arith, low)) ∙ sets-run n s t undefinedWord (lbase s ∷ f ∷ []) (omega (arith, fit)) k l) in
+      (λ k l. over1 (t + k) (omega (arith, low)) (omega (arith, low)) ∙ sets-run n s t undefinedWord (lbase s ∷ f ∷ []) (omega (arith, fit)) k l) in
       let q : downward s2 (sbase s + lbase s + 2) (ltop s - (lbase s + 1)) ≡ downward s (sbase s + lbase s + 2) (ltop s - (lbase s + 1)) = downward-same s s2
-          (sbase s + lbase s + 2) (ltop s - (lbase s + 1)) (λ i l u. other i (omega (arith, low)) (omega (arith, low)) (inl (omega (arith, low)))) in
+      (sbase s + lbase s + 2) (ltop s - (lbase s + 1)) (λ i l u. other i (omega (arith, low)) (omega (arith, low)) (inl (omega (arith, low)))) in
       rw (e, o) (downward-split s2 (sbase s + lbase s + 2) (ltop s - (lbase s + 1)) n ∙ rw (a, r, q))
 
   marks : (getD s2 (sbase s + (ltop s + n + 1)) 0 ≡ lbase s) × (getD s2 (sbase s + (ltop s + n + 1) + 1) 0 ≡ f)
@@ -163,9 +163,11 @@ module _ (s : List ℕ) (g : Sound s) (n f : ℕ) (fit : sbase s + ltop s + n + 
       ∷ framesFrom (suc (lbase s)) s (lbase s)
   frames2 =
       frames-next (ltop s + n + 1) s2 (ltop s + n + 1) (sbase s) (lbase s) f base2 (marks .0) (marks .1) (omega (arith, low))
-      ∙ rw
-      (cells2, frames-fuel (ltop s + n + 1) (suc (lbase s)) s2 (lbase s) (omega (arith, low)) (omega arith),
-      frames-same (suc (lbase s)) s s2 (lbase s) base2 same2)
+      ∙ rw (
+        cells2,
+        frames-fuel (ltop s + n + 1) (suc (lbase s)) s2 (lbase s) (omega (arith, low)) (omega arith),
+        frames-same (suc (lbase s)) s s2 (lbase s) base2 same2,
+      )
 
   words2 : words s2 ≡ manual.enter undefinedWord n f (words s)
   unfolding words
@@ -173,15 +175,19 @@ module _ (s : List ℕ) (g : Sound s) (n f : ℕ) (fit : sbase s + ltop s + n + 
       let fl : getD s2 2 0 ≡ getD s 2 0 = other 2 (omega arith) (omega arith) (inl (omega (arith, low))) in
       let e : ltop s + n + 2 - (ltop s + n + 1 + 1) ≡ 0 = omega arith in
       let gl : part s2 8 (blockptr s - 8) ≡ part s 8 (blockptr s - 8) = part-same s s2 8 (blockptr s - 8)
-          (λ i l u. other i (omega arith) (omega arith) (inl (omega (arith, low)))) in
+      (λ i l u. other i (omega arith) (omega arith) (inl (omega (arith, low)))) in
       rw (fl, base2, top2, frame2, start2, e, frames2, gl)
 
   counted : (x : ℕ) → x < 2 ^ 16 → count (arrayWord x) (allCells (manual.enter undefinedWord n f (words s))) ≡ count (arrayWord x) (owners s)
   counted x l =
-      omega
-      (arith, cells-count (arrayWord x) (manual.enter undefinedWord n f (words s)), cells-count (arrayWord x) (words s),
-      count-append (arrayWord x) (replicate n undefinedWord ++ words s .temporaries) (cellsOfFrames (words s .frames)),
-      count-append (arrayWord x) (replicate n undefinedWord) (words s .temporaries), run-count n undefinedWord x refl l)
+      omega (
+        arith,
+        cells-count (arrayWord x) (manual.enter undefinedWord n f (words s)),
+        cells-count (arrayWord x) (words s),
+        count-append (arrayWord x) (replicate n undefinedWord ++ words s .temporaries) (cellsOfFrames (words s .frames)),
+        count-append (arrayWord x) (replicate n undefinedWord) (words s .temporaries),
+        run-count n undefinedWord x refl l,
+      )
 
   sound2 : Sound s2
   sound2 = record {

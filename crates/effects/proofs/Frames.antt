@@ -55,9 +55,10 @@ frames-same (suc n) s s′ base b e =
     ∙ rw (downward-same s s′ (sbase s + 0) (base - 0) (λ i p q. e i (omega arith) (omega arith)))
     (sym (frames-bottom n s base (sbase s) _ _ refl refl refl h)))
     (λ h. frames-next n s′ base (sbase s) _ _ b l f h
-    ∙ rw
-    (downward-same s s′ (sbase s + (lastLbaseAt s base + 2)) (base - (lastLbaseAt s base + 2)) (λ i p q. e i (omega arith) (omega arith)),
-    frames-same n s s′ (lastLbaseAt s base) b (λ i p q. e i p (omega arith)))
+    ∙ rw (
+      downward-same s s′ (sbase s + (lastLbaseAt s base + 2)) (base - (lastLbaseAt s base + 2)) (λ i p q. e i (omega arith) (omega arith)),
+      frames-same n s s′ (lastLbaseAt s base) b (λ i p q. e i p (omega arith)),
+    )
     (sym (frames-next n s base (sbase s) _ _ refl refl refl h)))
     (order base (lastLbaseAt s base))
 
@@ -98,11 +99,15 @@ words-kept s s′ h l k =
     let b : blockptr s′ ≡ blockptr s = h .rest 4 (omega arith) (inl (omega arith)) in
     let f : getD s′ 2 0 ≡ getD s 2 0 = h .rest 2 (omega arith) (inl (omega arith)) in
     let st : sbase s′ ≡ sbase s = ap (λ (w : ℕ). w / 2 ^ 16) (h .first) in
-    rw
-    (b, f, h .first, h .base,
-    downward-same s s′ (sbase s + lbase s + 2) (ltop s - (lbase s + 1)) (λ i p q. h .rest i (omega arith) (inr (omega arith))),
-    part-same s s′ 8 (blockptr s - 8) (λ i p q. h .rest i (omega arith) (inl (omega arith))),
-    frames-same (suc (lbase s)) s s′ (lbase s) st (λ i p q. h .rest i (omega arith) (inr p)))
+    rw (
+      b,
+      f,
+      h .first,
+      h .base,
+      downward-same s s′ (sbase s + lbase s + 2) (ltop s - (lbase s + 1)) (λ i p q. h .rest i (omega arith) (inr (omega arith))),
+      part-same s s′ 8 (blockptr s - 8) (λ i p q. h .rest i (omega arith) (inl (omega arith))),
+      frames-same (suc (lbase s)) s s′ (lbase s) st (λ i p q. h .rest i (omega arith) (inr p)),
+    )
 
 -- there are fewer cells than words
 frames-few : (n : ℕ) (s : List ℕ) (base : ℕ) → length (cellsOfFrames (framesFrom n s base)) ≤ base
@@ -113,10 +118,13 @@ frames-few (suc n) s base =
     (λ h. rw (frames-bottom n s base _ _ _ refl refl refl h)
     (omega (arith, length-append (downward s (sbase s + 0) (base - 0)) [], downward-length s (sbase s + 0) (base - 0))))
     (λ h. rw (frames-next n s base _ _ _ refl refl refl h)
-    (omega
-    (arith, h, frames-few n s (lastLbaseAt s base),
-    length-append (downward s (sbase s + (lastLbaseAt s base + 2)) (base - (lastLbaseAt s base + 2))) (cellsOfFrames (framesFrom n s (lastLbaseAt s base))),
-    downward-length s (sbase s + (lastLbaseAt s base + 2)) (base - (lastLbaseAt s base + 2)))))
+    (omega (
+      arith,
+      h,
+      frames-few n s (lastLbaseAt s base),
+      length-append (downward s (sbase s + (lastLbaseAt s base + 2)) (base - (lastLbaseAt s base + 2))) (cellsOfFrames (framesFrom n s (lastLbaseAt s base))),
+      downward-length s (sbase s + (lastLbaseAt s base + 2)) (base - (lastLbaseAt s base + 2)),
+    )))
     (order base (lastLbaseAt s base))
 
 pub frames-length : (s : List ℕ) → length (cellsOfFrames (words s .frames)) ≤ lbase s

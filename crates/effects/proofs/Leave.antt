@@ -41,7 +41,8 @@ left top n m =
       flags = m .flags;
       temporaries = top ++ drop n (manual.currentCells (m .frames));
       frames = manual.older (m .frames);
-      globals = m .globals }
+      globals = m .globals;
+    }
 
 -- a frame of the chain stands upon another or is the bottom
 chain-older : {s : List ℕ} {base : ℕ} → Chain s base → lastLbaseAt s base + 2 ≤ base → Chain s (lastLbaseAt s base)
@@ -82,14 +83,14 @@ module _ (s : List ℕ) (n last : ℕ) (is : lastLbaseAt s (lbase s) ≡ last) (
       let start : blockptr s′ ≡ blockptr s = b .moved .start in
       let fl : getD s′ 2 0 ≡ getD s 2 0 = b .keep 2 (omega arith) (omega (arith, starts)) in
       let gl : part s′ 8 (blockptr s - 8) ≡ part s 8 (blockptr s - 8) = part-same s s′ 8 (blockptr s - 8)
-          (λ i l u. b .keep i (omega arith) (omega (arith, starts))) in
+      (λ i l u. b .keep i (omega arith) (omega (arith, starts))) in
       let fr : framesFrom (suc last) s′ last ≡ framesFrom (suc last) s last = frames-same (suc last) s s′ last base
-          (λ i l u. b .keep i (omega arith) (omega (arith, starts))) in
+      (λ i l u. b .keep i (omega arith) (omega (arith, starts))) in
       let k : lbase s - (last + 2) ≡ lbase s - (last + 2) - n + n = omega (arith, starts) in
       let o : sbase s + (last + 2) ≡ sbase s + last + 2 = omega arith in
       let d : drop n (downward s (sbase s + (last + 2)) (lbase s - (last + 2))) ≡ downward s (sbase s + last + 2) (lbase s - (last + 2) - n) =
-          ap (λ (i : ℕ). drop n (downward s (sbase s + (last + 2)) i)) k
-          ∙ drop-downward s (sbase s + (last + 2)) (lbase s - (last + 2) - n) n ∙ rw o in
+      ap (λ (i : ℕ). drop n (downward s (sbase s + (last + 2)) i)) k
+      ∙ drop-downward s (sbase s + (last + 2)) (lbase s - (last + 2) - n) n ∙ rw o in
       rw (fl, base, b .frame, start, gl, fr, b .tops, now-frames, d)
 
 left-map : {A : Type 0} (f : ℕ → A) (top : List ℕ) (n : ℕ) (m : Machine ℕ) → mapMachine f (left top n m) ≡ left (map f top) n (mapMachine f m)
@@ -138,10 +139,18 @@ module _ (s : List ℕ) (g : Sound s) (n : ℕ) (empty : ltop s ≡ lbase s + 1)
 
   counted : (x : ℕ) → count x (downward r1 b n ++ us) ≡ count x (top ++ owners s)
   counted x =
-      omega
-      (arith, count-append x (downward r1 b n) us, ap (count x) downward1, left-count x top n m, cells-count x m, no-temporaries x,
-      count-append x top (owners s), current-count x (m .frames), ap (count x) split,
-      count-append x (downward s b n) (drop n (manual.currentCells (m .frames))))
+      omega (
+        arith,
+        count-append x (downward r1 b n) us,
+        ap (count x) downward1,
+        left-count x top n m,
+        cells-count x m,
+        no-temporaries x,
+        count-append x top (owners s),
+        current-count x (m .frames),
+        ap (count x) split,
+        count-append x (downward s b n) (drop n (manual.currentCells (m .frames))),
+      )
 
   own1 : Owned r1 (downward r1 b n ++ us)
   own1 = reown (downward r1 b n ++ us) (λ x l. counted (arrayWord x)) (first .own)
@@ -276,7 +285,7 @@ module _ (s : List ℕ) (n last : ℕ) (starts : last + 2 + n ≤ lbase s) (low 
         let e : lbase s - n - (last + 1) ≡ suc (lbase s - (last + 2) - n) = omega (arith, starts) in
         let p : sbase s + last + 2 + (lbase s - (last + 2) - n) ≡ b = omega (arith, starts, at) in
         let r : downward e3 (sbase s + last + 2) (lbase s - (last + 2) - n) ≡ downward s (sbase s + last + 2) (lbase s - (last + 2) - n) = downward-same s e3
-            (sbase s + last + 2) (lbase s - (last + 2) - n) (λ i l u. other3 i (omega (arith, at, starts)) ∙ k i (omega arith)) in
+        (sbase s + last + 2) (lbase s - (last + 2) - n) (λ i l u. other3 i (omega (arith, at, starts)) ∙ k i (omega arith)) in
         record {
           moved = record {
             long = length-set e2 b w ∙ moved2 .long;
@@ -348,7 +357,7 @@ module _ (s : List ℕ) (g : Sound s) (n : ℕ) (can : CanLeave s n true) where
   owned : 0 < count w (owners s)
   owned =
       let k : 0 < count (getD (manual.currentCells (words s .frames)) 0 0) (manual.currentCells (words s .frames)) = count-getD
-          (manual.currentCells (words s .frames)) 0 0 some in
+      (manual.currentCells (words s .frames)) 0 0 some in
       let e = highest 0 in
       omega (arith, cells-count w (words s), current-count w (words s .frames), rw e at k)
 

@@ -139,6 +139,7 @@ or-first false b h = never (sym h)
 
 pub full-theorem : (s : List ℕ) (g : Sound s) (es : List Effect) → AllFit s es → OneRequest es → (anyFull s es ≡ true) ↔ AsksInVain s (g .own .blocks) es
 full-theorem s g [] h k = (λ f. never (sym f), λ f. absurd f)
-full-theorem s g (e ∷ es) h k =
-    (λ f. ⊎-elim (λ q. inl (full-vain s g e (h .0) q)) (λ q. never (sym q ∙ none-full s es k)) (or-cases (isFull s e) (anyFull s es) f),
-    λ f. ⊎-elim (λ q. or-first (isFull s e) (anyFull s es) (vain-full s g e (h .0) (q .0) (q .1))) (λ q. absurd (none-in-vain s (g .own .blocks) es k q)) f)
+full-theorem s g (e ∷ es) h k = (
+  λ f. ⊎-elim (λ q. inl (full-vain s g e (h .0) q)) (λ q. never (sym q ∙ none-full s es k)) (or-cases (isFull s e) (anyFull s es) f),
+  λ f. ⊎-elim (λ q. or-first (isFull s e) (anyFull s es) (vain-full s g e (h .0) (q .0) (q .1))) (λ q. absurd (none-in-vain s (g .own .blocks) es k q)) f,
+)

@@ -21,9 +21,10 @@ pub frames-agree : {A : Type 0} (f g : ℕ → A) (l : List (Frame ℕ)) → ((w
     → mapFrames f l ≡ mapFrames g l
 frames-agree f g [] h = refl
 frames-agree f g (r ∷ l) h =
-    rw
-    (map-agree f g (r .cells) (λ w c. h w (omega (arith, c, count-append w (r .cells) (cellsOfFrames l)))),
-    frames-agree f g l (λ w c. h w (omega (arith, c, count-append w (r .cells) (cellsOfFrames l)))))
+    rw (
+      map-agree f g (r .cells) (λ w c. h w (omega (arith, c, count-append w (r .cells) (cellsOfFrames l)))),
+      frames-agree f g l (λ w c. h w (omega (arith, c, count-append w (r .cells) (cellsOfFrames l)))),
+    )
 
 pub cells-count : (w : ℕ) (m : Machine ℕ)
     → count w (allCells m) ≡ count w (m .temporaries) + (count w (cellsOfFrames (m .frames)) + count w (m .globals))
@@ -33,10 +34,11 @@ cells-count w m =
 
 pub machine-agree : {A : Type 0} (f g : ℕ → A) (m : Machine ℕ) → ((w : ℕ) → 0 < count w (allCells m) → f w ≡ g w) → mapMachine f m ≡ mapMachine g m
 machine-agree f g m h =
-    rw
-    (map-agree f g (m .temporaries) (λ w c. h w (omega (arith, c, cells-count w m))),
-    frames-agree f g (m .frames) (λ w c. h w (omega (arith, c, cells-count w m))),
-    map-agree f g (m .globals) (λ w c. h w (omega (arith, c, cells-count w m))))
+    rw (
+      map-agree f g (m .temporaries) (λ w c. h w (omega (arith, c, cells-count w m))),
+      frames-agree f g (m .frames) (λ w c. h w (omega (arith, c, cells-count w m))),
+      map-agree f g (m .globals) (λ w c. h w (omega (arith, c, cells-count w m))),
+    )
 
 -- lists
 pub map-drop : {A : Type 0} (f : ℕ → A) (k : ℕ) (l : List ℕ) → map f (drop k l) ≡ drop k (map f l)

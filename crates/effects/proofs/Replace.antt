@@ -89,7 +89,7 @@ module _ (s : List ℕ) (n w b : ℕ) (at : b + n ≡ sbase s + ltop s + 1) (som
       let lb : lbase s′ ≡ lbase s = ap (λ (v : ℕ). v / 2 ^ 16) (finish-other 1 (omega arith) (omega arith)) in
       let gl : part s′ 8 (blockptr s - 8) ≡ part s 8 (blockptr s - 8) = part-same s s′ 8 (blockptr s - 8) (λ i p q. finish-other i (omega arith) (omega arith)) in
       let fr : framesFrom (suc (lbase s)) s′ (lbase s) ≡ framesFrom (suc (lbase s)) s (lbase s) = frames-same (suc (lbase s)) s s′ (lbase s) st
-          (λ i p q. finish-other i (omega arith) (omega arith)) in
+      (λ i p q. finish-other i (omega arith) (omega arith)) in
       rw (fl, st, lb, lt, bp, gl, fr, tops)
     where
       tops : downward s′ (sbase s + lbase s + 2) (ltop s + 1 - n - (lbase s + 1)) ≡ w ∷ drop n (downward s (sbase s + lbase s + 2) (ltop s - (lbase s + 1)))
@@ -98,9 +98,9 @@ module _ (s : List ℕ) (n w b : ℕ) (at : b + n ≡ sbase s + ltop s + 1) (som
           let q : ltop s - (lbase s + 1) ≡ ltop s - (lbase s + 1) - n + n = omega arith in
           let p : sbase s + lbase s + 2 + (ltop s - (lbase s + 1) - n) ≡ b = omega arith in
           let r : downward s′ (sbase s + lbase s + 2) (ltop s - (lbase s + 1) - n) ≡ downward s (sbase s + lbase s + 2) (ltop s - (lbase s + 1) - n) = downward-same
-              s s′ (sbase s + lbase s + 2) (ltop s - (lbase s + 1) - n) (λ i l u. finish-other i (omega arith) (omega arith)) in
+          s s′ (sbase s + lbase s + 2) (ltop s - (lbase s + 1) - n) (λ i l u. finish-other i (omega arith) (omega arith)) in
           let d : drop n (downward s (sbase s + lbase s + 2) (ltop s - (lbase s + 1))) ≡ downward s (sbase s + lbase s + 2) (ltop s - (lbase s + 1) - n) =
-              ap (λ (k : ℕ). drop n (downward s (sbase s + lbase s + 2) k)) q ∙ drop-downward s (sbase s + lbase s + 2) (ltop s - (lbase s + 1) - n) n in
+          ap (λ (k : ℕ). drop n (downward s (sbase s + lbase s + 2) k)) q ∙ drop-downward s (sbase s + lbase s + 2) (ltop s - (lbase s + 1) - n) n in
           rw (e, p, there, r, d)
 
 -- the result is placed, the operands are dropped, and its word takes their place
@@ -126,9 +126,15 @@ module _ (s : List ℕ) (g : Sound s) (n w : ℕ) (c : Cell) (s1 : List ℕ) (fi
 
   counted : (x : ℕ) → count x (downward s1 b n ++ vs) ≡ count x (w ∷ owners s)
   counted x =
-      omega
-      (arith, count-append x (downward s1 b n) vs, ap (count x) downward1, cells-count x (manual.replace n w m), cells-count x m,
-      ap (count x) (temporaries-split s n (can .taken) (g .above)), count-append x (downward s b n) (drop n (m .temporaries)))
+      omega (
+        arith,
+        count-append x (downward s1 b n) vs,
+        ap (count x) downward1,
+        cells-count x (manual.replace n w m),
+        cells-count x m,
+        ap (count x) (temporaries-split s n (can .taken) (g .above)),
+        count-append x (downward s b n) (drop n (m .temporaries)),
+      )
 
   own1 : Owned s1 (downward s1 b n ++ vs)
   own1 = reown (downward s1 b n ++ vs) (λ x l. counted (arrayWord x)) (first .step .own)

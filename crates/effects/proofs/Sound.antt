@@ -34,10 +34,15 @@ bounds {s} g = record {
 pub owners-few : (s : List ℕ) → Sound s → length (owners s) < 65535
 unfolding words
 owners-few s g =
-    omega
-    (arith, length-append (words s .temporaries) (cellsOfFrames (words s .frames) ++ words s .globals),
-    length-append (cellsOfFrames (words s .frames)) (words s .globals), downward-length s (sbase s + lbase s + 2) (ltop s - (lbase s + 1)),
-    part-length s 8 (blockptr s - 8), frames-length s, bounds g)
+    omega (
+      arith,
+      length-append (words s .temporaries) (cellsOfFrames (words s .frames) ++ words s .globals),
+      length-append (cellsOfFrames (words s .frames)) (words s .globals),
+      downward-length s (sbase s + lbase s + 2) (ltop s - (lbase s + 1)),
+      part-length s 8 (blockptr s - 8),
+      frames-length s,
+      bounds g,
+    )
 
 -- LTOP, told from the cells
 pub depth-words : (s : List ℕ) → Sound s → depth (words s) ≡ ltop s + 1

@@ -57,7 +57,7 @@ module _ (s : List ℕ) (g : Sound s) (place : ℕ) (small : place < 2 ^ 16) whe
       lowest : lbase s ≤ lastLbaseAt s (lbase s) → framesFrom (suc (lbase s)) s′ (lbase s) ≡ manual.jumpFrames place (framesFrom (suc (lbase s)) s (lbase s))
       lowest q =
           let d : downward s′ (sbase s + 0) (lbase s - 0) ≡ downward s (sbase s + 0) (lbase s - 0) = downward-same s s′ (sbase s + 0) (lbase s - 0)
-              (λ k l u. other k (omega arith)) in
+          (λ k l u. other k (omega arith)) in
           frames-bottom (lbase s) s′ (lbase s) (sbase s) (lastLbaseAt s (lbase s)) v (moved .bound) (other (sbase s + lbase s) (omega arith)) here q
           ∙ rw (f1, f2, d) (ap (manual.jumpFrames place) (sym (frames-bottom (lbase s) s (lbase s) (sbase s) _ _ refl refl refl q)))
 
@@ -65,7 +65,7 @@ module _ (s : List ℕ) (g : Sound s) (place : ℕ) (small : place < 2 ^ 16) whe
       next q =
           let last = lastLbaseAt s (lbase s) in
           let d : downward s′ (sbase s + (last + 2)) (lbase s - (last + 2)) ≡ downward s (sbase s + (last + 2)) (lbase s - (last + 2)) = downward-same s s′
-              (sbase s + (last + 2)) (lbase s - (last + 2)) (λ k l u. other k (omega arith)) in
+          (sbase s + (last + 2)) (lbase s - (last + 2)) (λ k l u. other k (omega arith)) in
           let r : framesFrom (lbase s) s′ last ≡ framesFrom (lbase s) s last = frames-same (lbase s) s s′ last (moved .bound) (λ k l u. other k (omega arith)) in
           frames-next (lbase s) s′ (lbase s) (sbase s) last v (moved .bound) (other (sbase s + lbase s) (omega arith)) here q
           ∙ rw (f1, f2, d, r) (ap (manual.jumpFrames place) (sym (frames-next (lbase s) s (lbase s) (sbase s) _ _ refl refl refl q)))
@@ -79,7 +79,7 @@ module _ (s : List ℕ) (g : Sound s) (place : ℕ) (small : place < 2 ^ 16) whe
       let o4 : getD s′ 4 0 ≡ getD s 4 0 = other 4 (omega (arith, low)) in
       let gl : part s′ 8 (blockptr s - 8) ≡ part s 8 (blockptr s - 8) = part-same s s′ 8 (blockptr s - 8) (λ k l u. other k (omega (arith, low))) in
       let tm : downward s′ (sbase s + lbase s + 2) (ltop s - (lbase s + 1)) ≡ downward s (sbase s + lbase s + 2) (ltop s - (lbase s + 1)) = downward-same s s′
-          (sbase s + lbase s + 2) (ltop s - (lbase s + 1)) (λ k l u. other k (omega arith)) in
+      (sbase s + lbase s + 2) (ltop s - (lbase s + 1)) (λ k l u. other k (omega arith)) in
       rw (o0, o1, o2, o4, gl, tm, jumped-frames)
 
   pub jump-sound : Sound (setPctr s place)
@@ -131,9 +131,9 @@ module _ (s : List ℕ) (g : Sound s) (v : ℕ) where
       let o4 : getD t 4 0 ≡ getD s 4 0 = rest 4 (omega arith) in
       let gl : part t 8 (blockptr s - 8) ≡ part s 8 (blockptr s - 8) = part-same s t 8 (blockptr s - 8) (λ k l u. rest k (omega arith)) in
       let tm : downward t (sbase s + lbase s + 2) (ltop s - (lbase s + 1)) ≡ downward s (sbase s + lbase s + 2) (ltop s - (lbase s + 1)) = downward-same s t
-          (sbase s + lbase s + 2) (ltop s - (lbase s + 1)) (λ k l u. rest k (omega arith)) in
+      (sbase s + lbase s + 2) (ltop s - (lbase s + 1)) (λ k l u. rest k (omega arith)) in
       let fr : framesFrom (suc (lbase s)) t (lbase s) ≡ framesFrom (suc (lbase s)) s (lbase s) = frames-same (suc (lbase s)) s t (lbase s) (settled .bound)
-          (λ k l u. rest k (omega (arith, bound))) in
+      (λ k l u. rest k (omega (arith, bound))) in
       rw (o0, o1, o4, there, gl, tm, fr)
 
   pub origin-sound : Sound (setIorg s v)

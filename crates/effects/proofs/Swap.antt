@@ -60,9 +60,9 @@ module _ (s : List ℕ) (g : Sound s) (two : 2 ≤ temporaries s) where
       let o2 : getD s′ 2 0 ≡ getD s 2 0 = other 2 (omega (arith, low, two)) (omega (arith, low, two)) in
       let o4 : getD s′ 4 0 ≡ getD s 4 0 = other 4 (omega (arith, low, two)) (omega (arith, low, two)) in
       let gl : part s′ 8 (blockptr s - 8) ≡ part s 8 (blockptr s - 8) = part-same s s′ 8 (blockptr s - 8)
-          (λ j l u. other j (omega (arith, low, two)) (omega (arith, low, two))) in
+      (λ j l u. other j (omega (arith, low, two)) (omega (arith, low, two))) in
       let fr : framesFrom (suc (lbase s)) s′ (lbase s) ≡ framesFrom (suc (lbase s)) s (lbase s) = frames-same (suc (lbase s)) s s′ (lbase s) (moved .bound)
-          (λ j l u. other j (omega (arith, low, two)) (omega (arith, low, two))) in
+      (λ j l u. other j (omega (arith, low, two)) (omega (arith, low, two))) in
       rw (o0, o1, o2, o4, gl, fr, tops)
     where
       tops : downward s′ (sbase s + lbase s + 2) (ltop s - (lbase s + 1)) ≡ manual.swapped (downward s (sbase s + lbase s + 2) (ltop s - (lbase s + 1)))

@@ -111,11 +111,13 @@ module _ (s : List ℕ) (w : ℕ) (some : 1 ≤ sbase s) where
         here h =
             let b = lastLbaseAt s base + 2 in
             let j : indexIn (downward s (sbase s + (lastLbaseAt s base + 2)) (base - (lastLbaseAt s base + 2))) (framesFrom n s (lastLbaseAt s base)) a
-                ≡ sbase s + (lastLbaseAt s base + 2) + (base - (lastLbaseAt s base + 2)) - 1 - i = omega
-                (arith, d, downward-length s (sbase s + (lastLbaseAt s base + 2)) (base - (lastLbaseAt s base + 2))) in
-            rw
-            (downward-put s (sbase s + (lastLbaseAt s base + 2)) (base - (lastLbaseAt s base + 2)) i w (omega arith) (omega arith) (omega arith),
-            frames-same n s s′ (lastLbaseAt s base) bound (λ m x y. other m (omega arith)), ← j)
+            ≡ sbase s + (lastLbaseAt s base + 2) + (base - (lastLbaseAt s base + 2)) - 1 - i = omega
+            (arith, d, downward-length s (sbase s + (lastLbaseAt s base + 2)) (base - (lastLbaseAt s base + 2))) in
+            rw (
+              downward-put s (sbase s + (lastLbaseAt s base + 2)) (base - (lastLbaseAt s base + 2)) i w (omega arith) (omega arith) (omega arith),
+              frames-same n s s′ (lastLbaseAt s base) bound (λ m x y. other m (omega arith)),
+              ← j,
+            )
             (sym
             (put-here a w (frame s (codeWordAt s base) (sbase s) (lastLbaseAt s base + 2) base) (framesFrom n s (lastLbaseAt s base)) (omega (arith, d))))
 
@@ -196,11 +198,11 @@ module _ (s : List ℕ) (g : Sound s) where
       let o2 : getD (set s i w) 2 0 ≡ getD s 2 0 = other 2 (omega arith) in
       let o4 : getD (set s i w) 4 0 ≡ getD s 4 0 = other 4 (omega arith) in
       let gl : part (set s i w) 8 (blockptr s - 8) ≡ part s 8 (blockptr s - 8) = part-same s (set s i w) 8 (blockptr s - 8)
-          (λ k p q. other k (omega arith)) in
+      (λ k p q. other k (omega arith)) in
       let tm : downward (set s i w) (sbase s + lbase s + 2) (ltop s - (lbase s + 1)) ≡ downward s (sbase s + lbase s + 2) (ltop s - (lbase s + 1)) = downward-same
-          s (set s i w) (sbase s + lbase s + 2) (ltop s - (lbase s + 1)) (λ k p q. other k (omega arith)) in
+      s (set s i w) (sbase s + lbase s + 2) (ltop s - (lbase s + 1)) (λ k p q. other k (omega arith)) in
       let fr : framesFrom (suc (lbase s)) (set s i w) (lbase s) ≡ putFrames a w (framesFrom (suc (lbase s)) s (lbase s)) = rw e at (frames-put s w (omega arith)
-          (g .chain) (suc (lbase s)) a (omega arith) h (omega arith)) in
+      (g .chain) (suc (lbase s)) a (omega arith) h (omega arith)) in
       rw (o0, o1, o2, o4, gl, tm, fr)
 
   words-global : (w q : ℕ) → 8 ≤ q → q < blockptr s
@@ -215,12 +217,12 @@ module _ (s : List ℕ) (g : Sound s) where
       let o4 : getD (set s q w) 4 0 ≡ getD s 4 0 = other 4 (omega arith) in
       let e : 8 + (q - 8) ≡ q = omega arith in
       let gl : part (set s q w) 8 (blockptr s - 8) ≡ set (part s 8 (blockptr s - 8)) (q - 8) w = rw e at
-          (part-set s 8 (blockptr s - 8) (q - 8) w (omega arith) (omega arith)) in
+      (part-set s 8 (blockptr s - 8) (q - 8) w (omega arith) (omega arith)) in
       let st : sbase (set s q w) ≡ sbase s = ap (λ (m : ℕ). m / 2 ^ 16) o0 in
       let tm : downward (set s q w) (sbase s + lbase s + 2) (ltop s - (lbase s + 1)) ≡ downward s (sbase s + lbase s + 2) (ltop s - (lbase s + 1)) = downward-same
-          s (set s q w) (sbase s + lbase s + 2) (ltop s - (lbase s + 1)) (λ j x y. other j (omega arith)) in
+      s (set s q w) (sbase s + lbase s + 2) (ltop s - (lbase s + 1)) (λ j x y. other j (omega arith)) in
       let fr : framesFrom (suc (lbase s)) (set s q w) (lbase s) ≡ framesFrom (suc (lbase s)) s (lbase s) = frames-same (suc (lbase s)) s (set s q w) (lbase s)
-          st (λ j x y. other j (omega arith)) in
+      st (λ j x y. other j (omega arith)) in
       rw (o0, o1, o2, o4, gl, tm, fr)
 
   -- a store to a variable
@@ -246,9 +248,13 @@ module _ (s : List ℕ) (g : Sound s) where
     pub variable-owner : 0 < count (heldAt s t) (owners s)
     variable-owner =
         ⊎-elim (λ e. absurd (omega (arith, e)))
-        (λ e. omega
-        (arith, e, count-put (heldAt s t) t (words s) (heldAt s t) (suc (heldAt s t)) at, hit-same (heldAt s t),
-        ap (λ (m : Machine ℕ). count (heldAt s t) (allCells m)) same-put))
+        (λ e. omega (
+          arith,
+          e,
+          count-put (heldAt s t) t (words s) (heldAt s t) (suc (heldAt s t)) at,
+          hit-same (heldAt s t),
+          ap (λ (m : Machine ℕ). count (heldAt s t) (allCells m)) same-put,
+        ))
         (hit-cases (heldAt s t) (suc (heldAt s t)))
 
     pub look-words : (none : ℕ) → look none t (words s) ≡ heldAt s t

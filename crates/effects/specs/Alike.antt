@@ -24,7 +24,8 @@ seenBy variables result seen =
       local = λ n v. seen .local variables v;
       global = seen .global;
       bottom = seen .bottom;
-      result = λ has. seen .result result }
+      result = λ has. seen .result result;
+    }
 
 -- What an accepted segment has besides: the current frame has the function's variables, and an indirect word of a variable
 -- names a variable.
