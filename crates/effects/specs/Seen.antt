@@ -25,4 +25,5 @@ seen s =
       local = λ variables v. localAt read (lbase s) variables v;
       global = λ g. globalAt read (blockptr s) g;
       bottom = leb (lbase s) (lastLbaseAt s (lbase s));
-      result = λ has. cond has (cell s (getD s (sbase s + lbase s - 1) 0)) undefined }
+      result = λ has. cond has (cell s (getD s (sbase s + lbase s - 1) 0)) undefined;
+    }
