@@ -1,6 +1,8 @@
-use Prim.Native.Nat.{_-_}
-use mathlib.Core.Path.{sym, _∙_}
-use Rattle.scalar.specs.Operators.{negative}
+use Prim.Native.Nat.{ℕ, _-_}
+use mathlib.Core.Path.{_≡_, sym, ap, _∙_}
+use native.Mathlib.Omega.{arith}
+use Rattle.descriptor.specs.Fields.{sign}
+use Rattle.scalar.specs.Operators.{negative, withSign}
 use Rattle.scalar.proofs.Operands.{number-character, number-plain}
 use borrow.Author.Needs.{needs}
 use Rattle.scalar.proofs.signs.negative.Statement.{statement}
@@ -13,16 +15,27 @@ returns : tie.Need-returns
 unfolding negative
 returns c = sym (number-character (c .before .before .args .a) _ (sym (c .before .is-character .ensures) ∙ c .if1 .taken))
 
-sub-with-sign : tie.Need-sub-with-sign
-sub-with-sign c = search needs
-
 with-sign-requires : tie.Need-with-sign-requires
 with-sign-requires c κs = search needs
 
 returns-2 : tie.Need-returns-2
 unfolding negative
-returns-2 c = c .with-sign .ensures ∙ sym (number-plain (c .before .before .before .args .a) _ (sym (c .before .before .is-character .ensures) ∙ c .before .if1 .left))
+returns-2 c = let a = c .before .before .before .before .args .a in c .with-sign .ensures ∙ ap (λ (s : ℕ). withSign s a) (let e : 1 ≡ 1 - sign a = omega arith in e) ∙ sym (number-plain a _ (sym (c .before .before .before .is-character .ensures) ∙ c .before .before .if1 .left))
+
+with-sign-requires-2 : tie.Need-with-sign-requires-2
+with-sign-requires-2 c κs = search needs
+
+returns-3 : tie.Need-returns-3
+unfolding negative
+returns-3 c = let a = c .before .before .before .before .args .a in c .with-sign2 .ensures ∙ ap (λ (s : ℕ). withSign s a) (let e : 0 ≡ 1 - sign a = omega (arith, c .before .if2 .left) in e) ∙ sym (number-plain a _ (sym (c .before .before .before .is-character .ensures) ∙ c .before .before .if1 .left))
 
 pub negative-spec : {M : Type 1} → statement M
 negative-spec =
-    tie.close (tie.spec is-character-requires returns sub-with-sign with-sign-requires returns-2)
+    tie.close
+    (tie.spec
+    is-character-requires
+    returns
+    with-sign-requires
+    returns-2
+    with-sign-requires-2
+    returns-3)
