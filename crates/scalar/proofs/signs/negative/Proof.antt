@@ -1,3 +1,7 @@
+use mathlib.Core.Bool.{cond}
+use lib.Dec.{eqb}
+use Rattle.scalar.specs.Value.{units}
+use Rattle.scalar.specs.declared.Answer.the-variants.{Word}
 use Prim.Native.Nat.{ℕ, _-_}
 use mathlib.Core.Path.{_≡_, sym, ap, _∙_}
 use native.Mathlib.Omega.{arith}
@@ -20,14 +24,14 @@ with-sign-requires c κs = search needs
 
 returns-2 : tie.Need-returns-2
 unfolding negative
-returns-2 c = let a = c .before .before .before .before .args .a in c .with-sign .ensures ∙ ap (λ (s : ℕ). withSign s a) (let e : 1 ≡ 1 - sign a = omega arith in e) ∙ sym (number-plain a _ (sym (c .before .before .before .is-character .ensures) ∙ c .before .before .if1 .left))
+returns-2 c = let a = c .before .before .before .before .args .a in c .with-sign .ensures ∙ ap (λ (x : ℕ). Word (cond (eqb (units a) 0) 0 x)) (omega arith) ∙ sym (number-plain a _ (sym (c .before .before .before .is-character .ensures) ∙ c .before .before .if1 .left))
 
 with-sign-requires-2 : tie.Need-with-sign-requires-2
 with-sign-requires-2 c κs = search needs
 
 returns-3 : tie.Need-returns-3
 unfolding negative
-returns-3 c = let a = c .before .before .before .before .args .a in c .with-sign2 .ensures ∙ ap (λ (s : ℕ). withSign s a) (let e : 0 ≡ 1 - sign a = omega (arith, c .before .if2 .left) in e) ∙ sym (number-plain a _ (sym (c .before .before .before .is-character .ensures) ∙ c .before .before .if1 .left))
+returns-3 c = let a = c .before .before .before .before .args .a in c .with-sign2 .ensures ∙ ap (λ (x : ℕ). Word (cond (eqb (units a) 0) 0 x)) (omega (arith, c .before .if2 .left)) ∙ sym (number-plain a _ (sym (c .before .before .before .is-character .ensures) ∙ c .before .before .if1 .left))
 
 pub negative-spec : {M : Type 1} → statement M
 negative-spec =
