@@ -210,20 +210,20 @@ fn main() {
     let factor = |r: u32, s: u32| if r % 2048 == 0 { 0 } else { r % 2048 | s & 0x8000_0000 };
     let float = |r: u32, s: u32| 0x4000_0000 | r & 0x803F_FFFF | (118 + s % 20) << 22;
     let mixed = |r: u32, s: u32| if s & 4 == 0 { r % 4_000_000 } else { 0x4000_0000 | r & 0x803F_FFFF | (140 + s / 8 % 8) << 22 };
-    let rows: [(&str, Loop, Loop, Vec<u32>, Vec<u32>, f64); 9] = [
-        ("SUM of integers", proved_sums, plain_sums, words(integer), words(integer), 1.5),
-        ("PRODUCT of integers", proved_products, plain_products, words(factor), words(factor), 1.5),
-        ("LESS of integers", proved_lesses, plain_lesses, words(integer), words(integer), 1.5),
-        ("SUM of floats", proved_sums, plain_sums, words(float), words(float), 2.0),
-        ("PRODUCT of floats", proved_products, plain_products, words(float), words(float), 2.0),
-        ("QUOTIENT of floats", proved_quotients, plain_quotients, words(float), words(float), 2.0),
-        ("QUOTIENT of integers", proved_quotients, plain_quotients, words(integer), words(integer), 2.0),
-        ("LESS of floats", proved_lesses, plain_lesses, words(float), words(float), 2.0),
-        ("SUM of mixed numbers", proved_sums, plain_sums, words(mixed), words(mixed), 2.0),
+    let rows: [(&str, Loop, Loop, Vec<u32>, Vec<u32>, &str); 9] = [
+        ("SUM of integers", proved_sums, plain_sums, words(integer), words(integer), "1.5"),
+        ("PRODUCT of integers", proved_products, plain_products, words(factor), words(factor), ""),
+        ("LESS of integers", proved_lesses, plain_lesses, words(integer), words(integer), ""),
+        ("SUM of floats", proved_sums, plain_sums, words(float), words(float), "2.0"),
+        ("PRODUCT of floats", proved_products, plain_products, words(float), words(float), "2.0"),
+        ("QUOTIENT of floats", proved_quotients, plain_quotients, words(float), words(float), "2.0"),
+        ("QUOTIENT of integers", proved_quotients, plain_quotients, words(integer), words(integer), ""),
+        ("LESS of floats", proved_lesses, plain_lesses, words(float), words(float), ""),
+        ("SUM of mixed numbers", proved_sums, plain_sums, words(mixed), words(mixed), ""),
     ];
     println!("{:24} {:>10} {:>10} {:>8} {:>8}", "ns an element", "proved", "plain", "ratio", "target");
     for (name, proved, plain, a, b, target) in rows {
         let (x, y) = race(proved, plain, &a, &b);
-        println!("{name:24} {x:10.2} {y:10.2} {:8.2} {target:8.1}", x / y);
+        println!("{name:24} {x:10.2} {y:10.2} {:8.2} {target:>8}", x / y);
     }
 }

@@ -3,10 +3,9 @@ use lib.Dec.{eqb}
 use Rattle.scalar.specs.Value.{units}
 use Rattle.scalar.specs.declared.Answer.the-variants.{Word}
 use Prim.Native.Nat.{ℕ, _-_}
-use mathlib.Core.Path.{_≡_, sym, ap, _∙_}
+use mathlib.Core.Path.{sym, ap, _∙_}
 use native.Mathlib.Omega.{arith}
-use Rattle.descriptor.specs.Fields.{sign}
-use Rattle.scalar.specs.Operators.{negative, withSign}
+use Rattle.scalar.specs.Operators.{negative}
 use Rattle.scalar.proofs.Operands.{number-character, number-plain}
 use borrow.Author.Needs.{needs}
 use Rattle.scalar.proofs.signs.negative.Statement.{statement}
