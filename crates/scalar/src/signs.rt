@@ -20,7 +20,10 @@ pub fn negative(a: u32) -> Answer
     if words::is_character(a) {
         return Answer::Trap(7, 0);
     }
-    with_sign(1 - a / 0x8000_0000, a)
+    if a / 0x8000_0000 == 0 {
+        return with_sign(1, a);
+    }
+    with_sign(0, a)
 }
 
 pub fn magnitude(a: u32) -> Answer
