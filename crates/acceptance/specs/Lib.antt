@@ -3,3 +3,4 @@ pub mod Frames
 pub mod Cells
 pub mod Counts
 pub mod Refusal
+pub mod Tables

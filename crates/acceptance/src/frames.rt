@@ -21,7 +21,7 @@ use segment::word;
 pub struct Frame {
     pub last: u32,
     pub code: u32,
-    pub arguments: u32,
+    pub arguments: u16,
     pub variables: u32,
 }
 
@@ -70,7 +70,7 @@ pub fn frame_at(seg: &[u32], regular: &[u8], alternate: &[u8], base: StackAddres
     Frame {
         last: word(seg, at),
         code: code,
-        arguments: header.nargs as u32,
+        arguments: header.nargs,
         variables: header.nargs as u32 + header.nlocals as u32,
     }
 }

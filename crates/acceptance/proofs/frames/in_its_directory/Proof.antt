@@ -12,4 +12,4 @@ in-its-directory-spec =
     (λ c. simp (le-ltb _ _ (c .if1 .taken)))
     (λ c. search needs)
     (λ c κs. search needs)
-    (λ c. simp (lt-ltb _ _ (c .before .before .if1 .left), ← c .in-directory .ensures)))
+    (λ c. simp (lt-ltb _ _ (c .before .if1 .left), ← c .in-directory .ensures)))

@@ -1,0 +1,15 @@
+use borrow.Author.Needs.{needs}
+use borrow.Author.Tests.{lt-ltb, le-ltb, le-leb, lt-leb, eq-eqb, ne-eqb, not-true, not-false}
+use Rattle.acceptance.specs.Cells.{freeCell}
+use Rattle.acceptance.proofs.cells.is_proper.Statement.{statement}
+use Rattle.acceptance.proofs.cells.is_proper.Tie as tie
+
+pub is-proper-spec : {M : Type 1} → statement M
+unfolding freeCell
+is-proper-spec =
+    tie.close
+    (tie.spec
+    (λ c κs. search needs)
+    (λ c. simp (← (c .before .is-direct .ensures), (c .if1 .taken)))
+    (λ c κs. search needs)
+    (λ c. simp (← (c .before .before .is-direct .ensures), (c .before .if1 .left), ← (c .is-pointing .ensures))))
