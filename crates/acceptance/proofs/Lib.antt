@@ -1,5 +1,4 @@
 -- Laws of tests 16, 17 and 18.
-pub mod Marks
 pub mod Chain
 pub mod Words
 pub mod Ranges
@@ -7,3 +6,4 @@ pub mod VariableMarks
 pub mod FrameCells
 pub mod Tallies
 pub mod Compared
+pub mod Table

@@ -9,7 +9,7 @@ use Rattle.storage.specs.Heap.{hit, count}
 use Rattle.heap.proofs.Counts.{hit-cases, hit-same}
 use Rattle.acceptance.specs.Cells.{range}
 use Rattle.acceptance.specs.Tables.{Gains}
-use Rattle.acceptance.proofs.Marks.{raised, lowered}
+use Rattle.storage_tests.proofs.Tallies.{raise-at, lower-at}
 
 range-step : (i end : ℕ) → i < end → range i (end - i) ≡ i ∷ range (i + 1) (end - (i + 1))
 range-step i end h = let e : end - i ≡ suc (end - (i + 1)) = omega arith in rw e
@@ -49,7 +49,7 @@ module _ {start end : ℕ} {before table : List ℕ} {a : ℕ} (h : Marking star
     pub marking-on : a < length table → Marking start end before (set table a (getD table a 0 + 1)) (a + 1)
     marking-on k = record {
         long = length-set table a _ ∙ h .long;
-        sum = λ x. omega (arith, rw (range-step a end pos) at (h .sum x), raised table a x k) }
+        sum = λ x. omega (arith, rw (range-step a end pos) at (h .sum x), raise-at table a x k) }
 
 -- The way back.
 pub record Unmarking (start end : ℕ) (before table : List ℕ) (a : ℕ) : Type 0 where
@@ -67,4 +67,4 @@ module _ {start end : ℕ} {before table : List ℕ} {a : ℕ} (h : Unmarking st
     pub unmarking-on : Unmarking start end before (set table a (getD table a 0 - 1)) (a + 1)
     unmarking-on = record {
         long = length-set table a _ ∙ h .long;
-        sum = λ x. omega (arith, rw (range-step a end pos) at (h .sum x), lowered table a x unmarking-room) }
+        sum = λ x. omega (arith, rw (range-step a end pos) at (h .sum x), lower-at table a x unmarking-room) }

@@ -20,7 +20,7 @@ use Rattle.view.specs.View.{frameAt, framesFrom, words, owners}
 use Rattle.storage_tests.specs.Head.{Head}
 use Rattle.storage_tests.specs.Marks.{Clear}
 use Rattle.acceptance.specs.Tables.{Tallies, Tallied}
-use Rattle.acceptance.proofs.Marks.{raised}
+use Rattle.storage_tests.proofs.Tallies.{raise-at}
 
 -- A word is the array's at `x` where it is an array's word and that is its address.
 module _ (x w : ℕ) (small : x < 2 ^ 16) where
@@ -51,8 +51,8 @@ module _ (table : List ℕ) (w : ℕ) where
           most = λ x. omega arith })
       within : w % 2 ^ 16 < length table → Tallies table (set table (w % 2 ^ 16) (getD table (w % 2 ^ 16) 0 + 1)) (w ∷ [])
       within l = record {
-          sum = λ x i j. omega (arith, pointed x w j k, raised table (w % 2 ^ 16) x l);
-          most = λ x. omega (arith, raised table (w % 2 ^ 16) x l, hit-most x (w % 2 ^ 16)) }
+          sum = λ x i j. omega (arith, pointed x w j k, raise-at table (w % 2 ^ 16) x l);
+          most = λ x. omega (arith, raise-at table (w % 2 ^ 16) x l, hit-most x (w % 2 ^ 16)) }
 
   pub tally-other : (w / 2 ^ 16 ≡ 0x200 → ⊥) → Tallies table table (w ∷ [])
   tally-other k = record { sum = λ x i j. omega (arith, elsewhere x w j k); most = λ x. omega arith }

@@ -4,3 +4,4 @@ pub mod Cells
 pub mod Counts
 pub mod Refusal
 pub mod Tables
+pub mod Answer
