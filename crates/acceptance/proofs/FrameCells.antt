@@ -75,6 +75,18 @@ module _ (args size : ℕ → ℕ) (s : List ℕ) (arrays : ℕ → ℕ) (base t
   step zero l = absurd (omega arith)
   step (suc n) l = let e : suc n - 1 ≡ n = omega arith in rw e
 
+  -- The same as a list says it, at the bottom frame and above it.
+  pub cells-at-bottom : (n : ℕ) → 0 < n → base ≤ lastLbaseAt s base → cellsFrom n args size s arrays base top
+      ≡ frameCells s arrays (inList (variablesFrom n size s base)) (inList []) (args (codeWordAt s base)) (base - size (codeWordAt s base)) base top and true
+  unfolding olderOf
+  cells-at-bottom n pos l = step n pos ∙ simp (le-leb base (lastLbaseAt s base) l)
+
+  pub cells-above : (n : ℕ) → 0 < n → {last : ℕ} → last ≡ lastLbaseAt s base → last < base → cellsFrom n args size s arrays base top
+      ≡ frameCells s arrays (inList (variablesFrom n size s base)) (inList (variablesFrom (n - 1) size s last)) (args (codeWordAt s base)) (base - size (codeWordAt s base)) base top
+      and cellsFrom (n - 1) args size s arrays last (base - size (codeWordAt s base))
+  unfolding olderOf
+  cells-above n pos e l = step n pos ∙ rw e (simp (lt-leb base (lastLbaseAt s base) (rw e at l)))
+
   module _ (n : ℕ) (pos : 0 < n) {start count₁ last : ℕ} (es : start ≡ base - size (codeWordAt s base)) (ea : count₁ ≡ args (codeWordAt s base))
       (el : last ≡ lastLbaseAt s base) (table : List ℕ) (t : Tally table (variablesFrom n size s base)) where
     pub own-marked : (x : ℕ) → count x (range start (base - start)) ≤ getD table x 0

@@ -5,3 +5,4 @@ pub mod Counts
 pub mod Refusal
 pub mod Tables
 pub mod Answer
+pub mod Structure

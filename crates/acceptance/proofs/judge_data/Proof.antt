@@ -1,54 +1,19 @@
 use borrow.Author.Needs.{needs}
+use mathlib.Core.Path.{_≡_, refl, sym, _∙_, ap}
+use borrow.Author.Tests.{lt-ltb, le-ltb, le-leb, lt-leb, eq-eqb, ne-eqb, not-true, not-false}
+use Rattle.acceptance.proofs.Table.{table-13}
 use Rattle.acceptance.proofs.judge_data.Statement.{statement}
 use Rattle.acceptance.proofs.judge_data.Tie as tie
-use Rattle.acceptance.proofs.judge_data.Reads as reads
-use Rattle.acceptance.proofs.judge_data.Lts as lts
-use Rattle.acceptance.proofs.judge_long.Reads as judge-long-reads
-use Rattle.acceptance.proofs.judge_middling.Reads as judge-middling-reads
-use Rattle.acceptance.proofs.judge_short.Reads as judge-short-reads
-use Rattle.storage_tests.proofs.head.head_test.Reads as head-test-reads
-
--- src/lib.rt:86:9
-head-test-requires : tie.Need-head-test-requires
-head-test-requires c κs = search needs
-
--- src/lib.rt:87:9
-returns : tie.Need-returns
-returns c = ?
-
--- src/lib.rt:90:9
-judge-short-requires : tie.Need-judge-short-requires
-judge-short-requires c κs = ?
-
--- src/lib.rt:90:9
-returns-2 : tie.Need-returns-2
-returns-2 c = search needs
-
--- src/lib.rt:93:9
-judge-middling-requires : tie.Need-judge-middling-requires
-judge-middling-requires c κs = ?
-
--- src/lib.rt:93:9
-returns-3 : tie.Need-returns-3
-returns-3 c = search needs
-
--- src/lib.rt:95:5
-judge-long-requires : tie.Need-judge-long-requires
-judge-long-requires c κs = ?
-
--- src/lib.rt:82:1
-returns-4 : tie.Need-returns-4
-returns-4 c = search needs
 
 pub judge-data-spec : {M : Type 1} → statement M
 judge-data-spec =
     tie.close
     (tie.spec
-    head-test-requires
-    returns
-    judge-short-requires
-    returns-2
-    judge-middling-requires
-    returns-3
-    judge-long-requires
-    returns-4)
+    (λ c κs. search needs)
+    (λ c. table-13 (c .before .before .before .before .before .args .seg .now) (c .before .before .before .before .before .args .regular .now) (c .before .before .before .before .before .args .alternate .now) (sym (c .before .head-test .ensures) ∙ not-true _ (c .if1 .taken)))
+    (λ c κs. (sym (c .before .before .head-test .ensures) ∙ not-false _ (c .before .if1 .left), (c .if2 .taken)))
+    (λ c. search needs)
+    (λ c κs. (sym (c .before .before .before .head-test .ensures) ∙ not-false _ (c .before .before .if1 .left), (c .if3 .taken)))
+    (λ c. search needs)
+    (λ c κs. (sym (c .before .before .before .head-test .ensures) ∙ not-false _ (c .before .before .if1 .left), (c .before .before .before .before .before .before .before .pre)))
+    (λ c. search needs))

@@ -1,31 +1,14 @@
 use borrow.Author.Needs.{needs}
+use native.Mathlib.Omega.{arith}
+use Rattle.acceptance.proofs.Table.{zeros}
 use Rattle.acceptance.proofs.judge_short.Statement.{statement}
 use Rattle.acceptance.proofs.judge_short.Tie as tie
-use Rattle.acceptance.proofs.judge_short.Reads as reads
-use Rattle.acceptance.proofs.judge_short.Lts as lts
-use Rattle.acceptance.proofs.judge_storage.Reads as judge-storage-reads
-
--- src/lib.rt:104:44
-slice-aggregate-judge-storage : tie.Need-slice-aggregate-judge-storage
-slice-aggregate-judge-storage c = search needs
-
--- src/lib.rt:104:57
-slice-aggregate-judge-storage-2 : tie.Need-slice-aggregate-judge-storage-2
-slice-aggregate-judge-storage-2 c = search needs
-
--- src/lib.rt:104:5
-judge-storage-requires : tie.Need-judge-storage-requires
-judge-storage-requires c κs = ?
-
--- src/lib.rt:98:1
-returns : tie.Need-returns
-returns c = search needs
 
 pub judge-short-spec : {M : Type 1} → statement M
 judge-short-spec =
     tie.close
     (tie.spec
-    slice-aggregate-judge-storage
-    slice-aggregate-judge-storage-2
-    judge-storage-requires
-    returns)
+    (λ c. search needs)
+    (λ c. search needs)
+    (λ c κs. ((c .before .before .before .before .before .pre .0), omega (arith, (c .before .before .before .before .before .pre .1)), record { long = omega (arith, (c .before .before .before .before .before .pre .1)); empty = zeros 1024 }, record { long = omega (arith, (c .before .before .before .before .before .pre .1)); empty = zeros 1024 }))
+    (λ c. search needs))
