@@ -1,9 +1,9 @@
 -- A cell's test passes exactly where the cell is of one of its kinds.
-use Prim.Native.Nat.{ℕ, _+_, _*_, _/_, _%_, _^_, _<_, _≤_}
-use mathlib.Core.Path.{_≡_, refl, sym, _∙_, ap}
+use Prim.Native.Nat.{ℕ, _+_, _/_, _%_, _^_, _<_, _≤_}
+use mathlib.Core.Path.{_≡_, refl, ap}
 use mathlib.Core.Bool.{Bool, true, false, cond, not}
 use mathlib.Core.List.{List}
-use mathlib.Core.Logic.{_⊎_, inl, inr, ⊎-elim}
+use mathlib.Core.Logic.{_⊎_, inl, inr}
 use native.Mathlib.Omega.{arith}
 use lib.ListN.{getD}
 use lib.Dec.{leb, ltb, eqb}
@@ -11,7 +11,6 @@ use borrow.Author.Tests.{leb-true, ltb-true, eqb-true, eqb-false, le-leb, lt-ltb
 use Rattle.descriptor.specs.Fields.{isArray, address, undefinedWord, localWord, globalWord}
 use Rattle.descriptor.specs.Kinds.{isScalar}
 use Rattle.segment.specs.State.{sbase, blockptr}
-use Rattle.segment.specs.Stack.{stackAt}
 use Rattle.storage.specs.Heap.{count}
 use Rattle.storage_tests.specs.Tests.{_and_}
 use Rattle.storage_tests.proofs.Tests.{both, passes}
@@ -60,6 +59,7 @@ module _ (s regular other vs frames : List ℕ) (w : ℕ) where
     where
       ind : isIndirect w ≡ true
       ind = both (isIndirect w) _ h .0
+
       go : (g : Bool) → isGlobal w ≡ g → NamesGlobal s w ⊎ NamesVariable s regular other frames w
       go true e =
           let t = simp e at (both (isIndirect w) _ h .1) in
@@ -70,7 +70,8 @@ module _ (s regular other vs frames : List ℕ) (w : ℕ) where
             word = global-made w (eqb-true (w / 2 ^ 17) 0x180 ind) (eqb-true (w / 2 ^ 16 % 2) 1 e);
             low = leb-true 8 (address w) (b .0);
             high = ltb-true (address w) (blockptr s) (d .0);
-            direct = not-true (isIndirect (getD s (address w) 0)) (d .1) })
+            direct = not-true (isIndirect (getD s (address w) 0)) (d .1);
+          })
       go false e =
           let t = simp e at (both (isIndirect w) _ h .1) in
           let b = both (leb 1 (count (address w) vs)) (not (isIndirect (getD s (sbase s + address w) 0))) t in
@@ -78,7 +79,8 @@ module _ (s regular other vs frames : List ℕ) (w : ℕ) where
             target = address w;
             word = local-made w (eqb-true (w / 2 ^ 17) 0x180 ind) (eqb-false (w / 2 ^ 16 % 2) 1 e);
             variable = v (address w) (leb-true 1 (count (address w) vs) (b .0));
-            direct = not-true (isIndirect (getD s (sbase s + address w) 0)) (b .1) })
+            direct = not-true (isIndirect (getD s (sbase s + address w) 0)) (b .1);
+          })
 
   pub pointing-complete : blockptr s ≤ 2 ^ 16 → ((a : ℕ) → VariableOf s regular other frames a → (0 < count a vs) × (a < 2 ^ 16))
       → NamesGlobal s w ⊎ NamesVariable s regular other frames w → pointing s (inList vs) w ≡ true

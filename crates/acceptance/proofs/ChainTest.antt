@@ -1,15 +1,15 @@
 -- Test 16 passes exactly where the frames are a chain.
 use Prim.Native.Nat.{ℕ, zero, suc, _+_, _<_, _≤_}
-use mathlib.Core.Path.{_≡_, refl, sym, _∙_}
-use mathlib.Core.Bool.{true, false, cond}
+use mathlib.Core.Path.{_≡_, refl}
+use mathlib.Core.Bool.{true}
 use mathlib.Core.List.{List, [], _∷_}
 use native.Mathlib.Omega.{arith}
-use lib.Dec.{leb, eqb}
+use lib.Dec.{leb}
 use borrow.Author.Tests.{leb-true, eqb-true, le-leb, eq-eqb, ne-eqb}
 use Rattle.segment.specs.Stack.{lastLbaseAt, codeWordAt}
 use Rattle.storage_tests.proofs.Tests.{never, by-eq, both}
 use Rattle.acceptance.specs.Frames.{known, variables, framesFrom}
-use Rattle.acceptance.specs.Structure.{Bottom, Above, Chain}
+use Rattle.acceptance.specs.Structure.{Chain}
 
 pub chain-sound : (n : ℕ) (s regular other : List ℕ) (base : ℕ) → framesFrom n (known regular other) (variables regular other) s base ≡ true
     → (older : List ℕ) × Chain s regular other base older
@@ -20,8 +20,8 @@ chain-sound (suc n) s regular other base h =
     by-eq (lastLbaseAt s base) base
     (λ e. ([], record { function = a .0; itself = e; start = eqb-true (variables regular other (codeWordAt s base)) base (simp (eq-eqb (lastLbaseAt s base) base e) at (a .1)) }))
     (λ e. let b = both (leb (lastLbaseAt s base + 2 + variables regular other (codeWordAt s base)) base) _ (simp (ne-eqb (lastLbaseAt s base) base e) at (a .1)) in
-      let r = chain-sound n s regular other (lastLbaseAt s base) (b .1) in
-      (lastLbaseAt s base ∷ r .0, (record { function = a .0; last = refl; start = leb-true _ _ (b .0) }, r .1)))
+    let r = chain-sound n s regular other (lastLbaseAt s base) (b .1) in
+    (lastLbaseAt s base ∷ r .0, (record { function = a .0; last = refl; start = leb-true _ _ (b .0) }, r .1)))
 
 pub chain-complete : (n : ℕ) (s regular other : List ℕ) (base : ℕ) (older : List ℕ) → base < n → Chain s regular other base older
     → framesFrom n (known regular other) (variables regular other) s base ≡ true

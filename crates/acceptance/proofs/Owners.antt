@@ -1,18 +1,18 @@
 -- Every array word among the cells of the view stands in a cell that test 17 looks at, so it names an array.
-use Prim.Native.Nat.{ℕ, zero, suc, _+_, _-_, _*_, _/_, _%_, _^_, _<_, _≤_}
-use mathlib.Core.Path.{_≡_, refl, sym, _∙_, ap}
-use mathlib.Core.Bool.{Bool, true, false}
+use Prim.Native.Nat.{ℕ, suc, _+_, _-_, _%_, _^_, _<_, _≤_}
+use mathlib.Core.Path.{_≡_, sym, _∙_, ap}
+use mathlib.Core.Bool.{false}
 use mathlib.Core.List.{List, [], _∷_, _++_}
-use mathlib.Core.Logic.{_⊎_, inl, inr, ⊎-elim}
+use mathlib.Core.Logic.{inl, inr}
 use native.Mathlib.Omega.{arith}
 use lib.ListN.{getD}
-use Rattle.descriptor.specs.Fields.{isArray, address, arrayWord}
+use Rattle.descriptor.specs.Fields.{arrayWord}
 use Rattle.descriptor.specs.Kinds.{segment, isScalar, scalarKind}
 use Rattle.descriptor.specs.declared.Kind.the-variants as K
 use Rattle.descriptor.proofs.Inverse.{inverse}
 use Rattle.segment.specs.State.{sbase, ltop, lbase, blockptr}
 use Rattle.segment.specs.Blocks.{part}
-use Rattle.segment.specs.Stack.{stackAt, lastLbaseAt, codeWordAt, downward}
+use Rattle.segment.specs.Stack.{stackAt, lastLbaseAt, downward}
 use Rattle.storage.specs.Heap.{count}
 use Rattle.heap.proofs.Counts.{count-append}
 use Rattle.view.specs.Machine.{cellsOfFrames}
@@ -61,7 +61,7 @@ module _ (A : ℕ → Type 0) (s regular other : List ℕ) (x : ℕ) (small : x 
       → 0 < count (arrayWord x) (cellsOfFrames (framesFrom n s base)) → A x
   frames-name [] n base top l h t k =
       let c : 0 < count (arrayWord x) (downward s (sbase s) base)
-            = omega (arith, rw (cells-bottom s base n (omega arith) (omega (arith, h .itself))) at k, count-append (arrayWord x) (downward s (sbase s) base) []) in
+      = omega (arith, rw (cells-bottom s base n (omega arith) (omega (arith, h .itself))) at k, count-append (arrayWord x) (downward s (sbase s) base) []) in
       let r = downward-at (arrayWord x) s (sbase s) base c in
       let e : sbase s + (r .0 - sbase s) ≡ r .0 = omega (arith, r .1) in
       variables-name base top [] t (r .0 - sbase s) (omega (arith, h .start)) (omega (arith, r .2)) (rw e (r .3))
@@ -74,6 +74,7 @@ module _ (A : ℕ → Type 0) (s regular other : List ℕ) (x : ℕ) (small : x 
           + count (arrayWord x) (cellsOfFrames (framesFrom (n - 1) s (lastLbaseAt s base)))
       all = rw (cells-on s base n (omega arith) (omega (arith, h .0 .last, h .0 .start)))
           (count-append (arrayWord x) (downward s (sbase s + (lastLbaseAt s base + 2)) (base - (lastLbaseAt s base + 2))) (cellsOfFrames (framesFrom (n - 1) s (lastLbaseAt s base))))
+
       here : 0 < count (arrayWord x) (downward s (sbase s + (lastLbaseAt s base + 2)) (base - (lastLbaseAt s base + 2))) → A x
       here m =
           let r = downward-at (arrayWord x) s (sbase s + (lastLbaseAt s base + 2)) (base - (lastLbaseAt s base + 2)) m in
@@ -81,6 +82,7 @@ module _ (A : ℕ → Type 0) (s regular other : List ℕ) (x : ℕ) (small : x 
           by-le (startOf s regular other base) (r .0 - sbase s)
           (λ d. variables-name base top (next ∷ older) (t .0) (r .0 - sbase s) d (omega (arith, r .2)) (rw e (r .3)))
           (λ d. either-names A x small (rw e (r .3)) (first-frame A older (t .1) .temporaries (r .0 - sbase s) (omega (arith, r .1, h .0 .last)) d))
+
       rest : count (arrayWord x) (downward s (sbase s + (lastLbaseAt s base + 2)) (base - (lastLbaseAt s base + 2))) < 1
           → 0 < count (arrayWord x) (cellsOfFrames (framesFrom (n - 1) s (lastLbaseAt s base)))
       rest m = omega (arith, m, k, all)
@@ -92,10 +94,15 @@ module _ (A : ℕ → Type 0) (s regular other : List ℕ) (x : ℕ) (small : x 
       by-le 1 (count (arrayWord x) (downward s (sbase s + lbase s + 2) (ltop s - (lbase s + 1))))
       (λ m. let z : ltop s - (lbase s + 1) ≡ ltop s + 1 - (lbase s + 2) = omega arith in temporaries-name (lbase s) (ltop s + 1) older (first-frame A older t) (rw z at m))
       (λ m. by-le 1 (count (arrayWord x) (cellsOfFrames (framesFrom (suc (lbase s)) s (lbase s))))
-        (λ d. frames-name older (suc (lbase s)) (lbase s) (ltop s + 1) (omega arith) h t d)
-        (λ d. global (omega (arith, k, m, d,
-          count-append (arrayWord x) (downward s (sbase s + lbase s + 2) (ltop s - (lbase s + 1))) (cellsOfFrames (framesFrom (suc (lbase s)) s (lbase s)) ++ part s 8 (blockptr s - 8)),
-          count-append (arrayWord x) (cellsOfFrames (framesFrom (suc (lbase s)) s (lbase s))) (part s 8 (blockptr s - 8))))))
+      (λ d. frames-name older (suc (lbase s)) (lbase s) (ltop s + 1) (omega arith) h t d)
+      (λ d. global (omega (
+        arith,
+        k,
+        m,
+        d,
+        count-append (arrayWord x) (downward s (sbase s + lbase s + 2) (ltop s - (lbase s + 1))) (cellsOfFrames (framesFrom (suc (lbase s)) s (lbase s)) ++ part s 8 (blockptr s - 8)),
+        count-append (arrayWord x) (cellsOfFrames (framesFrom (suc (lbase s)) s (lbase s))) (part s 8 (blockptr s - 8)),
+      ))))
     where
       global : 0 < count (arrayWord x) (part s 8 (blockptr s - 8)) → A x
       global m =

@@ -1,14 +1,14 @@
 -- Where the words of a run stand: tests of words, cells from the highest down, and addresses of a range, each by position.
 use Prim.Native.Nat.{ℕ, zero, suc, _+_, _-_, _<_, _≤_}
-use mathlib.Core.Path.{_≡_, refl, sym, _∙_}
-use mathlib.Core.Bool.{Bool, true, false, cond}
-use mathlib.Core.List.{List, [], _∷_}
+use mathlib.Core.Path.{_≡_, refl, sym}
+use mathlib.Core.Bool.{Bool, true}
+use mathlib.Core.List.{List}
 use mathlib.Core.Logic.{⊎-elim}
 use native.Mathlib.Omega.{arith}
 use lib.ListN.{getD}
 use Rattle.segment.specs.Stack.{downward}
 use Rattle.storage.specs.Heap.{hit, count}
-use Rattle.heap.proofs.Counts.{hit-cases, hit-same}
+use Rattle.heap.proofs.Counts.{hit-cases}
 use Rattle.storage_tests.specs.Tests.{words}
 use Rattle.storage_tests.proofs.Tests.{both, passes, by-le}
 use Rattle.acceptance.specs.Cells.{range}
@@ -31,7 +31,7 @@ downward-at w s a zero h = absurd (omega arith)
 downward-at w s a (suc n) h =
     ⊎-elim (λ (e : (w ≡ getD s (a + n) 0) × (hit w (getD s (a + n) 0) ≡ 1)). (a + n, omega arith, omega arith, sym (e .0)))
     (λ (e : (w ≡ getD s (a + n) 0 → ⊥) × (hit w (getD s (a + n) 0) ≡ 0)).
-      let r = downward-at w s a n (omega (arith, e .1)) in (r .0, r .1, omega (arith, r .2), r .3))
+    let r = downward-at w s a n (omega (arith, e .1)) in (r .0, r .1, omega (arith, r .2), r .3))
     (hit-cases w (getD s (a + n) 0))
 
 pub range-in : (a n x : ℕ) → 0 < count x (range a n) → (a ≤ x) × (x < a + n)

@@ -5,7 +5,7 @@ use mathlib.Core.List.{List, [], _∷_}
 use mathlib.Core.Logic.{⊎-elim}
 use native.Mathlib.Omega.{arith}
 use lib.ListN.{getD, set, length, length-set}
-use Rattle.storage.specs.Heap.{hit, count}
+use Rattle.storage.specs.Heap.{count}
 use Rattle.heap.proofs.Counts.{hit-cases, hit-same}
 use Rattle.acceptance.specs.Cells.{range}
 use Rattle.acceptance.specs.Tables.{Gains}
@@ -48,8 +48,9 @@ module _ {start end : ℕ} {before table : List ℕ} {a : ℕ} (h : Marking star
 
     pub marking-on : a < length table → Marking start end before (set table a (getD table a 0 + 1)) (a + 1)
     marking-on k = record {
-        long = length-set table a _ ∙ h .long;
-        sum = λ x. omega (arith, rw (range-step a end pos) at (h .sum x), raise-at table a x k) }
+      long = length-set table a _ ∙ h .long;
+      sum = λ x. omega (arith, rw (range-step a end pos) at (h .sum x), raise-at table a x k);
+    }
 
 -- The way back.
 pub record Unmarking (start end : ℕ) (before table : List ℕ) (a : ℕ) : Type 0 where
@@ -66,5 +67,6 @@ module _ {start end : ℕ} {before table : List ℕ} {a : ℕ} (h : Unmarking st
 
     pub unmarking-on : Unmarking start end before (set table a (getD table a 0 - 1)) (a + 1)
     unmarking-on = record {
-        long = length-set table a _ ∙ h .long;
-        sum = λ x. omega (arith, rw (range-step a end pos) at (h .sum x), lower-at table a x unmarking-room) }
+      long = length-set table a _ ∙ h .long;
+      sum = λ x. omega (arith, rw (range-step a end pos) at (h .sum x), lower-at table a x unmarking-room);
+    }

@@ -1,29 +1,29 @@
 -- Tests 10–18 accept exactly what is an accepted structure.
-use Prim.Native.Nat.{ℕ, zero, suc, _+_, _-_, _^_, _<_, _≤_}
-use mathlib.Core.Path.{_≡_, refl, sym, _∙_, ap}
+use Prim.Native.Nat.{ℕ, suc, _+_, _-_, _^_, _<_, _≤_}
+use mathlib.Core.Path.{_≡_, refl}
 use mathlib.Core.Bool.{Bool, true, false, cond}
-use mathlib.Core.List.{List, [], _∷_}
+use mathlib.Core.List.{List}
 use native.Mathlib.Omega.{arith}
 use lib.ListN.{getD, length}
 use lib.Dec.{leb, eqb}
 use borrow.Author.Tests.{leb-true, eqb-true, le-leb, eq-eqb, ne-eqb}
 use Rattle.descriptor.specs.Fields.{arrayWord}
-use Rattle.segment.specs.State.{sbase, ltop, lbase, blockptr}
+use Rattle.segment.specs.State.{ltop, lbase, blockptr}
 use Rattle.segment.specs.Blocks.{sizeAt, countAt}
 use Rattle.procedure.specs.Refusal.{procedureRefusal}
-use Rattle.storage.specs.Heap.{Block, over, count, Heap}
-use Rattle.storage.specs.Owned.{ArrayIn, Owned}
+use Rattle.storage.specs.Heap.{Block, over, count}
+use Rattle.storage.specs.Owned.{ArrayIn}
 use Rattle.view.specs.View.{owners}
-use Rattle.storage_tests.specs.Tests.{_and_, every, words}
-use Rattle.storage_tests.specs.Head.{headTest, Head}
+use Rattle.storage_tests.specs.Tests.{_and_, words}
+use Rattle.storage_tests.specs.Head.{headTest}
 use Rattle.storage_tests.specs.Blocks.{arrayStarts, blocksTest}
 use Rattle.storage_tests.specs.Ring.{ringTest}
 use Rattle.storage_tests.specs.Structure.{Passed, Stored, arrays}
 use Rattle.storage_tests.proofs.Tests.{both, passes, by-eq, every-at, every-all}
 use Rattle.storage_tests.proofs.Tiling.{array-counted, array-named}
 use Rattle.storage_tests.proofs.Structure as storage
-use Rattle.acceptance.specs.Frames.{known, arguments, variables, framesFrom, framesTest}
-use Rattle.acceptance.specs.Cells.{inList, plainCell, cellsFrom, cellsTest}
+use Rattle.acceptance.specs.Frames.{framesTest}
+use Rattle.acceptance.specs.Cells.{inList, plainCell, cellsTest}
 use Rattle.acceptance.specs.Counts.{countTest, countsTest}
 use Rattle.acceptance.specs.Refusal.{lengthTest, dataRefusal, refusal}
 use Rattle.acceptance.specs.Structure.{Chain, Direct, StackCells, Accepted, Structure}
@@ -67,14 +67,23 @@ table-sound s regular other h =
     let l = both (leb 32 (length s)) (leb (length s) 16384) (a .0) in
     by-eq (procedureRefusal regular other) 0
     (λ e. let d = data-passes s regular other (simp (eq-eqb (procedureRefusal regular other) 0 e) at (a .1)) in
-      record { shortest = leb-true _ _ (l .0); longest = leb-true _ _ (l .1); procedures = e; storage = d .0; frames = d .1; cells = d .2; counts = d .3 })
+    record { shortest = leb-true _ _ (l .0); longest = leb-true _ _ (l .1); procedures = e; storage = d .0; frames = d .1; cells = d .2; counts = d .3 })
     (λ e. absurd (e (simp (ne-eqb (procedureRefusal regular other) 0 e) at (a .1))))
 
 pub table-complete : (s regular other : List ℕ) → AllPass s regular other → refusal s regular other ≡ 0
 unfolding refusal dataRefusal
 table-complete s regular other h =
-    simp (le-leb 32 (length s) (h .shortest), le-leb (length s) 16384 (h .longest), eq-eqb (procedureRefusal regular other) 0 (h .procedures),
-      h .storage .head, h .storage .blocks, h .storage .ring, h .frames, h .cells, h .counts)
+    simp (
+      le-leb 32 (length s) (h .shortest),
+      le-leb (length s) 16384 (h .longest),
+      eq-eqb (procedureRefusal regular other) 0 (h .procedures),
+      h .storage .head,
+      h .storage .blocks,
+      h .storage .ring,
+      h .frames,
+      h .cells,
+      h .counts,
+    )
 
 -- The arrays of the walk, by the tests' list and by the blocks.
 module _ (s : List ℕ) (blocks : List Block) (ring : List ℕ) (h : Stored s blocks ring) where
@@ -111,9 +120,9 @@ module _ (s regular other : List ℕ) where
       let c = chain-sound (length s) s regular other (lbase s) (k .1) in
       let g = both (words (blockptr s - 8) (plainCell (inList (arrayStarts s))) s 8) _ (t .cells) in
       put t (r .0) (r .1) (r .2) top (c .0) (c .1)
-        (λ i l u. direct-sound (inList (arrayStarts s)) (getD s i 0) (words-at (blockptr s - 8) (plainCell (inList (arrayStarts s))) s 8 (g .0) i l (omega arith)))
-        (stack-sound (c .0) (length s) (inList (arrayStarts s)) s regular other (lbase s) (ltop s + 1) (omega (arith, top, r .2 .head .top)) (c .1) (g .1))
-        (λ x z. count-sound s (owners s) x (every-at (countTest s (owners s)) (arrayStarts s) (t .counts) x z))
+      (λ i l u. direct-sound (inList (arrayStarts s)) (getD s i 0) (words-at (blockptr s - 8) (plainCell (inList (arrayStarts s))) s 8 (g .0) i l (omega arith)))
+      (stack-sound (c .0) (length s) (inList (arrayStarts s)) s regular other (lbase s) (ltop s + 1) (omega (arith, top, r .2 .head .top)) (c .1) (g .1))
+      (λ x z. count-sound s (owners s) x (every-at (countTest s (owners s)) (arrayStarts s) (t .counts) x z))
     where
       put : AllPass s regular other → (blocks : List Block) (ring : List ℕ) → Stored s blocks ring → lbase s + 1 ≤ ltop s
           → (older : List ℕ) → Chain s regular other (lbase s) older
@@ -122,39 +131,43 @@ module _ (s regular other : List ℕ) where
           → ((x : ℕ) → 0 < count x (arrayStarts s) → (countAt s x ≡ count (arrayWord x) (owners s)) × (0 < count (arrayWord x) (owners s)))
           → Accepted s regular other
       put t blocks ring st top older chain globals cells counted = record {
-          shortest = t .shortest;
-          longest = t .longest;
-          procedures = t .procedures;
-          head = st .head;
-          owned = record {
-            blocks = blocks;
-            ring = ring;
-            heap = st .heap;
-            named = λ x small k. a-block s blocks ring st x (owners-name (λ a. 1 ≤ count a (arrayStarts s)) s regular other x small older chain cells globals k);
-            counts = λ x size k. counted x (started s blocks ring st x size k);
-            inside = st .inside };
-          top = top;
-          older = older;
-          chain = chain;
-          globals = λ i l u. direct-map (a-block s blocks ring st) (globals i l u);
-          cells = stack-map (a-block s blocks ring st) older s regular other (lbase s) (ltop s + 1) cells }
+        shortest = t .shortest;
+        longest = t .longest;
+        procedures = t .procedures;
+        head = st .head;
+        owned = record {
+          blocks = blocks;
+          ring = ring;
+          heap = st .heap;
+          named = λ x small k. a-block s blocks ring st x (owners-name (λ a. 1 ≤ count a (arrayStarts s)) s regular other x small older chain cells globals k);
+          counts = λ x size k. counted x (started s blocks ring st x size k);
+          inside = st .inside;
+        };
+        top = top;
+        older = older;
+        chain = chain;
+        globals = λ i l u. direct-map (a-block s blocks ring st) (globals i l u);
+        cells = stack-map (a-block s blocks ring st) older s regular other (lbase s) (ltop s + 1) cells;
+      }
 
   pub complete : Accepted s regular other → refusal s regular other ≡ 0
   unfolding framesTest cellsTest countsTest
   complete h = table-complete s regular other (record {
-      shortest = h .shortest;
-      longest = h .longest;
-      procedures = h .procedures;
-      storage = storage.complete s (h .owned .blocks) (h .owned .ring) st;
-      frames = passes (le-leb (lbase s + 1) (ltop s) (h .top)) (chain-complete (length s) s regular other (lbase s) (h .older) (omega (arith, h .top, h .head .top)) (h .chain));
-      cells = passes
+    shortest = h .shortest;
+    longest = h .longest;
+    procedures = h .procedures;
+    storage = storage.complete s (h .owned .blocks) (h .owned .ring) st;
+    frames = passes (le-leb (lbase s + 1) (ltop s) (h .top)) (chain-complete (length s) s regular other (lbase s) (h .older) (omega (arith, h .top, h .head .top)) (h .chain));
+    cells = passes
         (words-all (blockptr s - 8) (plainCell (inList (arrayStarts s))) s 8 (λ i l u. direct-complete (inList (arrayStarts s)) (getD s i 0) (direct-map began (h .globals i l (omega arith)))))
         (stack-complete (h .older) (length s) (inList (arrayStarts s)) s regular other (lbase s) (ltop s + 1) (omega (arith, h .top, h .head .top)) (omega (arith, h .top, h .head .top, h .longest))
-          (omega (arith, h .head .room, h .head .top, h .longest)) (h .chain) (stack-map began (h .older) s regular other (lbase s) (ltop s + 1) (h .cells)));
-      counts = every-all (countTest s (owners s)) (arrayStarts s) (λ x k. let b = a-block s (h .owned .blocks) (h .owned .ring) st x k in count-complete s (owners s) x (h .owned .counts x (b .0) (b .1))) })
+        (omega (arith, h .head .room, h .head .top, h .longest)) (h .chain) (stack-map began (h .older) s regular other (lbase s) (ltop s + 1) (h .cells)));
+    counts = every-all (countTest s (owners s)) (arrayStarts s) (λ x k. let b = a-block s (h .owned .blocks) (h .owned .ring) st x k in count-complete s (owners s) x (h .owned .counts x (b .0) (b .1)));
+  })
     where
       st : Stored s (h .owned .blocks) (h .owned .ring)
       st = record { head = h .head; heap = h .owned .heap; inside = h .owned .inside }
+
       began : (a : ℕ) → (size : ℕ) × ArrayIn (blockptr s) (h .owned .blocks) a size → 1 ≤ count a (arrayStarts s)
       began a k = started s (h .owned .blocks) (h .owned .ring) st a (k .0) (k .1)
 

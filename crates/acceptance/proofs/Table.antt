@@ -1,12 +1,12 @@
 -- The table's order: what the table says where the tests up to one are known.
 use Prim.Native.Nat.{ℕ, zero, suc, _+_, _<_, _≤_}
 use mathlib.Core.Path.{_≡_, refl, sym, _∙_}
-use mathlib.Core.Bool.{Bool, true, false, cond}
+use mathlib.Core.Bool.{Bool, true, false}
 use mathlib.Core.List.{List}
 use native.Mathlib.Omega.{arith}
 use lib.ListN.{getD, length, replicate}
-use lib.Dec.{leb, eqb}
-use borrow.Author.Tests.{leb-true, le-leb, lt-leb, eq-eqb, ne-eqb}
+use lib.Dec.{leb}
+use borrow.Author.Tests.{leb-true, le-leb, lt-leb, ne-eqb}
 use Rattle.segment.specs.State.{ltop, lbase}
 use Rattle.procedure.specs.Refusal.{procedureRefusal}
 use Rattle.storage_tests.specs.declared.blocks.Blocks.{Blocks}
@@ -16,10 +16,10 @@ use Rattle.storage_tests.specs.Blocks.{freeStarts, blocksTest}
 use Rattle.storage_tests.specs.Ring.{ringTest}
 use Rattle.storage_tests.specs.Answer.{blocksAnswer}
 use Rattle.storage_tests.proofs.Tests.{both}
-use Rattle.acceptance.specs.Frames.{framesTest, framesFrom, known, variables}
+use Rattle.acceptance.specs.Frames.{framesTest, known}
 use Rattle.acceptance.specs.Cells.{cellsTest}
 use Rattle.acceptance.specs.Counts.{countsTest}
-use Rattle.acceptance.specs.Refusal.{lengthTest, dataRefusal, refusal}
+use Rattle.acceptance.specs.Refusal.{dataRefusal, refusal}
 
 module _ (s regular other : List ℕ) where
   pub table-10-short : length s < 32 → 10 ≡ refusal s regular other

@@ -1,11 +1,11 @@
 -- Cells tallied by the array that they point to: a word, words one after the other, the cells of the frames, all cells.
-use Prim.Native.Nat.{ℕ, zero, suc, _+_, _-_, _*_, _/_, _%_, _<_, _≤_, _^_}
-use mathlib.Core.Path.{_≡_, refl, sym, _∙_, ap}
-use mathlib.Core.Bool.{Bool, true, false, cond}
+use Prim.Native.Nat.{ℕ, zero, suc, _+_, _-_, _/_, _%_, _<_, _≤_, _^_}
+use mathlib.Core.Path.{_≡_, refl, _∙_, ap}
+use mathlib.Core.Bool.{cond}
 use mathlib.Core.List.{List, [], _∷_, _++_}
 use mathlib.Core.Logic.{_⊎_, ⊎-elim}
 use native.Mathlib.Omega.{arith}
-use lib.ListN.{getD, set, length, length-set, length-append, List·getD-eq-default}
+use lib.ListN.{getD, set, length, length-append}
 use lib.Seq.{set-out}
 use lib.Dec.{leb}
 use borrow.Author.Tests.{le-leb, lt-leb}
@@ -14,10 +14,9 @@ use Rattle.segment.specs.State.{sbase, ltop, lbase, blockptr}
 use Rattle.segment.specs.Blocks.{part}
 use Rattle.segment.specs.Stack.{lastLbaseAt, downward}
 use Rattle.storage.specs.Heap.{hit, count}
-use Rattle.heap.proofs.Counts.{hit-cases, hit-same, count-append, order}
-use Rattle.view.specs.Machine.{Frame, cellsOfFrames}
+use Rattle.heap.proofs.Counts.{hit-cases, count-append, order}
+use Rattle.view.specs.Machine.{cellsOfFrames}
 use Rattle.view.specs.View.{frameAt, framesFrom, words, owners}
-use Rattle.storage_tests.specs.Head.{Head}
 use Rattle.storage_tests.specs.Marks.{Clear}
 use Rattle.acceptance.specs.Tables.{Tallies, Tallied}
 use Rattle.storage_tests.proofs.Tallies.{raise-at}
@@ -27,9 +26,9 @@ module _ (x w : ℕ) (small : x < 2 ^ 16) where
   pub pointed : w / 2 ^ 16 ≡ 0x200 → hit (arrayWord x) w ≡ hit x (w % 2 ^ 16)
   pointed k =
       ⊎-elim (λ (e : (arrayWord x ≡ w) × (hit (arrayWord x) w ≡ 1)). ⊎-elim (λ (d : (x ≡ w % 2 ^ 16) × (hit x (w % 2 ^ 16) ≡ 1)). omega (arith, e .1, d .1))
-        (λ (d : (x ≡ w % 2 ^ 16 → ⊥) × (hit x (w % 2 ^ 16) ≡ 0)). absurd (d .0 (omega (arith, e .0)))) (hit-cases x (w % 2 ^ 16)))
+      (λ (d : (x ≡ w % 2 ^ 16 → ⊥) × (hit x (w % 2 ^ 16) ≡ 0)). absurd (d .0 (omega (arith, e .0)))) (hit-cases x (w % 2 ^ 16)))
       (λ (e : (arrayWord x ≡ w → ⊥) × (hit (arrayWord x) w ≡ 0)). ⊎-elim (λ (d : (x ≡ w % 2 ^ 16) × (hit x (w % 2 ^ 16) ≡ 1)). absurd (e .0 (omega (arith, d .0))))
-        (λ (d : (x ≡ w % 2 ^ 16 → ⊥) × (hit x (w % 2 ^ 16) ≡ 0)). omega (arith, e .1, d .1)) (hit-cases x (w % 2 ^ 16)))
+      (λ (d : (x ≡ w % 2 ^ 16 → ⊥) × (hit x (w % 2 ^ 16) ≡ 0)). omega (arith, e .1, d .1)) (hit-cases x (w % 2 ^ 16)))
       (hit-cases (arrayWord x) w)
 
   pub elsewhere : (w / 2 ^ 16 ≡ 0x200 → ⊥) → hit (arrayWord x) w ≡ 0
@@ -47,12 +46,15 @@ module _ (table : List ℕ) (w : ℕ) where
     where
       past : length table ≤ w % 2 ^ 16 → Tallies table (set table (w % 2 ^ 16) (getD table (w % 2 ^ 16) 0 + 1)) (w ∷ [])
       past l = rw (set-out table (w % 2 ^ 16) (getD table (w % 2 ^ 16) 0 + 1) l) (record {
-          sum = λ x i j. omega (arith, pointed x w j k, ⊎-elim (λ (e : (x ≡ w % 2 ^ 16) × (hit x (w % 2 ^ 16) ≡ 1)). absurd (omega (arith, e .0))) (λ (e : (x ≡ w % 2 ^ 16 → ⊥) × (hit x (w % 2 ^ 16) ≡ 0)). e .1) (hit-cases x (w % 2 ^ 16)));
-          most = λ x. omega arith })
+        sum = λ x i j. omega (arith, pointed x w j k, ⊎-elim (λ (e : (x ≡ w % 2 ^ 16) × (hit x (w % 2 ^ 16) ≡ 1)). absurd (omega (arith, e .0))) (λ (e : (x ≡ w % 2 ^ 16 → ⊥) × (hit x (w % 2 ^ 16) ≡ 0)). e .1) (hit-cases x (w % 2 ^ 16)));
+        most = λ x. omega arith;
+      })
+
       within : w % 2 ^ 16 < length table → Tallies table (set table (w % 2 ^ 16) (getD table (w % 2 ^ 16) 0 + 1)) (w ∷ [])
       within l = record {
-          sum = λ x i j. omega (arith, pointed x w j k, raise-at table (w % 2 ^ 16) x l);
-          most = λ x. omega (arith, raise-at table (w % 2 ^ 16) x l, hit-most x (w % 2 ^ 16)) }
+        sum = λ x i j. omega (arith, pointed x w j k, raise-at table (w % 2 ^ 16) x l);
+        most = λ x. omega (arith, raise-at table (w % 2 ^ 16) x l, hit-most x (w % 2 ^ 16));
+      }
 
   pub tally-other : (w / 2 ^ 16 ≡ 0x200 → ⊥) → Tallies table table (w ∷ [])
   tally-other k = record { sum = λ x i j. omega (arith, elsewhere x w j k); most = λ x. omega arith }
@@ -86,8 +88,9 @@ tallying-start s from n table = record { long = refl; far = refl; sum = λ x i j
 module _ {s : List ℕ} {from n : ℕ} {before table : List ℕ} {i left : ℕ} (h : Tallying s from n before table i left) where
   pub tallying-done : left ≤ 0 → Tallies before table (part s from n)
   tallying-done z = record {
-      sum = λ x a b. omega (arith, rw (part-none s i left z) at (h .sum x a b));
-      most = λ x. omega (arith, h .most x, part-length s from n) }
+    sum = λ x a b. omega (arith, rw (part-none s i left z) at (h .sum x a b));
+    most = λ x. omega (arith, h .most x, part-length s from n);
+  }
 
   module _ (pos : 0 < left) where
     pub tallying-room : ((x : ℕ) → getD before x 0 + n < 65536) → (x : ℕ) → getD table x 0 < 65535
@@ -96,10 +99,11 @@ module _ {s : List ℕ} {from n : ℕ} {before table : List ℕ} {i left : ℕ} 
     pub tallying-on : {after : List ℕ} {w : ℕ} → w ≡ getD s i 0 → length after ≡ length table → Tallies table after (w ∷ [])
         → Tallying s from n before after (i + 1) (left - 1)
     tallying-on {after} {w} e k g = record {
-        long = k ∙ h .long;
-        far = omega (arith, h .far);
-        sum = λ x a b. omega (arith, rw (part-step s i left pos, ← e) at (h .sum x a b), g .sum x (omega (arith, h .long)) b);
-        most = λ x. omega (arith, h .most x, g .most x) }
+      long = k ∙ h .long;
+      far = omega (arith, h .far);
+      sum = λ x a b. omega (arith, rw (part-step s i left pos, ← e) at (h .sum x a b), g .sum x (omega (arith, h .long)) b);
+      most = λ x. omega (arith, h .most x, g .most x);
+    }
 
 -- From the highest down, and from the lowest up: the same words.
 part-last : (w : ℕ) (s : List ℕ) (a n : ℕ) → count w (part s a (suc n)) ≡ count w (part s a n) + hit w (getD s (a + n) 0)
@@ -135,7 +139,7 @@ module _ (s : List ℕ) (base n : ℕ) (pos : 0 < n) where
       ≡ downward s (sbase s + (lastLbaseAt s base + 2)) (base - (lastLbaseAt s base + 2)) ++ cellsOfFrames (framesFrom (n - 1) s (lastLbaseAt s base))
   cells-on h =
       let e : framesFrom n s base ≡ frameAt s base (lastLbaseAt s base + 2) ∷ framesFrom (n - 1) s (lastLbaseAt s base)
-            = frames-step ∙ simp (lt-leb base (lastLbaseAt s base) h) in
+      = frames-step ∙ simp (lt-leb base (lastLbaseAt s base) h) in
       ap cellsOfFrames e
 
 pub record Framed (s : List ℕ) (from : ℕ) (before table : List ℕ) (base left : ℕ) : Type 0 where
@@ -163,22 +167,24 @@ module _ {s : List ℕ} {from : ℕ} {before table : List ℕ} {base left : ℕ}
         let l : base ≤ lastLbaseAt s base = rw e at m in
         let g : Tallies table after (part s (sbase s) base) = rw q at f in
         record {
-        sum = λ x i j. omega (arith, g .sum x (omega (arith, h .long)) j, rw (cells-bottom s base left pos l) at (h .sum x i j), count-append (arrayWord x) (downward s (sbase s) base) [], downward-count (arrayWord x) s (sbase s) base);
-        most = λ x. omega (arith, g .most x, part-length s (sbase s) base, rw (cells-bottom s base left pos l) at (h .most x), length-append (downward s (sbase s) base) [], downward-length s (sbase s) base) }
+          sum = λ x i j. omega (arith, g .sum x (omega (arith, h .long)) j, rw (cells-bottom s base left pos l) at (h .sum x i j), count-append (arrayWord x) (downward s (sbase s) base) [], downward-count (arrayWord x) s (sbase s) base);
+          most = λ x. omega (arith, g .most x, part-length s (sbase s) base, rw (cells-bottom s base left pos l) at (h .most x), length-append (downward s (sbase s) base) [], downward-length s (sbase s) base);
+        }
 
     pub framed-on : {last at : ℕ} → last ≡ lastLbaseAt s base → at ≡ sbase s + (last + 2) → last < base → Tallies table after (part s at (base - (last + 2)))
         → Framed s from before after last (left - 1)
     framed-on {last} {at} e q l f =
         let g : Tallies table after (part s (sbase s + (last + 2)) (base - (last + 2))) = rw q at f in
         let c : cellsOfFrames (framesFrom left s base) ≡ downward s (sbase s + (last + 2)) (base - (last + 2)) ++ cellsOfFrames (framesFrom (left - 1) s last)
-              = rw e (cells-on s base left pos (rw e at l)) in
+        = rw e (cells-on s base left pos (rw e at l)) in
         record {
-        long = k ∙ h .long;
-        fuel = omega (arith, h .fuel);
-        low = omega (arith, h .low);
-        room = λ x. omega (arith, g .most x, part-length s (sbase s + (last + 2)) (base - (last + 2)), h .room x);
-        sum = λ x i j. omega (arith, g .sum x (omega (arith, h .long)) j, rw c at (h .sum x i j), count-append (arrayWord x) (downward s (sbase s + (last + 2)) (base - (last + 2))) (cellsOfFrames (framesFrom (left - 1) s last)), downward-count (arrayWord x) s (sbase s + (last + 2)) (base - (last + 2)));
-        most = λ x. omega (arith, g .most x, part-length s (sbase s + (last + 2)) (base - (last + 2)), rw c at (h .most x), length-append (downward s (sbase s + (last + 2)) (base - (last + 2))) (cellsOfFrames (framesFrom (left - 1) s last)), downward-length s (sbase s + (last + 2)) (base - (last + 2))) }
+          long = k ∙ h .long;
+          fuel = omega (arith, h .fuel);
+          low = omega (arith, h .low);
+          room = λ x. omega (arith, g .most x, part-length s (sbase s + (last + 2)) (base - (last + 2)), h .room x);
+          sum = λ x i j. omega (arith, g .sum x (omega (arith, h .long)) j, rw c at (h .sum x i j), count-append (arrayWord x) (downward s (sbase s + (last + 2)) (base - (last + 2))) (cellsOfFrames (framesFrom (left - 1) s last)), downward-count (arrayWord x) s (sbase s + (last + 2)) (base - (last + 2)));
+          most = λ x. omega (arith, g .most x, part-length s (sbase s + (last + 2)) (base - (last + 2)), rw c at (h .most x), length-append (downward s (sbase s + (last + 2)) (base - (last + 2))) (cellsOfFrames (framesFrom (left - 1) s last)), downward-length s (sbase s + (last + 2)) (base - (last + 2)));
+        }
 
 -- All cells: the globals, the temporaries, the frames' cells.
 module _ (s : List ℕ) {stack base end top : ℕ} (es : stack ≡ sbase s) (eb : base ≡ lbase s) (ee : end ≡ blockptr s) (et : top ≡ ltop s)
@@ -190,7 +196,13 @@ module _ (s : List ℕ) {stack base end top : ℕ} (es : stack ≡ sbase s) (eb 
       → Tallied t₃ (owners s)
   unfolding words
   all-tallied k₁ k₂ k₃ g₁ g₂ g₃ x i j =
-      omega (arith, z .empty x, rw ee at (g₁ .sum x (omega arith) j), rw (es, eb, et) at (g₂ .sum x (omega arith) j), rw eb at (g₃ .sum x (omega arith) j),
+      omega (
+        arith,
+        z .empty x,
+        rw ee at (g₁ .sum x (omega arith) j),
+        rw (es, eb, et) at (g₂ .sum x (omega arith) j),
+        rw eb at (g₃ .sum x (omega arith) j),
         downward-count (arrayWord x) s (sbase s + lbase s + 2) (ltop s - (lbase s + 1)),
         count-append (arrayWord x) (downward s (sbase s + lbase s + 2) (ltop s - (lbase s + 1))) (cellsOfFrames (framesFrom (suc (lbase s)) s (lbase s)) ++ part s 8 (blockptr s - 8)),
-        count-append (arrayWord x) (cellsOfFrames (framesFrom (suc (lbase s)) s (lbase s))) (part s 8 (blockptr s - 8)))
+        count-append (arrayWord x) (cellsOfFrames (framesFrom (suc (lbase s)) s (lbase s))) (part s 8 (blockptr s - 8)),
+      )

@@ -1,7 +1,7 @@
 -- The variables of the frames from one down, and the loop that marks them.
 use Prim.Native.Nat.{ℕ, zero, suc, _+_, _-_, _<_, _≤_}
-use mathlib.Core.Path.{_≡_, refl, sym, _∙_}
-use mathlib.Core.Bool.{true, false, cond}
+use mathlib.Core.Path.{_≡_, refl, _∙_}
+use mathlib.Core.Bool.{cond}
 use mathlib.Core.List.{List, [], _++_}
 use native.Mathlib.Omega.{arith}
 use lib.ListN.{getD, length}
@@ -38,7 +38,7 @@ module _ (size : ℕ → ℕ) (s : List ℕ) (base : ℕ) where
         → count x (variablesFrom n size s base) ≡ count x (range start (base - start)) + count x (variablesFrom (n - 1) size s last)
     variables-on h =
         let z : variablesFrom n size s base ≡ range start (base - start) ++ variablesFrom (n - 1) size s last
-              = variables-step n pos ∙ rw (← es) (simp (lt-leb base (lastLbaseAt s base) (rw el at h), el)) in
+        = variables-step n pos ∙ rw (← es) (simp (lt-leb base (lastLbaseAt s base) (rw el at h), el)) in
         rw z (count-append x (range start (base - start)) (variablesFrom (n - 1) size s last))
 
 -- What is marked and what is left make up the whole.
@@ -64,7 +64,8 @@ module _ {size : ℕ → ℕ} {s : List ℕ} {from : ℕ} {before table : List �
 
     pub marked-on : last < base → length after ≡ length table → Marked size s from before after last (left - 1)
     marked-on l k = record {
-        long = k ∙ h .long;
-        low = omega (arith, k, h .low);
-        room = λ x. omega (arith, g .sum x, h .room x, range-once start (base - start) x);
-        sum = λ x. omega (arith, g .sum x, h .sum x, variables-on size s base es el left pos x l) }
+      long = k ∙ h .long;
+      low = omega (arith, k, h .low);
+      room = λ x. omega (arith, g .sum x, h .room x, range-once start (base - start) x);
+      sum = λ x. omega (arith, g .sum x, h .sum x, variables-on size s base es el left pos x l);
+    }

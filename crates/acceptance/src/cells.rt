@@ -29,7 +29,13 @@ use segment::word;
 use storage_tests::marks::mark_at;
 
 // Test 17, where `arrays` has a mark at each array and `marks` is clear. Where the test passes, no mark is left.
-pub fn cells_test(seg: &[u32], regular: &[u8], alternate: &[u8], arrays: &[u16], marks: &mut [u16]) -> bool
+pub fn cells_test(
+    seg: &[u32],
+    regular: &[u8],
+    alternate: &[u8],
+    arrays: &[u16],
+    marks: &mut [u16],
+) -> bool
     requires { ⌜ (state.blockptr (now seg) < 16384) × (state.lbase (now seg) < 16384) × (state.lbase (now seg) ≤ length (now marks)) × Tally (now arrays) (arrayStarts (now seg)) × Tally (now marks) [] ⌝ }
     ensures { λ r. ⌜ r ≡ cellsTest (now (seg .entry)) (now (regular .entry)) (now (alternate .entry)) ⌝ }
     ensures { λ r. ⌜ (r ≡ true → Tally (now (marks .exit)) []) ⌝ }
@@ -40,11 +46,27 @@ pub fn cells_test(seg: &[u32], regular: &[u8], alternate: &[u8], arrays: &[u16],
     }
     let base = lbase(seg).number();
     mark_variables(seg, regular, alternate, base, marks);
-    cells_from(seg, regular, alternate, arrays, base, ltop(seg).number() + 1, marks)
+    cells_from(
+        seg,
+        regular,
+        alternate,
+        arrays,
+        base,
+        ltop(seg).number() + 1,
+        marks,
+    )
 }
 
 // The cells of the frames from the one at `from` down, where the variables of all these frames are marked.
-fn cells_from(seg: &[u32], regular: &[u8], alternate: &[u8], arrays: &[u16], from: u32, upto: u32, marks: &mut [u16]) -> bool
+fn cells_from(
+    seg: &[u32],
+    regular: &[u8],
+    alternate: &[u8],
+    arrays: &[u16],
+    from: u32,
+    upto: u32,
+    marks: &mut [u16],
+) -> bool
     requires { ⌜ (from < 65536) × (upto ≤ 65536) × Tally (now marks) (variablesFrom (length (now seg)) (variables (now regular) (now alternate)) (now seg) from) ⌝ }
     ensures { λ r. ⌜ r ≡ cellsFrom (length (now (seg .entry))) (arguments (now (regular .entry)) (now (alternate .entry))) (variables (now (regular .entry)) (now (alternate .entry))) (now (seg .entry)) (inTable (now (arrays .entry))) from upto ⌝ }
     ensures { λ r. ⌜ (r ≡ true → Tally (now (marks .exit)) []) ⌝ }
@@ -70,7 +92,15 @@ fn cells_from(seg: &[u32], regular: &[u8], alternate: &[u8], arrays: &[u16], fro
 
 // The cells of one frame: its temporaries, which may name its own variables; then, with the marks of these taken away, its
 // arguments, and its locals.
-fn frame_cells(seg: &[u32], arrays: &[u16], arguments: u32, start: u32, base: u32, top: u32, marks: &mut [u16]) -> bool
+fn frame_cells(
+    seg: &[u32],
+    arrays: &[u16],
+    arguments: u32,
+    start: u32,
+    base: u32,
+    top: u32,
+    marks: &mut [u16],
+) -> bool
     requires { ⌜ (arguments < 65536) × (start ≤ base) × (base < 65536) × (top ≤ 65536) × ((x : ℕ) → count x (range start (base - start)) ≤ getD (now marks) x 0) ⌝ }
     ensures { λ r. ⌜ r ≡ frameCells (now (seg .entry)) (inTable (now (arrays .entry))) (inTable (now (marks .entry))) (lacking (now (marks .entry)) (range start (base - start))) arguments start base top ⌝ }
     ensures { λ r. ⌜ (r ≡ true → Gains (now (marks .exit)) (now (marks .entry)) (range start (base - start))) ⌝ }
@@ -83,7 +113,12 @@ fn frame_cells(seg: &[u32], arrays: &[u16], arguments: u32, start: u32, base: u3
     if !free_cells(seg, arrays, marks, stack + start, arguments) {
         return false;
     }
-    plain_cells(seg, arrays, stack + start + arguments, minus(base, start + arguments))
+    plain_cells(
+        seg,
+        arrays,
+        stack + start + arguments,
+        minus(base, start + arguments),
+    )
 }
 
 // The `count` cells from `from` on, of globals or locals.

@@ -82,7 +82,12 @@ fn tally_cells(seg: &[u32], table: &mut [u16])
     let stack = sbase(seg).number();
     let base = lbase(seg).number();
     tally_words(seg, 8, blockptr(seg).number() - 8, table);
-    tally_words(seg, stack + base + 2, ltop(seg).number() - (base + 1), table);
+    tally_words(
+        seg,
+        stack + base + 2,
+        ltop(seg).number() - (base + 1),
+        table,
+    );
     tally_frames(seg, stack, base, table);
 }
 

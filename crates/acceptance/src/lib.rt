@@ -123,7 +123,13 @@ fn judge_long(seg: &[u32], regular: &[u8], alternate: &[u8]) -> Judgement
 }
 
 // Tests 14 to 18, with clear tables.
-fn judge_storage(seg: &[u32], regular: &[u8], alternate: &[u8], arrays: &mut [u16], marks: &mut [u16]) -> Judgement
+fn judge_storage(
+    seg: &[u32],
+    regular: &[u8],
+    alternate: &[u8],
+    arrays: &mut [u16],
+    marks: &mut [u16],
+) -> Judgement
     requires { ⌜ (headTest (now seg) ≡ true) × (length (now seg) ≤ 16384) × Clear (now arrays) (length (now seg)) × Clear (now marks) (length (now seg)) ⌝ }
     ensures { λ r. ⌜ judgementNumber r ≡ dataRefusal (now (seg .entry)) (now (regular .entry)) (now (alternate .entry)) ⌝ }
 {
@@ -135,7 +141,14 @@ fn judge_storage(seg: &[u32], regular: &[u8], alternate: &[u8], arrays: &mut [u1
 
 // Tests 15 to 18, where the arrays are marked in one table and the `frees` free blocks in the other. Each test that passes
 // leaves the second table clear for the next one.
-fn judge_marked(seg: &[u32], regular: &[u8], alternate: &[u8], frees: usize, arrays: &[u16], marks: &mut [u16]) -> Judgement
+fn judge_marked(
+    seg: &[u32],
+    regular: &[u8],
+    alternate: &[u8],
+    frees: usize,
+    arrays: &[u16],
+    marks: &mut [u16],
+) -> Judgement
     requires { ⌜ (headTest (now seg) ≡ true) × (blocksTest (now seg) ≡ true) × (length (now seg) ≤ 16384) × (length (now seg) ≤ length (now marks)) × (frees ≡ length (freeStarts (now seg))) × Marked (now seg) (now arrays) (now marks) ⌝ }
     ensures { λ r. ⌜ judgementNumber r ≡ dataRefusal (now (seg .entry)) (now (regular .entry)) (now (alternate .entry)) ⌝ }
 {

@@ -1,5 +1,5 @@
 use borrow.Author.Needs.{needs}
-use mathlib.Core.Path.{_≡_, refl, sym, _∙_, ap}
+use mathlib.Core.Path.{sym, _∙_, ap}
 use native.Mathlib.Omega.{arith}
 use Rattle.procedure.specs.Refusal.{refusalNumber}
 use Rattle.acceptance.proofs.Table.{table-10-short, table-10-long, table-procedures, table-data}

@@ -1,7 +1,7 @@
 use borrow.Author.Needs.{needs}
-use mathlib.Core.Path.{_≡_, refl, sym, _∙_, ap}
+use mathlib.Core.Path.{sym, _∙_}
 use native.Mathlib.Omega.{arith}
-use borrow.Author.Tests.{lt-ltb, le-ltb, le-leb, lt-leb, eq-eqb, ne-eqb, not-true, not-false}
+use borrow.Author.Tests.{not-true, not-false}
 use Rattle.storage_tests.proofs.StateWords.{head-sound}
 use Rattle.acceptance.proofs.Table.{table-15, table-16, table-17, table-18, table-0, frames-top}
 use Rattle.acceptance.proofs.judge_marked.Statement.{statement}

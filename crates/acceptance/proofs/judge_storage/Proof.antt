@@ -1,7 +1,5 @@
 use borrow.Author.Needs.{needs}
-use mathlib.Core.Path.{_≡_, refl, sym, _∙_, ap}
 use native.Mathlib.Omega.{arith}
-use borrow.Author.Tests.{lt-ltb, le-ltb, le-leb, lt-leb, eq-eqb, ne-eqb, not-true, not-false}
 use Rattle.storage_tests.proofs.StateWords.{head-sound}
 use Rattle.acceptance.proofs.Table.{table-14, improper, proper}
 use Rattle.acceptance.proofs.judge_storage.Statement.{statement}

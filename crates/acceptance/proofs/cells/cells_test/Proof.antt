@@ -1,7 +1,7 @@
 use borrow.Author.Needs.{needs}
-use mathlib.Core.Path.{_≡_, refl, sym, _∙_, ap}
+use mathlib.Core.Path.{sym, _∙_}
 use native.Mathlib.Omega.{arith}
-use borrow.Author.Tests.{lt-ltb, le-ltb, le-leb, lt-leb, eq-eqb, ne-eqb, not-true, not-false}
+use borrow.Author.Tests.{not-true, not-false}
 use Rattle.acceptance.proofs.FrameCells.{never, globals-fail, globals-pass}
 use Rattle.acceptance.proofs.cells.cells_test.Statement.{statement}
 use Rattle.acceptance.proofs.cells.cells_test.Tie as tie

@@ -1,5 +1,5 @@
 use borrow.Author.Needs.{needs}
-use borrow.Author.Tests.{lt-ltb, le-ltb, le-leb, lt-leb, eq-eqb, ne-eqb, not-true, not-false}
+use borrow.Author.Tests.{eq-eqb, ne-eqb}
 use Rattle.acceptance.specs.Cells.{direct}
 use Rattle.acceptance.proofs.cells.is_direct.Statement.{statement}
 use Rattle.acceptance.proofs.cells.is_direct.Tie as tie

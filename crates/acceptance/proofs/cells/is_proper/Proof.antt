@@ -1,5 +1,4 @@
 use borrow.Author.Needs.{needs}
-use borrow.Author.Tests.{lt-ltb, le-ltb, le-leb, lt-leb, eq-eqb, ne-eqb, not-true, not-false}
 use Rattle.acceptance.specs.Cells.{freeCell}
 use Rattle.acceptance.proofs.cells.is_proper.Statement.{statement}
 use Rattle.acceptance.proofs.cells.is_proper.Tie as tie

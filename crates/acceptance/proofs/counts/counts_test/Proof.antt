@@ -1,5 +1,5 @@
 use borrow.Author.Needs.{needs}
-use mathlib.Core.Path.{_≡_, refl, sym, _∙_, ap}
+use mathlib.Core.Path.{_∙_}
 use native.Mathlib.Omega.{arith}
 use Rattle.acceptance.proofs.Compared.{counts-are}
 use Rattle.acceptance.proofs.counts.counts_test.Statement.{statement}

@@ -1,6 +1,5 @@
 use borrow.Author.Needs.{needs}
-use mathlib.Core.Path.{_≡_, refl, sym, _∙_, ap}
-use borrow.Author.Tests.{lt-ltb, le-ltb, le-leb, lt-leb, eq-eqb, ne-eqb, not-true, not-false}
+use borrow.Author.Tests.{le-leb, lt-leb}
 use Rattle.acceptance.specs.Counts.{countTest}
 use Rattle.acceptance.proofs.counts.is_counted.Statement.{statement}
 use Rattle.acceptance.proofs.counts.is_counted.Tie as tie

@@ -1,6 +1,4 @@
 use borrow.Author.Needs.{needs}
-use mathlib.Core.Path.{_≡_, refl, sym, _∙_, ap}
-use native.Mathlib.Omega.{arith}
 use Rattle.acceptance.proofs.Tallies.{tally-array, tally-other}
 use Rattle.acceptance.proofs.counts.tally.Statement.{statement}
 use Rattle.acceptance.proofs.counts.tally.Tie as tie

@@ -1,8 +1,6 @@
 use borrow.Author.Needs.{needs}
-use mathlib.Core.Path.{_≡_, refl, sym, _∙_, ap}
-use Prim.Native.Nat.{ℕ, _+_, _-_, _<_, _≤_, _^_, suc}
+use Prim.Native.Nat.{_-_, _<_}
 use native.Mathlib.Omega.{arith}
-use lib.ListN.{getD, length}
 use native.Mathlib.Numerals.{add-one}
 use Rattle.acceptance.proofs.Tallies.{Framed, framed-start, framed-bottom, framed-on}
 use Rattle.acceptance.proofs.counts.tally_frames.Statement.{statement}

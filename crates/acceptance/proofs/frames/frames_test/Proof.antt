@@ -1,5 +1,5 @@
 use borrow.Author.Needs.{needs}
-use mathlib.Core.Path.{_≡_, refl, sym, _∙_, ap}
+use mathlib.Core.Path.{sym, _∙_}
 use native.Mathlib.Omega.{arith}
 use Rattle.acceptance.proofs.Chain.{short, long}
 use Rattle.acceptance.proofs.frames.frames_test.Statement.{statement}

@@ -1,8 +1,7 @@
 use borrow.Author.Needs.{needs}
-use mathlib.Core.Path.{_≡_, refl, sym, _∙_, ap}
-use Prim.Native.Nat.{ℕ, _+_, _-_, _<_, _≤_, _^_, suc}
+use mathlib.Core.Path.{refl}
+use Prim.Native.Nat.{_-_, _<_, _^_}
 use native.Mathlib.Omega.{arith}
-use lib.ListN.{getD, length}
 use Rattle.acceptance.proofs.Ranges.{Marking, marking-done, marking-room, marking-on}
 use Rattle.acceptance.proofs.variables.mark.Statement.{statement}
 use Rattle.acceptance.proofs.variables.mark.Tie as tie

@@ -1,8 +1,7 @@
 use borrow.Author.Needs.{needs}
-use mathlib.Core.Path.{_≡_, refl, sym, _∙_, ap}
-use Prim.Native.Nat.{ℕ, _+_, _-_, _<_, _≤_, _^_, suc}
+use mathlib.Core.Path.{_∙_, ap}
+use Prim.Native.Nat.{ℕ, _-_, _<_}
 use native.Mathlib.Omega.{arith}
-use lib.ListN.{getD, length}
 use Rattle.acceptance.specs.Frames.{variables}
 use Rattle.acceptance.proofs.VariableMarks.{Marked, marked-start, marked-none, marked-bottom, marked-on}
 use Rattle.acceptance.proofs.variables.mark_variables.Statement.{statement}
