@@ -1,9 +1,9 @@
 -- How often a number stands in a list, and the addresses of the free blocks.
 use Prim.Native.Nat.{ℕ, _+_, _*_, _<_, _≤_}
-use mathlib.Core.Path.{_≡_, refl, sym, ap}
+use mathlib.Core.Path.{_≡_, refl, sym, _∙_, ap}
 use mathlib.Core.Bool.{Bool, true, false, cond}
 use mathlib.Core.List.{List, [], _∷_, _++_}
-use mathlib.Core.Logic.{_⊎_, inl, inr, ⊎-elim}
+use mathlib.Core.Logic.{_≢_, _⊎_, inl, inr, ⊎-elim}
 use native.Mathlib.Omega.{arith}
 use lib.ListN.{length, length-append}
 use lib.Dec.{leb, eqb}
@@ -34,6 +34,9 @@ hit-same x = simp (eq-eqb x x refl)
 pub hit-eq : (x y : ℕ) → x ≡ y → hit x y ≡ 1
 hit-eq x y e = rw e (hit-same y)
 
+pub hit-not : (x y : ℕ) → x ≢ y → hit x y ≡ 0
+hit-not x y n = ⊎-elim (λ e. absurd (n (e .0))) (λ e. e .1) (hit-cases x y)
+
 pub count-append : (x : ℕ) (l m : List ℕ) → count x (l ++ m) ≡ count x l + count x m
 count-append x [] m = omega arith
 count-append x (y ∷ l) m = omega (arith, count-append x l m)
@@ -61,12 +64,16 @@ frees-append a [] ys = refl
 frees-append a (free n ∷ xs) ys = ap (λ (l : List ℕ). a ∷ l) (frees-append (a + n) xs ys)
 frees-append a (array z k ∷ xs) ys = frees-append (a + (z + k)) xs ys
 
+pub frees-count : (x a : ℕ) (xs ys : List Block) → count x (frees a (xs ++ ys)) ≡ count x (frees a xs) + count x (frees (over a xs) ys)
+frees-count x a xs ys = ap (count x) (frees-append a xs ys) ∙ count-append x (frees a xs) (frees (over a xs) ys)
+
 pub over-append : (a : ℕ) (xs ys : List Block) → over a (xs ++ ys) ≡ over (over a xs) ys
 over-append a [] ys = refl
 over-append a (b ∷ xs) ys = over-append (a + span b) xs ys
 
 -- a free block of a walk lies within it
-pub frees-within : (s : List ℕ) (a : ℕ) (p : Bool) (bs : List Block) (x : ℕ) → Walk s a p bs → 0 < count x (frees a bs) → (a ≤ x) × (x + 3 ≤ over a bs)
+pub frees-within : (s : List ℕ) (a : ℕ) (p : Bool) (bs : List Block) (x : ℕ) → Walk s a p bs → 0 < count x (frees a bs)
+    → (a ≤ x) × (x + 3 ≤ over a bs)
 frees-within s a p [] x h k = absurd (omega arith)
 frees-within s a p (free n ∷ bs) x h k =
     ⊎-elim (λ e. omega (arith, over-le (a + n) bs, h .0 .least))
@@ -90,7 +97,8 @@ pub frees-once : (s : List ℕ) (a : ℕ) (p : Bool) (bs : List Block) (x : ℕ)
 frees-once s a p [] x h = omega arith
 frees-once s a p (free n ∷ bs) x h =
     ⊎-elim
-    (λ e. ⊎-elim (λ l. omega (arith, e)) (λ l. absurd (omega (arith, e, h .0 .least, frees-within s (a + n) true bs x (h .1) l))) (order (count x (frees (a + n) bs)) 0))
+    (λ e. ⊎-elim (λ l. omega (arith, e)) (λ l. absurd (omega (arith, e, h .0 .least, frees-within s (a + n) true bs x (h .1) l)))
+    (order (count x (frees (a + n) bs)) 0))
     (λ e. omega (arith, e, frees-once s (a + n) true bs x (h .1)))
     (hit-cases x a)
 frees-once s a p (array z k ∷ bs) x h = frees-once s (a + (z + k)) false bs x (h .1)

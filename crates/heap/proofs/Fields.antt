@@ -30,7 +30,8 @@ module _ (s : List ℕ) (a v : ℕ) where
   unfolding setNext
   setNext-last x =
       ⊎-elim (λ (l : length s ≤ a + 1). rw set-out)
-      (λ (l : a + 1 < length s). ⊎-elim (λ (e : (x ≡ a) × (hit x a ≡ 1)). rw (e .0, getD-set-same) (omega arith)) (λ (e : (x ≡ a → ⊥) × (hit x a ≡ 0)). let d : x + 1 ≢ a + 1 = λ q. e .0 (omega arith) in rw getD-set-other) (hit-cases x a))
+      (λ (l : a + 1 < length s). ⊎-elim (λ (e : (x ≡ a) × (hit x a ≡ 1)). rw (e .0, getD-set-same) (omega arith))
+      (λ (e : (x ≡ a → ⊥) × (hit x a ≡ 0)). let d : x + 1 ≢ a + 1 = λ q. e .0 (omega arith) in rw getD-set-other) (hit-cases x a))
       (order (length s) (a + 1))
 
   pub setLast-length : length (setLast s a v) ≡ length s
@@ -49,7 +50,8 @@ module _ (s : List ℕ) (a v : ℕ) where
   unfolding setLast
   setLast-next x k =
       ⊎-elim (λ (l : length s ≤ a + 1). rw set-out)
-      (λ (l : a + 1 < length s). ⊎-elim (λ (e : (x ≡ a) × (hit x a ≡ 1)). rw (e .0, getD-set-same) (omega arith)) (λ (e : (x ≡ a → ⊥) × (hit x a ≡ 0)). let d : x + 1 ≢ a + 1 = λ q. e .0 (omega arith) in rw getD-set-other) (hit-cases x a))
+      (λ (l : a + 1 < length s). ⊎-elim (λ (e : (x ≡ a) × (hit x a ≡ 1)). rw (e .0, getD-set-same) (omega arith))
+      (λ (e : (x ≡ a → ⊥) × (hit x a ≡ 0)). let d : x + 1 ≢ a + 1 = λ q. e .0 (omega arith) in rw getD-set-other) (hit-cases x a))
       (order (length s) (a + 1))
 
 pub setNext-next-other : (s : List ℕ) (a v x : ℕ) → x ≢ a → nextAt (setNext s a v) x ≡ nextAt s x
@@ -111,16 +113,21 @@ module _ (s : List ℕ) (p n : ℕ) where
       simp (getD-set-same, lt-length-set)
 
 pub moveRover-length : (s : List ℕ) (q p : ℕ) → length (moveRover s q p) ≡ length s
-moveRover-length s q p = ⊎-elim (λ e. ap length (moveRover-yes s q p (e .0)) ∙ setRover-length s p) (λ e. ap length (moveRover-no s q p (e .0))) (hit-cases (rover s) q)
+moveRover-length s q p =
+    ⊎-elim (λ e. ap length (moveRover-yes s q p (e .0)) ∙ setRover-length s p) (λ e. ap length (moveRover-no s q p (e .0))) (hit-cases (rover s) q)
 
 pub moveRover-other : (s : List ℕ) (q p i : ℕ) → i ≢ 1 → getD (moveRover s q p) i 0 ≡ getD s i 0
 moveRover-other s q p i h =
-    ⊎-elim (λ e. ap (λ (l : List ℕ). getD l i 0) (moveRover-yes s q p (e .0)) ∙ setRover-other s p i h) (λ e. ap (λ (l : List ℕ). getD l i 0) (moveRover-no s q p (e .0))) (hit-cases (rover s) q)
+    ⊎-elim (λ e. ap (λ (l : List ℕ). getD l i 0) (moveRover-yes s q p (e .0)) ∙ setRover-other s p i h)
+    (λ e. ap (λ (l : List ℕ). getD l i 0) (moveRover-no s q p (e .0))) (hit-cases (rover s) q)
 
 pub moveRover-base : (s : List ℕ) (q p : ℕ) → 1 < length s → p < 2 ^ 16 → getD (moveRover s q p) 1 0 / 2 ^ 16 ≡ getD s 1 0 / 2 ^ 16
 moveRover-base s q p l k =
-    ⊎-elim (λ e. ap (λ (u : List ℕ). getD u 1 0 / 2 ^ 16) (moveRover-yes s q p (e .0)) ∙ setRover-base s p l k) (λ e. ap (λ (u : List ℕ). getD u 1 0 / 2 ^ 16) (moveRover-no s q p (e .0))) (hit-cases (rover s) q)
+    ⊎-elim (λ e. ap (λ (u : List ℕ). getD u 1 0 / 2 ^ 16) (moveRover-yes s q p (e .0)) ∙ setRover-base s p l k)
+    (λ e. ap (λ (u : List ℕ). getD u 1 0 / 2 ^ 16) (moveRover-no s q p (e .0))) (hit-cases (rover s) q)
 
-pub moveRover-rover : (s : List ℕ) (q p : ℕ) → 1 < length s → p < 2 ^ 16 → (rover (moveRover s q p) ≡ p) ⊎ ((rover s ≢ q) × (rover (moveRover s q p) ≡ rover s))
+pub moveRover-rover : (s : List ℕ) (q p : ℕ) → 1 < length s → p < 2 ^ 16
+    → (rover (moveRover s q p) ≡ p) ⊎ ((rover s ≢ q) × (rover (moveRover s q p) ≡ rover s))
 moveRover-rover s q p l k =
-    ⊎-elim (λ e. inl (ap rover (moveRover-yes s q p (e .0)) ∙ setRover-rover s p l k)) (λ e. inr (e .0, ap rover (moveRover-no s q p (e .0)))) (hit-cases (rover s) q)
+    ⊎-elim (λ e. inl (ap rover (moveRover-yes s q p (e .0)) ∙ setRover-rover s p l k)) (λ e. inr (e .0, ap rover (moveRover-no s q p (e .0))))
+    (hit-cases (rover s) q)

@@ -10,6 +10,7 @@ use Rattle.storage.specs.Owned.{ArrayIn}
 use Rattle.heap.specs.Words.{FreeWord}
 use Rattle.heap.specs.Release.{Freed, joinsBoth, joinsBefore, joinsAfter, joinsNone, beyond}
 use Rattle.heap.proofs.Counts.{order}
+use Rattle.heap.proofs.Inner.{free-more}
 use Rattle.heap.proofs.Arrays.{array-within}
 
 pub freed-further : (x z k a : ℕ) (xs bs cs : List Block) → Freed x z k (over a xs) bs cs → Freed x z k a (xs ++ bs) (xs ++ cs)
@@ -37,7 +38,8 @@ freed-words x z k a _ _ (joinsBoth {m = m} {n = n} {blocks = bs} e) i = (to, fro
 
     to : FreeWord a (free (m + (z + k) + n) ∷ bs) i → FreeWord a (free m ∷ array z k ∷ free n ∷ bs) i ⊎ ((x ≤ i) × (i < x + (z + k)))
     to (inl h) =
-        ⊎-elim (λ u. inl (inl (omega (arith, u, h)))) (⊎-elim (λ u. inr (omega (arith, u, e))) (λ u. inl (inr (inl (omega (arith, u, h)))))) (zone i (a + m) (z + k))
+        ⊎-elim (λ u. inl (inl (omega (arith, u, h)))) (⊎-elim (λ u. inr (omega (arith, u, e))) (λ u. inl (inr (inl (omega (arith, u, h))))))
+        (zone i (a + m) (z + k))
     to (inr h) = inl (inr (inr (rw q h)))
 
     from : FreeWord a (free m ∷ array z k ∷ free n ∷ bs) i ⊎ ((x ≤ i) × (i < x + (z + k))) → FreeWord a (free (m + (z + k) + n) ∷ bs) i
@@ -52,7 +54,8 @@ freed-words x z k a _ _ (joinsBefore {m = m} {blocks = bs} e) i = (to, from)
 
     to : FreeWord a (free (m + (z + k)) ∷ bs) i → FreeWord a (free m ∷ array z k ∷ bs) i ⊎ ((x ≤ i) × (i < x + (z + k)))
     to (inl h) =
-        ⊎-elim (λ u. inl (inl (omega (arith, u, h)))) (⊎-elim (λ u. inr (omega (arith, u, e))) (λ u. absurd (omega (arith, u, h)))) (zone i (a + m) (z + k))
+        ⊎-elim (λ u. inl (inl (omega (arith, u, h)))) (⊎-elim (λ u. inr (omega (arith, u, e))) (λ u. absurd (omega (arith, u, h))))
+        (zone i (a + m) (z + k))
     to (inr h) = inl (inr (rw q h))
 
     from : FreeWord a (free m ∷ array z k ∷ bs) i ⊎ ((x ≤ i) × (i < x + (z + k))) → FreeWord a (free (m + (z + k)) ∷ bs) i
@@ -83,16 +86,7 @@ freed-words x z k a _ _ (joinsNone {blocks = bs} e) i = (to, from)
     from (inl h) = inr h
     from (inr h) = inl (omega (arith, h, e))
 freed-words x z k a _ _ (beyond {b = array n j} h) i = freed-words x z k (a + (n + j)) _ _ h i
-freed-words x z k a _ _ (beyond {b = free n} {old = bs} {blocks = cs} h) i = let r = freed-words x z k (a + n) bs cs h i in (to (r .0), from (r .1))
-  where
-    to : (FreeWord (a + n) cs i → FreeWord (a + n) bs i ⊎ ((x ≤ i) × (i < x + (z + k)))) → FreeWord a (free n ∷ cs) i → FreeWord a (free n ∷ bs) i ⊎ ((x ≤ i) × (i < x + (z + k)))
-    to r (inl f) = inl (inl f)
-    to r (inr f) = ⊎-elim (λ u. inl (inr u)) (λ u. inr u) (r f)
-
-    from : (FreeWord (a + n) bs i ⊎ ((x ≤ i) × (i < x + (z + k))) → FreeWord (a + n) cs i) → FreeWord a (free n ∷ bs) i ⊎ ((x ≤ i) × (i < x + (z + k))) → FreeWord a (free n ∷ cs) i
-    from r (inl (inl f)) = inl f
-    from r (inl (inr f)) = inr (r (inl f))
-    from r (inr f) = inr (r (inr f))
+freed-words x z k a _ _ (beyond {b = free n} {old = bs} {blocks = cs} h) i = free-more a n bs cs i _ (freed-words x z k (a + n) bs cs h i)
 
 -- the arrays are those that were, but for the one at `x`
 pub freed-rest : (x z k a : ℕ) (bs cs : List Block) → Freed x z k a bs cs → (y v : ℕ) → ArrayIn a bs y v → y ≢ x → ArrayIn a cs y v

@@ -27,10 +27,12 @@ walk-mark s s′ a (array z m ∷ bs) h n e k w = (
 )
 
 -- a heap from its parts, with the ring from any member
-pub heap-make : {s : List ℕ} {bs : List Block} {t : List ℕ} → Heap s bs t → (s′ : List ℕ) (bs′ : List Block) → length s′ ≡ length s → getD s′ 0 0 ≡ getD s 0 0 → getD s′ 4 0 ≡ getD s 4 0
+pub heap-make : {s : List ℕ} {bs : List Block} {t : List ℕ} → Heap s bs t → (s′ : List ℕ) (bs′ : List Block) → length s′ ≡ length s
+    → getD s′ 0 0 ≡ getD s 0 0 → getD s′ 4 0 ≡ getD s 4 0
     → getD s′ (sbase s - 1) 0 ≡ getD s (sbase s - 1) 0
     → Walk s′ (blockptr s) false bs′ → over (blockptr s) bs′ ≡ over (blockptr s) bs → (a : ℕ) (u : List ℕ) → Links s′ a u a
-    → ((x : ℕ) → count x (a ∷ u) ≡ count x (over (blockptr s) bs ∷ frees (blockptr s) bs′)) → 0 < count (rover s′) (over (blockptr s) bs ∷ frees (blockptr s) bs′)
+    → ((x : ℕ) → count x (a ∷ u) ≡ count x (over (blockptr s) bs ∷ frees (blockptr s) bs′)) → 0 < count (rover s′)
+    (over (blockptr s) bs ∷ frees (blockptr s) bs′)
     → (t′ : List ℕ) × Heap s′ bs′ t′
 heap-make {s} {bs} g s′ bs′ len z0 z4 ze walk ov a u links c m =
     let r = ring-at s′ a u (rover s′) links (omega (arith, c (rover s′), m)) in (

@@ -54,7 +54,8 @@ module _ (s : List ℕ) (a w l n : ℕ) where
         let d : x + 1 ≢ a + 1 = λ q. k (omega arith) in
         setLast-last-other _ n a x h ∙ setNext-last _ l a x ∙ rw getD-set-other
 
-  pub hook-walk : (b : ℕ) (p : Bool) (bs : List Block) → Walk s b p bs → Inner b bs (a + 1) → 0 < count l (over b bs ∷ frees b bs) → 0 < count n (over b bs ∷ frees b bs) → Walk (hook s a w l n) b p bs
+  pub hook-walk : (b : ℕ) (p : Bool) (bs : List Block) → Walk s b p bs → Inner b bs (a + 1) → 0 < count l (over b bs ∷ frees b bs)
+      → 0 < count n (over b bs ∷ frees b bs) → Walk (hook s a w l n) b p bs
   unfolding hook
   hook-walk b p bs h i cl cn =
       let s1 = set s (a + 1) w in
@@ -64,7 +65,8 @@ module _ (s : List ℕ) (a w l n : ℕ) where
       cn
 
 -- the ring with `a` after `d`
-pub insert-ring : (s : List ℕ) (a w d n : ℕ) (u : List ℕ) → Links s d u d → ((x : ℕ) → count x (d ∷ u) ≤ 1) → ((x : ℕ) → 0 < count x (d ∷ u) → (x + 1 < length s) × (a ≢ x))
+pub insert-ring : (s : List ℕ) (a w d n : ℕ) (u : List ℕ) → Links s d u d → ((x : ℕ) → count x (d ∷ u) ≤ 1)
+    → ((x : ℕ) → 0 < count x (d ∷ u) → (x + 1 < length s) × (a ≢ x))
     → a < 2 ^ 16 → a + 1 < length s → nextAt s d ≡ n → w / 2 ^ 16 ≡ n → w % 2 ^ 16 ≡ d → Links (hook s a w d n) d (a ∷ u) d
 insert-ring s a w d n [] h one lim a16 la e wn wl =
     let q = lim d (omega (arith, hit-same d)) in
@@ -72,7 +74,10 @@ insert-ring s a w d n [] h one lim a16 la e wn wl =
     let an : a ≢ n = omega (arith, q .1) in
     let ln : n + 1 < length s = omega (arith, q .0) in (
       record { next = hook-next s a w d n a16 (q .1) an la (q .0) ln; last = hook-last-a s a w d n a16 (q .1) an la (q .0) ln ∙ wl },
-      record { next = hook-next-a s a w d n a16 (q .1) an la (q .0) ln ∙ wn ∙ nd; last = ap (lastAt (hook s a w d n)) (sym nd) ∙ hook-last s a w d n a16 (q .1) an la (q .0) ln },
+      record {
+        next = hook-next-a s a w d n a16 (q .1) an la (q .0) ln ∙ wn ∙ nd;
+        last = ap (lastAt (hook s a w d n)) (sym nd) ∙ hook-last s a w d n a16 (q .1) an la (q .0) ln;
+      },
     )
 insert-ring s a w d n (b ∷ vs) h one lim a16 la e wn wl =
     let q = lim d (omega (arith, hit-same d)) in
@@ -80,16 +85,23 @@ insert-ring s a w d n (b ∷ vs) h one lim a16 la e wn wl =
     let r = lim n (omega (arith, hit-eq n b nb)) in (
       record { next = hook-next s a w d n a16 (q .1) (r .1) la (q .0) (r .0); last = hook-last-a s a w d n a16 (q .1) (r .1) la (q .0) (r .0) ∙ wl },
       (
-        record { next = hook-next-a s a w d n a16 (q .1) (r .1) la (q .0) (r .0) ∙ wn ∙ nb; last = ap (lastAt (hook s a w d n)) (sym nb) ∙ hook-last s a w d n a16 (q .1) (r .1) la (q .0) (r .0) },
+        record {
+          next = hook-next-a s a w d n a16 (q .1) (r .1) la (q .0) (r .0) ∙ wn ∙ nb;
+          last = ap (lastAt (hook s a w d n)) (sym nb) ∙ hook-last s a w d n a16 (q .1) (r .1) la (q .0) (r .0);
+        },
         links-fields s (hook s a w d n) b vs d (h .1)
-            (λ x k. hook-next-other s a w d n a16 (q .1) (r .1) la (q .0) (r .0) x (λ z. omega (arith, k, one x, hit-eq x d z)) (λ z. lim x (omega (arith, k)) .1 (sym z)))
-            (λ x k. hook-last-other s a w d n a16 (q .1) (r .1) la (q .0) (r .0) x (λ z. omega (arith, k, one x, hit-eq x b (z ∙ nb))) (λ z. lim x (omega (arith, k)) .1 (sym z)))
-            (hook-last-other s a w d n a16 (q .1) (r .1) la (q .0) (r .0) d (λ z. omega (arith, one d, hit-same d, hit-eq d b (z ∙ nb))) (λ z. q .1 (sym z))),
+            (λ x k. hook-next-other s a w d n a16 (q .1) (r .1) la (q .0) (r .0) x (λ z. omega (arith, k, one x, hit-eq x d z))
+            (λ z. lim x (omega (arith, k)) .1 (sym z)))
+            (λ x k. hook-last-other s a w d n a16 (q .1) (r .1) la (q .0) (r .0) x (λ z. omega (arith, k, one x, hit-eq x b (z ∙ nb)))
+            (λ z. lim x (omega (arith, k)) .1 (sym z)))
+            (hook-last-other s a w d n a16 (q .1) (r .1) la (q .0) (r .0) d (λ z. omega (arith, one d, hit-same d, hit-eq d b (z ∙ nb)))
+            (λ z. q .1 (sym z))),
       ),
     )
 
 -- the ring with `a` in the place of `q`
-pub relink-ring : (s : List ℕ) (a w q b l : ℕ) (vs : List ℕ) → Links s q (b ∷ vs) q → ((x : ℕ) → count x (b ∷ vs) ≤ 1) → ((x : ℕ) → 0 < count x (b ∷ vs) → (x + 1 < length s) × (a ≢ x))
+pub relink-ring : (s : List ℕ) (a w q b l : ℕ) (vs : List ℕ) → Links s q (b ∷ vs) q → ((x : ℕ) → count x (b ∷ vs) ≤ 1)
+    → ((x : ℕ) → 0 < count x (b ∷ vs) → (x + 1 < length s) × (a ≢ x))
     → a < 2 ^ 16 → a + 1 < length s → w / 2 ^ 16 ≡ b → w % 2 ^ 16 ≡ l → lastAt s q ≡ l → Links (hook s a w l b) a (b ∷ vs) a
 relink-ring s a w q b l vs h one lim a16 la wb wl e = (first, ⊎-elim none some (snoc-cases vs))
   where
@@ -100,10 +112,18 @@ relink-ring s a w q b l vs h one lim a16 la wb wl e = (first, ⊎-elim none some
     rl = lim l (omega (arith, links-last s b vs q (h .1), hit-eq l (lastAt s q) (sym e), ap (λ (y : ℕ). count y (b ∷ vs)) e))
 
     first : Link (hook s a w l b) a b
-    first = record { next = hook-next-a s a w l b a16 (rl .1) (rb .1) la (rl .0) (rb .0) ∙ wb; last = hook-last s a w l b a16 (rl .1) (rb .1) la (rl .0) (rb .0) }
+    first =
+        record {
+          next = hook-next-a s a w l b a16 (rl .1) (rb .1) la (rl .0) (rb .0) ∙ wb;
+          last = hook-last s a w l b a16 (rl .1) (rb .1) la (rl .0) (rb .0);
+        }
 
     final : Link (hook s a w l b) l a
-    final = record { next = hook-next s a w l b a16 (rl .1) (rb .1) la (rl .0) (rb .0); last = hook-last-a s a w l b a16 (rl .1) (rb .1) la (rl .0) (rb .0) ∙ wl }
+    final =
+        record {
+          next = hook-next s a w l b a16 (rl .1) (rb .1) la (rl .0) (rb .0);
+          last = hook-last-a s a w l b a16 (rl .1) (rb .1) la (rl .0) (rb .0) ∙ wl;
+        }
 
     none : vs ≡ [] → Links (hook s a w l b) b vs a
     none z =
@@ -118,9 +138,12 @@ relink-ring s a w q b l vs h one lim a16 la wb wl e = (first, ⊎-elim none some
         let ly : l ≡ y = sym e ∙ m .1 .last in
         links-join (hook s a w l b) b us y [] a
         (links-fields s (hook s a w l b) b us y (m .0)
-        (λ x v. hook-next-other s a w l b a16 (rl .1) (rb .1) la (rl .0) (rb .0) x (λ t. omega (arith, v, one x, c x, hit-eq x y (t ∙ ly))) (λ t. lim x (omega (arith, v, c x)) .1 (sym t)))
-        (λ x v. hook-last-other s a w l b a16 (rl .1) (rb .1) la (rl .0) (rb .0) x (λ t. omega (arith, v, one x, c x, hit-eq x b t)) (λ t. lim x (omega (arith, v, c x)) .1 (sym t)))
-        (hook-last-other s a w l b a16 (rl .1) (rb .1) la (rl .0) (rb .0) y (λ t. omega (arith, one y, c y, hit-same y, hit-eq y b t)) (λ t. lim y (omega (arith, c y, hit-same y)) .1 (sym t))))
+        (λ x v. hook-next-other s a w l b a16 (rl .1) (rb .1) la (rl .0) (rb .0) x (λ t. omega (arith, v, one x, c x, hit-eq x y (t ∙ ly)))
+        (λ t. lim x (omega (arith, v, c x)) .1 (sym t)))
+        (λ x v. hook-last-other s a w l b a16 (rl .1) (rb .1) la (rl .0) (rb .0) x (λ t. omega (arith, v, one x, c x, hit-eq x b t))
+        (λ t. lim x (omega (arith, v, c x)) .1 (sym t)))
+        (hook-last-other s a w l b a16 (rl .1) (rb .1) la (rl .0) (rb .0) y (λ t. omega (arith, one y, c y, hit-same y, hit-eq y b t))
+        (λ t. lim y (omega (arith, c y, hit-same y)) .1 (sym t))))
         (record { next = ap (nextAt (hook s a w l b)) (sym ly) ∙ final .next; last = final .last ∙ ly })
 
     some : (us : List ℕ) × (y : ℕ) × (vs ≡ us ++ y ∷ []) → Links (hook s a w l b) b vs a

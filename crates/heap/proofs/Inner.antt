@@ -3,11 +3,11 @@ use Prim.Native.Nat.{ℕ, _+_, _-_, _<_, _≤_}
 use mathlib.Core.Path.{_≡_, _∙_}
 use mathlib.Core.Bool.{Bool, true, false}
 use mathlib.Core.List.{List, [], _∷_, _++_}
-use mathlib.Core.Logic.{_≢_, _⊎_, inl, inr, ⊎-elim}
+use mathlib.Core.Logic.{_↔_, _≢_, _⊎_, inl, inr, ⊎-elim}
 use native.Mathlib.Omega.{arith}
 use lib.ListN.{getD}
 use Rattle.storage.specs.Heap.{Block, Walk, over, frees, count, free, array}
-use Rattle.heap.specs.Words.{Inner}
+use Rattle.heap.specs.Words.{FreeWord, Inner}
 use Rattle.heap.proofs.Walks.{over-le, block-same, walk-same}
 use Rattle.heap.proofs.Counts.{hit-cases, frees-within}
 
@@ -55,14 +55,17 @@ inner-cases a (free m ∷ xs) n ys i h = inner-cases (a + m) xs n ys i h
 inner-cases a (array z k ∷ xs) n ys i (inl h) = inl (omega (arith, h, over-le (a + (z + k)) xs))
 inner-cases a (array z k ∷ xs) n ys i (inr h) = inner-cases (a + (z + k)) xs n ys i h
 
-pub inner-apart : (s : List ℕ) (a : ℕ) (p : Bool) (bs : List Block) (x i : ℕ) → Walk s a p bs → Inner a bs i → 0 < count x (over a bs ∷ frees a bs) → i ≢ x + 1
+pub inner-apart : (s : List ℕ) (a : ℕ) (p : Bool) (bs : List Block) (x i : ℕ) → Walk s a p bs → Inner a bs i → 0 < count x (over a bs ∷ frees a bs)
+    → i ≢ x + 1
 inner-apart s a p (free n ∷ bs) x i w h k =
-    ⊎-elim (λ e. omega (arith, e, w .0 .least, inner-above (a + n) bs i h)) (λ e. inner-apart s (a + n) true bs x i (w .1) h (omega (arith, e, k))) (hit-cases x a)
+    ⊎-elim (λ e. omega (arith, e, w .0 .least, inner-above (a + n) bs i h)) (λ e. inner-apart s (a + n) true bs x i (w .1) h (omega (arith, e, k)))
+    (hit-cases x a)
 inner-apart s a p (array z m ∷ bs) x i w (inl h) k = omega (arith, h, reach s (a + (z + m)) false bs x (w .1) k)
 inner-apart s a p (array z m ∷ bs) x i w (inr h) k = inner-apart s (a + (z + m)) false bs x i (w .1) h k
 
 -- the blocks behind some others replaced
-pub inner-swap : (a : ℕ) (xs ys vs : List Block) (i : ℕ) → (Inner (over a xs) ys i → Inner (over a xs) vs i) → Inner a (xs ++ ys) i → Inner a (xs ++ vs) i
+pub inner-swap : (a : ℕ) (xs ys vs : List Block) (i : ℕ) → (Inner (over a xs) ys i → Inner (over a xs) vs i) → Inner a (xs ++ ys) i
+    → Inner a (xs ++ vs) i
 inner-swap a [] ys vs i f h = f h
 inner-swap a (free n ∷ xs) ys vs i f h = inner-swap (a + n) xs ys vs i f h
 inner-swap a (array z k ∷ xs) ys vs i f (inl h) = inl h
@@ -74,10 +77,29 @@ inner-here a (free n ∷ xs) z k ys i l u = inner-here (a + n) xs z k ys i l u
 inner-here a (array y m ∷ xs) z k ys i l u = inr (inner-here (a + (y + m)) xs z k ys i l u)
 
 -- a store to a word of an array but its first leaves the walk
-pub walk-inner : (s s′ : List ℕ) (j : ℕ) → ((i : ℕ) → i ≢ j → getD s′ i 0 ≡ getD s i 0) → (a : ℕ) (p : Bool) (bs : List Block) → Walk s a p bs → Inner a bs j → Walk s′ a p bs
+pub walk-inner : (s s′ : List ℕ) (j : ℕ) → ((i : ℕ) → i ≢ j → getD s′ i 0 ≡ getD s i 0) → (a : ℕ) (p : Bool) (bs : List Block) → Walk s a p bs
+    → Inner a bs j → Walk s′ a p bs
 walk-inner s s′ j e a p (free n ∷ bs) h k =
     (block-same s s′ a p (free n) (h .0) (λ i l u. e i (omega (arith, inner-above (a + n) bs j k))), walk-inner s s′ j e (a + n) true bs (h .1) k)
-walk-inner s s′ j e a p (array z m ∷ bs) h (inl k) =
-    (record { least = h .0 .least; small = h .0 .small; first = e a (omega arith) ∙ h .0 .first }, walk-same s s′ (a + (z + m)) false bs (h .1) (λ i l u. e i (omega arith)))
-walk-inner s s′ j e a p (array z m ∷ bs) h (inr k) =
-    (block-same s s′ a p (array z m) (h .0) (λ i l u. e i (omega (arith, inner-above (a + (z + m)) bs j k))), walk-inner s s′ j e (a + (z + m)) false bs (h .1) k)
+walk-inner s s′ j e a p (array z m ∷ bs) h (inl k) = (
+  record { least = h .0 .least; small = h .0 .small; first = e a (omega arith) ∙ h .0 .first },
+  walk-same s s′ (a + (z + m)) false bs (h .1) (λ i l u. e i (omega arith)),
+)
+walk-inner s s′ j e a p (array z m ∷ bs) h (inr k) = (
+  block-same s s′ a p (array z m) (h .0) (λ i l u. e i (omega (arith, inner-above (a + (z + m)) bs j k))),
+  walk-inner s s′ j e (a + (z + m)) false bs (h .1) k,
+)
+
+-- free words behind one more free block
+pub free-more : (a n : ℕ) (bs cs : List Block) (i : ℕ) (P : Type 0) → FreeWord (a + n) cs i ↔ (FreeWord (a + n) bs i ⊎ P)
+    → FreeWord a (free n ∷ cs) i ↔ (FreeWord a (free n ∷ bs) i ⊎ P)
+free-more a n bs cs i P r = (to, from)
+  where
+    to : FreeWord a (free n ∷ cs) i → FreeWord a (free n ∷ bs) i ⊎ P
+    to (inl h) = inl (inl h)
+    to (inr h) = ⊎-elim (λ u. inl (inr u)) (λ u. inr u) (r .0 h)
+
+    from : FreeWord a (free n ∷ bs) i ⊎ P → FreeWord a (free n ∷ cs) i
+    from (inl (inl h)) = inl h
+    from (inl (inr h)) = inr (r .1 (inl h))
+    from (inr h) = inr (r .1 (inr h))

@@ -13,7 +13,7 @@ use Rattle.storage.specs.Release.{joinAfter}
 use Rattle.storage.specs.Heap.{Block, Walk, over, frees, hit, count, Links, Heap, free, array}
 use Rattle.heap.specs.Words.{Inner, Quiet, Leaves}
 use Rattle.heap.proofs.Walks.{over-le, walk-same, walk-replace, walk-at}
-use Rattle.heap.proofs.Counts.{hit-cases, hit-same, hit-eq, count-append, frees-append, over-append, frees-within, frees-either}
+use Rattle.heap.proofs.Counts.{hit-cases, hit-same, hit-eq, hit-not, frees-count, over-append, frees-within, frees-either}
 use Rattle.heap.proofs.Ring.{links-same, links-last}
 use Rattle.heap.proofs.Search.{members-once, free-ring}
 use Rattle.heap.proofs.Fields.{markFree-length, markFree-other, markFree-first, markFree-end, moveRover-length, moveRover-other, moveRover-base, moveRover-rover}
@@ -65,7 +65,7 @@ module _ {s : List ℕ} {t : List ℕ} (xs : List Block) (z k m : ℕ) (ys : Lis
   )
 
   q-in : 0 < count q (frees (blockptr s) old)
-  q-in = omega (arith, hit-same q, ap (count q) (frees-append (blockptr s) xs (array z k ∷ free m ∷ ys)), count-append q (frees (blockptr s) xs) (frees a (array z k ∷ free m ∷ ys)))
+  q-in = omega (arith, hit-same q, frees-count q (blockptr s) xs (array z k ∷ free m ∷ ys))
 
   -- a member of the ring but `q` stands clear of both blocks
   far : (x : ℕ) → 0 < count x ring → x ≢ q
@@ -74,7 +74,12 @@ module _ {s : List ℕ} {t : List ℕ} (xs : List Block) (z k m : ℕ) (ys : Lis
       ⊎-elim (λ e. omega (arith, place, e))
       (λ e. ⊎-elim (λ l. omega (arith, place, l))
       (λ l. ⊎-elim (λ o. absurd (n (o .0)))
-      (λ o. omega (arith, place, over-append (blockptr s) xs (array z k ∷ free m ∷ ys), frees-within s (q + m) true ys x (at .1 .1 .1) (omega (arith, l, o))))
+      (λ o. omega (
+        arith,
+        place,
+        over-append (blockptr s) xs (array z k ∷ free m ∷ ys),
+        frees-within s (q + m) true ys x (at .1 .1 .1) (omega (arith, l, o)),
+      ))
       (hit-cases x q))
       (frees-either s (blockptr s) false xs (array z k ∷ free m ∷ ys) x (g .walk) (omega (arith, c, e))))
       (hit-cases x end)
@@ -138,16 +143,15 @@ module _ {s : List ℕ} {t : List ℕ} (xs : List Block) (z k m : ℕ) (ys : Lis
         let e : a + (z + k + m) ≡ q + m = omega arith in
         omega (
           arith,
-          ap (count x) (frees-append (blockptr s) xs (free (z + k + m) ∷ ys)),
-          count-append x (frees (blockptr s) xs) (frees a (free (z + k + m) ∷ ys)),
+          frees-count x (blockptr s) xs (free (z + k + m) ∷ ys),
           ap (λ (y : ℕ). count x (frees y ys)) e,
-          ap (count x) (frees-append (blockptr s) xs (array z k ∷ free m ∷ ys)),
-          count-append x (frees (blockptr s) xs) (frees a (array z k ∷ free m ∷ ys)),
+          frees-count x (blockptr s) xs (array z k ∷ free m ∷ ys),
         )
 
     member-same : (x : ℕ) → 0 < count x (a ∷ b ∷ vs) → getD after (x + 1) 0 ≡ getD s1 (x + 1) 0
     member-same x w =
-        ⊎-elim (λ e. after-other (x + 1) (omega (arith, place, e))) (λ e. after-other (x + 1) (omega (arith, place, others x (omega (arith, w, e))))) (hit-cases x a)
+        ⊎-elim (λ e. after-other (x + 1) (omega (arith, place, e))) (λ e. after-other (x + 1) (omega (arith, place, others x (omega (arith, w, e)))))
+        (hit-cases x a)
 
     s2-rover : rover s2 ≡ rover s
     s2-rover = ap (λ (w : ℕ). w % 2 ^ 16) (markFree-other s1 _ _ 1 (omega (arith, place)) ∙ s1-tag 1 (inr (omega arith)))
@@ -156,33 +160,38 @@ module _ {s : List ℕ} {t : List ℕ} (xs : List Block) (z k m : ℕ) (ys : Lis
     rover-in =
         ⊎-elim (λ e. omega (arith, after-count (rover after), hit-eq (rover after) a e, far-q (rover after) e))
         (λ e. let o : rover after ≡ rover s = e .1 ∙ s2-rover in
-        rw o (omega (arith, after-count (rover s), g .once (rover s), hit-same (rover s), not-q (λ w. e .0 (s2-rover ∙ w)))))
+        rw o (omega (arith, after-count (rover s), g .once (rover s), hit-same (rover s), hit-not (rover s) q (λ w. e .0 (s2-rover ∙ w)))))
         (moveRover-rover s2 q a (omega (arith, place, markFree-length s1 a (z + k + m), s1-length)) (omega (arith, place)))
       where
         far-q : (x : ℕ) → x ≡ a → hit x q ≡ 0
-        far-q x e = ⊎-elim (λ w. absurd (omega (arith, place, w, e))) (λ w. w .1) (hit-cases x q)
-
-        not-q : (rover s ≢ q) → hit (rover s) q ≡ 0
-        not-q n = ⊎-elim (λ w. absurd (n (w .0))) (λ w. w .1) (hit-cases (rover s) q)
+        far-q x e = hit-not x q (omega (arith, place, e))
 
     above : (i : ℕ) → end + 2 ≤ i → getD after i 0 ≡ getD s i 0
-    above i l = after-other i (omega (arith, place)) ∙ hook-other s a _ _ _ i (omega (arith, place, others (lastAt s q) last-in .4, others (nextAt s q) next-in .4))
+    above i l =
+        after-other i (omega (arith, place)) ∙ hook-other s a _ _ _ i
+        (omega (arith, place, others (lastAt s q) last-in .4, others (nextAt s q) next-in .4))
 
     made : (t′ : List ℕ) × Heap after new t′
     made =
         let e : a + (z + k + m) ≡ q + m = omega arith in
-        heap-make g after new (moveRover-length s2 q a ∙ markFree-length s1 _ _ ∙ s1-length) (after-low 0 (omega arith) (omega arith)) (after-low 4 (omega arith) (omega arith)) (above (sbase s - 1) (omega (arith, g .top))) after-walk
-        (over-append (blockptr s) xs (free (z + k + m) ∷ ys) ∙ ap (λ (y : ℕ). over y ys) e ∙ sym (over-append (blockptr s) xs (array z k ∷ free m ∷ ys)))
+        heap-make g after new (moveRover-length s2 q a ∙ markFree-length s1 _ _ ∙ s1-length) (after-low 0 (omega arith) (omega arith))
+        (after-low 4 (omega arith) (omega arith)) (above (sbase s - 1) (omega (arith, g .top))) after-walk
+        (over-append (blockptr s) xs (free (z + k + m) ∷ ys) ∙ ap (λ (y : ℕ). over y ys) e ∙ sym
+        (over-append (blockptr s) xs (array z k ∷ free m ∷ ys)))
         a (b ∷ vs)
         (links-same s1 after a (b ∷ vs) a ring1 member-same (member-same a (omega (arith, hit-same a))))
         (λ x. omega (arith, c x, after-count x))
         rover-in
 
     was : (i : ℕ) → Inner (blockptr s) new i → Inner (blockptr s) old i
-    was i w = inner-swap (blockptr s) xs (free (z + k + m) ∷ ys) (array z k ∷ free m ∷ ys) i (λ o. let e : a + (z + k) + m ≡ a + (z + k + m) = omega arith in inr (rw e o)) w
+    was i w =
+        inner-swap (blockptr s) xs (free (z + k + m) ∷ ys) (array z k ∷ free m ∷ ys) i
+        (λ o. let e : a + (z + k) + m ≡ a + (z + k + m) = omega arith in inr (rw e o)) w
 
     quiet-same : (i : ℕ) → i ≢ 1 → Quiet s new i → getD after i 0 ≡ getD s i 0
-    quiet-same i n (inl w) = after-other i (omega (arith, place, w)) ∙ hook-other s a _ _ _ i (omega (arith, place, w, others (lastAt s q) last-in .3, others (nextAt s q) next-in .3))
+    quiet-same i n (inl w) =
+        after-other i (omega (arith, place, w)) ∙ hook-other s a _ _ _ i
+        (omega (arith, place, w, others (lastAt s q) last-in .3, others (nextAt s q) next-in .3))
     quiet-same i n (inr (inl w)) = above i (omega (arith, g .top))
     quiet-same i n (inr (inr w)) =
         ⊎-elim (λ l. after-other i (omega (arith, place, l)) ∙ hook-other s a _ _ _ i (omega (arith, place, l), lasts, nexts))
@@ -198,7 +207,8 @@ module _ {s : List ℕ} {t : List ℕ} (xs : List Block) (z k m : ℕ) (ys : Lis
     left : Leaves s after new
     left = record {
       long = moveRover-length s2 q a ∙ markFree-length s1 _ _ ∙ s1-length;
-      base = moveRover-base s2 q a (omega (arith, place, markFree-length s1 a (z + k + m), s1-length)) (omega (arith, place)) ∙ ap (λ (w : ℕ). w / 2 ^ 16) (markFree-other s1 _ _ 1 (omega (arith, place)) ∙ s1-tag 1 (inr (omega arith)));
+      base = moveRover-base s2 q a (omega (arith, place, markFree-length s1 a (z + k + m), s1-length)) (omega (arith, place)) ∙ ap
+          (λ (w : ℕ). w / 2 ^ 16) (markFree-other s1 _ _ 1 (omega (arith, place)) ∙ s1-tag 1 (inr (omega arith)));
       quiet = quiet-same;
     }
 

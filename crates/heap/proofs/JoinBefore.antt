@@ -87,7 +87,8 @@ module _ {s : List ℕ} {t : List ℕ} (xs : List Block) (m z k : ℕ) (ys : Lis
   after-count : (x : ℕ) → count x (frees (blockptr s) new) ≡ count x (frees (blockptr s) old)
   after-count x =
       let e : p + (m + (z + k)) ≡ p + m + (z + k) = omega arith in
-      ap (count x) (frees-append (blockptr s) xs (free (m + (z + k)) ∷ ys) ∙ ap (λ (a : ℕ). frees (blockptr s) xs ++ p ∷ frees a ys) e ∙ sym (frees-append (blockptr s) xs (free m ∷ array z k ∷ ys)))
+      ap (count x) (frees-append (blockptr s) xs (free (m + (z + k)) ∷ ys) ∙ ap (λ (a : ℕ). frees (blockptr s) xs ++ p ∷ frees a ys) e ∙ sym
+      (frees-append (blockptr s) xs (free m ∷ array z k ∷ ys)))
 
   after-rover : rover after ≡ rover s
   after-rover = ap (λ (w : ℕ). w % 2 ^ 16) (after-other 1 (omega (arith, place)))
@@ -98,17 +99,22 @@ module _ {s : List ℕ} {t : List ℕ} (xs : List Block) (m z k : ℕ) (ys : Lis
   pub before-heap : (t′ : List ℕ) × Heap after new t′
   before-heap =
       let e : p + (m + (z + k)) ≡ p + m + (z + k) = omega arith in
-      heap-make g after new after-length (after-other 0 (omega (arith, place))) (after-other 4 (omega (arith, place))) (above (sbase s - 1) (omega (arith, g .top))) after-walk
-      (over-append (blockptr s) xs (free (m + (z + k)) ∷ ys) ∙ ap (λ (a : ℕ). over a ys) e ∙ sym (over-append (blockptr s) xs (free m ∷ array z k ∷ ys)))
+      heap-make g after new after-length (after-other 0 (omega (arith, place))) (after-other 4 (omega (arith, place)))
+      (above (sbase s - 1) (omega (arith, g .top))) after-walk
+      (over-append (blockptr s) xs (free (m + (z + k)) ∷ ys) ∙ ap (λ (a : ℕ). over a ys) e ∙ sym
+      (over-append (blockptr s) xs (free m ∷ array z k ∷ ys)))
       (rover s) t
-      (links-same s after (rover s) t (rover s) (g .links) (λ x c. member-same x (omega (arith, c, g .once x))) (member-same (rover s) (omega (arith, g .once (rover s), hit-same (rover s)))))
+      (links-same s after (rover s) t (rover s) (g .links) (λ x c. member-same x (omega (arith, c, g .once x)))
+      (member-same (rover s) (omega (arith, g .once (rover s), hit-same (rover s)))))
       (λ x. omega (arith, g .once x, after-count x))
       (rw after-rover (omega (arith, g .once (rover s), hit-same (rover s), after-count (rover s))))
 
   quiet-same : (i : ℕ) → i ≢ 1 → Quiet s new i → getD after i 0 ≡ getD s i 0
   quiet-same i n (inl h) = after-other i (omega (arith, place, h))
   quiet-same i n (inr (inl h)) = above i (omega (arith, g .top))
-  quiet-same i n (inr (inr h)) = ⊎-elim (λ l. after-other i (omega (arith, place, l))) (λ l. after-other i (omega (arith, place, l))) (inner-cases (blockptr s) xs (m + (z + k)) ys i h)
+  quiet-same i n (inr (inr h)) =
+      ⊎-elim (λ l. after-other i (omega (arith, place, l))) (λ l. after-other i (omega (arith, place, l)))
+      (inner-cases (blockptr s) xs (m + (z + k)) ys i h)
 
   pub before-leaves : Leaves s after new
   before-leaves = record { long = after-length; base = ap (λ (w : ℕ). w / 2 ^ 16) (after-other 1 (omega (arith, place))); quiet = quiet-same }

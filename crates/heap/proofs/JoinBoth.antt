@@ -13,7 +13,7 @@ use Rattle.storage.specs.Release.{joinBoth}
 use Rattle.storage.specs.Heap.{Block, Walk, over, frees, hit, count, Links, Heap, free, array}
 use Rattle.heap.specs.Words.{Inner, Quiet, Leaves}
 use Rattle.heap.proofs.Walks.{over-le, walk-same, walk-replace, walk-at}
-use Rattle.heap.proofs.Counts.{hit-cases, hit-same, hit-eq, count-append, frees-append, over-append, frees-within, frees-either}
+use Rattle.heap.proofs.Counts.{hit-cases, hit-same, hit-eq, hit-not, frees-count, over-append, frees-within, frees-either}
 use Rattle.heap.proofs.Ring.{links-same, links-last}
 use Rattle.heap.proofs.Search.{members-once, free-ring}
 use Rattle.heap.proofs.Fields.{markFree-length, markFree-other, markFree-first, markFree-end, moveRover-length, moveRover-other, moveRover-base, moveRover-rover}
@@ -65,7 +65,7 @@ module _ {s : List ℕ} {t : List ℕ} (xs : List Block) (j z k m : ℕ) (ys : L
   )
 
   q-in : 0 < count q (frees (blockptr s) old)
-  q-in = omega (arith, hit-same q, ap (count q) (frees-append (blockptr s) xs tail), count-append q (frees (blockptr s) xs) (frees p tail))
+  q-in = omega (arith, hit-same q, frees-count q (blockptr s) xs tail)
 
   far : (x : ℕ) → 0 < count x ring → x ≢ q → (x + 1 ≢ p) × (x + 1 ≢ p + (j + (z + k) + m) - 1) × (blockptr s ≤ x) × (x ≤ end)
   far x c n =
@@ -109,8 +109,10 @@ module _ {s : List ℕ} {t : List ℕ} (xs : List Block) (j z k m : ℕ) (ys : L
           record {
             alone = w .0 .alone;
             least = omega (arith, place);
-            first = moveRover-other s2 q p _ (omega (arith, place)) ∙ markFree-first (unlink s q) _ _ (omega (arith, place)) (omega (arith, place, unlink-length s q));
-            end = moveRover-other s2 q p _ (omega (arith, place)) ∙ markFree-end (unlink s q) _ _ (omega (arith, place)) (omega (arith, place, unlink-length s q));
+            first = moveRover-other s2 q p _ (omega (arith, place)) ∙ markFree-first (unlink s q) _ _ (omega (arith, place))
+                (omega (arith, place, unlink-length s q));
+            end = moveRover-other s2 q p _ (omega (arith, place)) ∙ markFree-end (unlink s q) _ _ (omega (arith, place))
+                (omega (arith, place, unlink-length s q));
           },
           let e : p + (j + (z + k) + m) ≡ q + m = omega arith in
               rw e (walk-same (unlink s q) after (q + m) true ys (w .1 .1 .1) (λ i l u. after-other i (omega (arith, place)))),
@@ -127,11 +129,9 @@ module _ {s : List ℕ} {t : List ℕ} (xs : List Block) (j z k m : ℕ) (ys : L
         let e : p + (j + (z + k) + m) ≡ q + m = omega arith in
         omega (
           arith,
-          ap (count x) (frees-append (blockptr s) xs (free (j + (z + k) + m) ∷ ys)),
-          count-append x (frees (blockptr s) xs) (frees p (free (j + (z + k) + m) ∷ ys)),
+          frees-count x (blockptr s) xs (free (j + (z + k) + m) ∷ ys),
           ap (λ (y : ℕ). count x (frees y ys)) e,
-          ap (count x) (frees-append (blockptr s) xs tail),
-          count-append x (frees (blockptr s) xs) (frees p tail),
+          frees-count x (blockptr s) xs tail,
         )
 
     member-same : (x : ℕ) → 0 < count x (b ∷ vs) → getD after (x + 1) 0 ≡ getD (unlink s q) (x + 1) 0
@@ -141,26 +141,25 @@ module _ {s : List ℕ} {t : List ℕ} (xs : List Block) (j z k m : ℕ) (ys : L
     s2-rover = ap (λ (w : ℕ). w % 2 ^ 16) (markFree-other (unlink s q) _ _ 1 (omega (arith, place)) ∙ low 1 (omega arith))
 
     p-in : 0 < count p (frees (blockptr s) new)
-    p-in =
-        omega (arith, hit-same p, ap (count p) (frees-append (blockptr s) xs (free (j + (z + k) + m) ∷ ys)), count-append p (frees (blockptr s) xs) (frees p (free (j + (z + k) + m) ∷ ys)))
+    p-in = omega (arith, hit-same p, frees-count p (blockptr s) xs (free (j + (z + k) + m) ∷ ys))
 
     rover-in : 0 < count (rover after) (end ∷ frees (blockptr s) new)
     rover-in =
         ⊎-elim (λ e. rw e (omega (arith, p-in)))
         (λ e. let o : rover after ≡ rover s = e .1 ∙ s2-rover in
-        rw o (omega (arith, after-count (rover s), g .once (rover s), hit-same (rover s), not-q (λ w. e .0 (s2-rover ∙ w)))))
+        rw o (omega (arith, after-count (rover s), g .once (rover s), hit-same (rover s), hit-not (rover s) q (λ w. e .0 (s2-rover ∙ w)))))
         (moveRover-rover s2 q p (omega (arith, place, markFree-length (unlink s q) p (j + (z + k) + m), unlink-length s q)) (omega (arith, place)))
-      where
-        not-q : (rover s ≢ q) → hit (rover s) q ≡ 0
-        not-q n = ⊎-elim (λ w. absurd (n (w .0))) (λ w. w .1) (hit-cases (rover s) q)
 
     above : (i : ℕ) → end + 2 ≤ i → getD after i 0 ≡ getD s i 0
-    above i l = after-other i (omega (arith, place)) ∙ unlink-other s q i (omega (arith, place, others (lastAt s q) last-in .3, others (nextAt s q) next-in .3))
+    above i l =
+        after-other i (omega (arith, place)) ∙ unlink-other s q i
+        (omega (arith, place, others (lastAt s q) last-in .3, others (nextAt s q) next-in .3))
 
     made : (t′ : List ℕ) × Heap after new t′
     made =
         let e : p + (j + (z + k) + m) ≡ q + m = omega arith in
-        heap-make g after new (moveRover-length s2 q p ∙ markFree-length (unlink s q) _ _ ∙ unlink-length s q) (after-low 0 (omega arith) (omega arith)) (after-low 4 (omega arith) (omega arith)) (above (sbase s - 1) (omega (arith, g .top))) after-walk
+        heap-make g after new (moveRover-length s2 q p ∙ markFree-length (unlink s q) _ _ ∙ unlink-length s q)
+        (after-low 0 (omega arith) (omega arith)) (after-low 4 (omega arith) (omega arith)) (above (sbase s - 1) (omega (arith, g .top))) after-walk
         (over-append (blockptr s) xs (free (j + (z + k) + m) ∷ ys) ∙ ap (λ (y : ℕ). over y ys) e ∙ sym (over-append (blockptr s) xs tail))
         b vs
         (links-same (unlink s q) after b vs b ring1 member-same (member-same b (omega (arith, hit-same b))))
@@ -168,13 +167,18 @@ module _ {s : List ℕ} {t : List ℕ} (xs : List Block) (j z k m : ℕ) (ys : L
         rover-in
 
     was : (i : ℕ) → Inner (blockptr s) new i → Inner (blockptr s) old i
-    was i w = inner-swap (blockptr s) xs (free (j + (z + k) + m) ∷ ys) tail i (λ o. let e : p + j + (z + k) + m ≡ p + (j + (z + k) + m) = omega arith in inr (rw e o)) w
+    was i w =
+        inner-swap (blockptr s) xs (free (j + (z + k) + m) ∷ ys) tail i
+        (λ o. let e : p + j + (z + k) + m ≡ p + (j + (z + k) + m) = omega arith in inr (rw e o)) w
 
     quiet-same : (i : ℕ) → i ≢ 1 → Quiet s new i → getD after i 0 ≡ getD s i 0
-    quiet-same i n (inl w) = after-other i (omega (arith, place, w)) ∙ unlink-other s q i (omega (arith, place, w, others (lastAt s q) last-in .2, others (nextAt s q) next-in .2))
+    quiet-same i n (inl w) =
+        after-other i (omega (arith, place, w)) ∙ unlink-other s q i
+        (omega (arith, place, w, others (lastAt s q) last-in .2, others (nextAt s q) next-in .2))
     quiet-same i n (inr (inl w)) = above i (omega (arith, g .top))
     quiet-same i n (inr (inr w)) =
-        ⊎-elim (λ l. after-other i (omega (arith, place, l))) (λ l. after-other i (omega (arith, place, l))) (inner-cases (blockptr s) xs (j + (z + k) + m) ys i w)
+        ⊎-elim (λ l. after-other i (omega (arith, place, l))) (λ l. after-other i (omega (arith, place, l)))
+        (inner-cases (blockptr s) xs (j + (z + k) + m) ys i w)
         ∙ unlink-other s q i (
           inner-apart s (blockptr s) false old (lastAt s q) i (g .walk) (was i w) (omega (arith, last-in, c (lastAt s q))),
           inner-apart s (blockptr s) false old (nextAt s q) i (g .walk) (was i w) (omega (arith, next-in, c (nextAt s q))),
@@ -183,7 +187,8 @@ module _ {s : List ℕ} {t : List ℕ} (xs : List Block) (j z k m : ℕ) (ys : L
     left : Leaves s after new
     left = record {
       long = moveRover-length s2 q p ∙ markFree-length (unlink s q) _ _ ∙ unlink-length s q;
-      base = moveRover-base s2 q p (omega (arith, place, markFree-length (unlink s q) p (j + (z + k) + m), unlink-length s q)) (omega (arith, place)) ∙ ap (λ (w : ℕ). w / 2 ^ 16) (markFree-other (unlink s q) _ _ 1 (omega (arith, place)) ∙ low 1 (omega arith));
+      base = moveRover-base s2 q p (omega (arith, place, markFree-length (unlink s q) p (j + (z + k) + m), unlink-length s q)) (omega (arith, place))
+          ∙ ap (λ (w : ℕ). w / 2 ^ 16) (markFree-other (unlink s q) _ _ 1 (omega (arith, place)) ∙ low 1 (omega arith));
       quiet = quiet-same;
     }
 

@@ -13,7 +13,7 @@ use Rattle.storage.specs.Release.{joinNone}
 use Rattle.storage.specs.Heap.{Block, Walk, over, frees, hit, count, Links, Heap, free, array}
 use Rattle.heap.specs.Words.{Inner, Quiet, Leaves}
 use Rattle.heap.proofs.Walks.{over-le, walk-replace, walk-at}
-use Rattle.heap.proofs.Counts.{hit-cases, hit-same, count-append, frees-append, over-append, frees-within, frees-either}
+use Rattle.heap.proofs.Counts.{hit-cases, hit-same, frees-count, over-append, frees-within, frees-either}
 use Rattle.heap.proofs.Ring.{links-same, ring-at, links-first}
 use Rattle.heap.proofs.Search.{members-once}
 use Rattle.heap.proofs.Fields.{setPrevFree-length, setPrevFree-other, setPrevFree-same, markFree-length, markFree-other, markFree-first, markFree-end}
@@ -51,8 +51,14 @@ module _ {s : List ℕ} {t : List ℕ} (xs : List Block) (z k : ℕ) (ys : List 
   at = walk-at s (blockptr s) false xs (array z k ∷ ys) (g .walk)
 
   place : (8 ≤ blockptr s) × (blockptr s ≤ a) × (3 ≤ z) × (a + (z + k) ≤ end) × (end + 3 ≤ length s) × (length s ≤ 16384)
-  place =
-      (g .low, over-le (blockptr s) xs, at .1 .0 .least, omega (arith, over-append (blockptr s) xs (array z k ∷ ys), over-le (a + (z + k)) ys), omega (arith, g .top, g .room), g .short)
+  place = (
+    g .low,
+    over-le (blockptr s) xs,
+    at .1 .0 .least,
+    omega (arith, over-append (blockptr s) xs (array z k ∷ ys), over-le (a + (z + k)) ys),
+    omega (arith, g .top, g .room),
+    g .short,
+  )
 
   -- a member of the ring stands clear of the released block
   far : (x : ℕ) → 0 < count x ring
@@ -78,7 +84,9 @@ module _ {s : List ℕ} {t : List ℕ} (xs : List Block) (z k : ℕ) (ys : List 
       (omega (arith, place)) (omega (arith, place)) refl (omega (arith, place)) (omega (arith, place))
 
   walk1 : Walk s1 (blockptr s) false old
-  walk1 = hook-walk s a _ end next (blockptr s) false old (g .walk) (inner-here (blockptr s) xs z k ys (a + 1) (omega arith) (omega (arith, place))) (omega (arith, hit-same end)) next-in
+  walk1 =
+      hook-walk s a _ end next (blockptr s) false old (g .walk) (inner-here (blockptr s) xs z k ys (a + 1) (omega arith) (omega (arith, place)))
+      (omega (arith, hit-same end)) next-in
 
   s1-length : length s1 ≡ length s
   s1-length = hook-length s a _ end next
@@ -112,18 +120,12 @@ module _ {s : List ℕ} {t : List ℕ} (xs : List Block) (z k : ℕ) (ys : List 
   after-low i l = after-other i (omega (arith, place)) ∙ s1-tag i (inr (inr l))
 
   after-count : (x : ℕ) → count x (frees (blockptr s) new) ≡ hit x a + count x (frees (blockptr s) old)
-  after-count x =
-      omega (
-        arith,
-        ap (count x) (frees-append (blockptr s) xs (free (z + k) ∷ ys)),
-        count-append x (frees (blockptr s) xs) (frees a (free (z + k) ∷ ys)),
-        ap (count x) (frees-append (blockptr s) xs (array z k ∷ ys)),
-        count-append x (frees (blockptr s) xs) (frees a (array z k ∷ ys)),
-      )
+  after-count x = omega (arith, frees-count x (blockptr s) xs (free (z + k) ∷ ys), frees-count x (blockptr s) xs (array z k ∷ ys))
 
   member-same : (x : ℕ) → 0 < count x (end ∷ a ∷ turned .0) → getD after (x + 1) 0 ≡ getD s1 (x + 1) 0
   member-same x c =
-      ⊎-elim (λ e. after-other (x + 1) (omega (arith, place, e))) (λ e. after-other (x + 1) (omega (arith, place, far x (omega (arith, c, e, turned .2 x))))) (hit-cases x a)
+      ⊎-elim (λ e. after-other (x + 1) (omega (arith, place, e)))
+      (λ e. after-other (x + 1) (omega (arith, place, far x (omega (arith, c, e, turned .2 x))))) (hit-cases x a)
 
   above : (i : ℕ) → end + 2 ≤ i → getD after i 0 ≡ getD s i 0
   above i h = after-other i (omega (arith, place)) ∙ hook-other s a _ end next i (omega (arith, place, far next next-in))
@@ -131,7 +133,8 @@ module _ {s : List ℕ} {t : List ℕ} (xs : List Block) (z k : ℕ) (ys : List 
   made : (t′ : List ℕ) × Heap after new t′
   made =
       let ro : rover after ≡ rover s = ap (λ (w : ℕ). w % 2 ^ 16) (after-low 1 (omega arith)) in
-      heap-make g after new (setPrevFree-length _ _ ∙ markFree-length s1 _ _ ∙ s1-length) (after-low 0 (omega arith)) (after-low 4 (omega arith)) (above (sbase s - 1) (omega (arith, g .top))) after-walk
+      heap-make g after new (setPrevFree-length _ _ ∙ markFree-length s1 _ _ ∙ s1-length) (after-low 0 (omega arith)) (after-low 4 (omega arith))
+      (above (sbase s - 1) (omega (arith, g .top))) after-walk
       (over-append (blockptr s) xs (free (z + k) ∷ ys) ∙ sym (over-append (blockptr s) xs (array z k ∷ ys)))
       end (a ∷ turned .0)
       (links-same s1 after end (a ∷ turned .0) end ring1 member-same (member-same end (omega (arith, hit-same end))))
@@ -160,7 +163,12 @@ module _ {s : List ℕ} {t : List ℕ} (xs : List Block) (z k : ℕ) (ys : List 
       nexts = inner-apart s (blockptr s) false old next i (g .walk) (was i h) next-in
 
   left : Leaves s after new
-  left = record { long = setPrevFree-length _ _ ∙ markFree-length s1 _ _ ∙ s1-length; base = ap (λ (w : ℕ). w / 2 ^ 16) (after-low 1 (omega arith)); quiet = quiet-same }
+  left =
+      record {
+        long = setPrevFree-length _ _ ∙ markFree-length s1 _ _ ∙ s1-length;
+        base = ap (λ (w : ℕ). w / 2 ^ 16) (after-low 1 (omega arith));
+        quiet = quiet-same;
+      }
 
   pub none-leaves : Leaves s (joinNone s a (z + k) (a + (z + k))) new
   unfolding joinNone

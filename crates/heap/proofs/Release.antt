@@ -14,19 +14,15 @@ use Rattle.storage.specs.Heap.{Block, span, isFree, ArrayBlock, Walk, over, Hea
 use Rattle.storage.specs.Owned.{ArrayIn}
 use Rattle.heap.specs.Words.{Leaves}
 use Rattle.heap.specs.Release.{Freed, Release, joinsBoth, joinsBefore, joinsAfter, joinsNone}
-use Rattle.heap.proofs.Ways.{release-both, release-before, release-after, release-none}
+use Rattle.heap.proofs.Ways.{decide, release-both, release-before, release-after, release-none}
 use Rattle.heap.proofs.Walks.{over-le, walk-at}
 use Rattle.heap.proofs.Counts.{over-append}
-use Rattle.heap.proofs.Arrays.{array-split}
+use Rattle.heap.proofs.Arrays.{array-split, array-fields}
 use Rattle.heap.proofs.JoinBefore.{before-heap, before-leaves}
 use Rattle.heap.proofs.JoinNone.{none-heap, none-leaves}
 use Rattle.heap.proofs.JoinAfter.{after-heap, after-leaves}
 use Rattle.heap.proofs.JoinBoth.{both-heap, both-leaves}
 use Rattle.heap.proofs.Freed.{freed-further, freed-words, freed-rest, freed-back}
-
-dec : (b : Bool) → (b ≡ true) ⊎ (b ≡ false)
-dec true = inl refl
-dec false = inr refl
 
 -- the block before a place of the walk
 last-block : (s : List ℕ) (a : ℕ) (p : Bool) (b : Block) (xs ys : List Block) → Walk s a p (b ∷ xs ++ ys)
@@ -36,31 +32,33 @@ last-block s a p (array z k) [] ys h = inr (h .1)
 last-block s a p b (c ∷ xs) ys h =
     ⊎-elim (λ r. inl (b ∷ r .0, r .1, ap (λ (l : List Block). b ∷ l) (r .2))) (λ r. inr r) (last-block s (a + span b) (isFree b) c xs ys (h .1))
 
-walk-last : (s : List ℕ) (a : ℕ) (xs ys : List Block) → Walk s a false (xs ++ ys) → ((vs : List Block) × (m : ℕ) × (xs ≡ vs ++ free m ∷ [])) ⊎ Walk s (over a xs) false ys
+walk-last : (s : List ℕ) (a : ℕ) (xs ys : List Block) → Walk s a false (xs ++ ys)
+    → ((vs : List Block) × (m : ℕ) × (xs ≡ vs ++ free m ∷ [])) ⊎ Walk s (over a xs) false ys
 walk-last s a [] ys h = inr h
 walk-last s a (b ∷ xs) ys h = last-block s a false b xs ys h
 
 -- a free block behind a place of the walk
-next-free : (s : List ℕ) (e : ℕ) (p : Bool) (ys : List Block) → Walk s e p ys → over e ys < 2 ^ 16 → freeAt s e ≡ true → (m : ℕ) × (vs : List Block) × (ys ≡ free m ∷ vs)
+next-free : (s : List ℕ) (e : ℕ) (p : Bool) (ys : List Block) → Walk s e p ys → over e ys < 2 ^ 16 → freeAt s e ≡ true
+    → (m : ℕ) × (vs : List Block) × (ys ≡ free m ∷ vs)
 next-free s e true [] h l f = absurd (omega (arith, h, leb-true (2 ^ 31) (getD s e 0) f))
 next-free s e false [] h l f = absurd (omega (arith, h, leb-true (2 ^ 31) (getD s e 0) f))
 next-free s e p (free m ∷ vs) h l f = (m, vs, refl)
-next-free s e true (array z k ∷ vs) h l f = absurd (omega (arith, h .0 .first, h .0 .small, over-le (e + (z + k)) vs, leb-true (2 ^ 31) (getD s e 0) f))
-next-free s e false (array z k ∷ vs) h l f = absurd (omega (arith, h .0 .first, h .0 .small, over-le (e + (z + k)) vs, leb-true (2 ^ 31) (getD s e 0) f))
-
-array-fields : (s : List ℕ) (a : ℕ) (p : Bool) (z k : ℕ) → ArrayBlock s a p z k → z < 2 ^ 16 → (sizeAt s a ≡ z) × (slopAt s a ≡ k)
-array-fields s a true z k h l = omega (arith, h .first, h .small)
-array-fields s a false z k h l = omega (arith, h .first, h .small)
+next-free s e true (array z k ∷ vs) h l f =
+    absurd (omega (arith, h .0 .first, h .0 .small, over-le (e + (z + k)) vs, leb-true (2 ^ 31) (getD s e 0) f))
+next-free s e false (array z k ∷ vs) h l f =
+    absurd (omega (arith, h .0 .first, h .0 .small, over-le (e + (z + k)) vs, leb-true (2 ^ 31) (getD s e 0) f))
 
 array-before : (s : List ℕ) (a z k : ℕ) → ArrayBlock s a false z k → z < 2 ^ 16 → prevFreeAt s a ≡ true → ⊥
 array-before s a z k h l f = omega (arith, h .first, h .small, leb-true (2 ^ 30) (getD s a 0 % 2 ^ 31) f)
 
 -- a release, by what the walk tells of the block
 module _ (s : List ℕ) (a n : ℕ) (sp : spanAt s a ≡ n) where
-  is-both : (m p : ℕ) → sizeAt s (a - 1) ≡ m → a - m ≡ p → prevFreeAt s a ≡ true → freeAt s (a + n) ≡ true → release s a ≡ joinBoth s p (m + n) (a + n)
+  is-both : (m p : ℕ) → sizeAt s (a - 1) ≡ m → a - m ≡ p → prevFreeAt s a ≡ true → freeAt s (a + n) ≡ true
+      → release s a ≡ joinBoth s p (m + n) (a + n)
   is-both m p pz pa f h = release-both s a f (rw sp h) ∙ rw (sp, pz, pa)
 
-  is-before : (m p : ℕ) → sizeAt s (a - 1) ≡ m → a - m ≡ p → prevFreeAt s a ≡ true → freeAt s (a + n) ≡ false → release s a ≡ joinBefore s p (m + n) (a + n)
+  is-before : (m p : ℕ) → sizeAt s (a - 1) ≡ m → a - m ≡ p → prevFreeAt s a ≡ true → freeAt s (a + n) ≡ false
+      → release s a ≡ joinBefore s p (m + n) (a + n)
   is-before m p pz pa f h = release-before s a f (rw sp h) ∙ rw (sp, pz, pa)
 
   is-after : prevFreeAt s a ≡ false → freeAt s (a + n) ≡ true → release s a ≡ joinAfter s a n (a + n)
@@ -70,14 +68,16 @@ module _ (s : List ℕ) (a n : ℕ) (sp : spanAt s a ≡ n) where
   is-none f h = release-none s a f (rw sp h) ∙ rw sp
 
 -- the theorem from its parts
-released : {s : List ℕ} {bs : List Block} {t : List ℕ} → Heap s bs t → (a z k : ℕ) (s′ : List ℕ) (cs : List Block) → (sizeAt s a ≡ z) × (slopAt s a ≡ k) → release s a ≡ s′
+released : {s : List ℕ} {bs : List Block} {t : List ℕ} → Heap s bs t → (a z k : ℕ) (s′ : List ℕ) (cs : List Block)
+    → (sizeAt s a ≡ z) × (slopAt s a ≡ k) → release s a ≡ s′
     → (t′ : List ℕ) × Heap s′ cs t′ → Leaves s s′ cs → Freed a z k (blockptr s) bs cs → Release s bs a
 released {s} {bs} g a z k s′ cs n e r l f = record {
   blocks = cs;
   ring = r .0;
   heap = rw e (r .1);
   freed = rw (n .0, n .1) f;
-  words = λ i. rw (n .0, n .1) (freed-words a z k (blockptr s) bs cs f i);
+  words = λ i. let r = freed-words a z k (blockptr s) bs cs f i in
+      (λ h. ⊎-elim (λ u. inl u) (λ u. inr (omega (arith, n, u))) (r .0 h), λ h. r .1 (⊎-elim (λ u. inl u) (λ u. inr (omega (arith, n, u))) h));
   others = λ y v. (λ h. freed-back s a z k (blockptr s) false bs cs (g .walk) f y v h, λ h. freed-rest a z k (blockptr s) bs cs f y v (h .0) (h .1));
   leaves = rw e l;
 }
@@ -113,7 +113,8 @@ module _ {s : List ℕ} {t : List ℕ} (xs : List Block) (m z k : ℕ) (ys : Lis
 
     release-front : Release s (xs ++ free m ∷ array z k ∷ ys) (p + m)
     release-front =
-        ⊎-elim (λ h. let r = next-free s (p + m + (z + k)) false ys (at .1 .1 .1) (place .1) h in both (r .0) (r .1) (r .2) h) before (dec (freeAt s (p + m + (z + k))))
+        ⊎-elim (λ h. let r = next-free s (p + m + (z + k)) false ys (at .1 .1 .1) (place .1) h in both (r .0) (r .1) (r .2) h) before
+        (decide (freeAt s (p + m + (z + k))))
 
 -- it is not
 module _ {s : List ℕ} {t : List ℕ} (xs : List Block) (z k : ℕ) (ys : List Block) (g : Heap s (xs ++ array z k ∷ ys) t) where
@@ -139,24 +140,28 @@ module _ {s : List ℕ} {t : List ℕ} (xs : List Block) (z k : ℕ) (ys : List 
     after n vs q h =
         let g′ : Heap s (xs ++ array z k ∷ free n ∷ vs) t = rw q at g in
         rw q
-        (released g′ a z k _ _ fields′ (is-after s a (z + k) (omega (arith, fields′)) f h) (after-heap xs z k n vs g′ f) (after-leaves xs z k n vs g′ f)
+        (released g′ a z k _ _ fields′ (is-after s a (z + k) (omega (arith, fields′)) f h) (after-heap xs z k n vs g′ f)
+        (after-leaves xs z k n vs g′ f)
         (freed-further _ _ _ _ xs _ _ (joinsAfter refl)))
 
     release-alone : Release s (xs ++ array z k ∷ ys) a
     release-alone =
-        ⊎-elim (λ h. let r = next-free s (a + (z + k)) false ys (at′ .1 .1) (place′ .1) h in after (r .0) (r .1) (r .2) h) none (dec (freeAt s (a + (z + k))))
+        ⊎-elim (λ h. let r = next-free s (a + (z + k)) false ys (at′ .1 .1) (place′ .1) h in after (r .0) (r .1) (r .2) h) none
+        (decide (freeAt s (a + (z + k))))
 
   front : (vs : List Block) (m : ℕ) → xs ≡ vs ++ free m ∷ [] → prevFreeAt s a ≡ true → Release s (xs ++ array z k ∷ ys) a
   front vs m e f =
       let o : over (blockptr s) xs ≡ over (blockptr s) vs + m = ap (over (blockptr s)) e ∙ over-append (blockptr s) vs (free m ∷ []) in
-      let l : xs ++ array z k ∷ ys ≡ vs ++ free m ∷ array z k ∷ ys = ap (λ (v : List Block). v ++ array z k ∷ ys) e ∙ append-assoc vs (free m ∷ []) (array z k ∷ ys) in
+      let l : xs ++ array z k ∷ ys ≡ vs ++ free m ∷ array z k ∷ ys = ap (λ (v : List Block). v ++ array z k ∷ ys) e ∙ append-assoc vs (free m ∷ [])
+      (array z k ∷ ys) in
       rw (l, o) (release-front vs m z k ys (rw l at g) (rw o at f))
 
   release-place : Release s (xs ++ array z k ∷ ys) a
   release-place =
       ⊎-elim
-      (λ f. ⊎-elim (λ r. front (r .0) (r .1) (r .2) f) (λ w. absurd (array-before s a z k (w .0) (omega (arith, place′)) f)) (walk-last s (blockptr s) xs (array z k ∷ ys) (g .walk)))
-      release-alone (dec (prevFreeAt s a))
+      (λ f. ⊎-elim (λ r. front (r .0) (r .1) (r .2) f) (λ w. absurd (array-before s a z k (w .0) (omega (arith, place′)) f))
+      (walk-last s (blockptr s) xs (array z k ∷ ys) (g .walk)))
+      release-alone (decide (prevFreeAt s a))
 
 -- the theorem of a release
 pub release-theorem : {s : List ℕ} {bs : List Block} {t : List ℕ} → Heap s bs t → (x z : ℕ) → ArrayIn (blockptr s) bs x z → Release s bs x

@@ -73,7 +73,8 @@ links-first s a (b ∷ t) h = omega (arith, hit-eq (nextAt s a) b (h .0 .next))
 
 -- links by the fields that they read
 pub links-fields : (s s′ : List ℕ) (a : ℕ) (t : List ℕ) (z : ℕ) → Links s a t z
-    → ((x : ℕ) → 0 < count x (a ∷ t) → nextAt s′ x ≡ nextAt s x) → ((x : ℕ) → 0 < count x t → lastAt s′ x ≡ lastAt s x) → lastAt s′ z ≡ lastAt s z → Links s′ a t z
+    → ((x : ℕ) → 0 < count x (a ∷ t) → nextAt s′ x ≡ nextAt s x) → ((x : ℕ) → 0 < count x t → lastAt s′ x ≡ lastAt s x) → lastAt s′ z ≡ lastAt s z
+    → Links s′ a t z
 links-fields s s′ a [] z h e f k = record { next = e a (omega (arith, hit-same a)) ∙ h .next; last = k ∙ h .last }
 links-fields s s′ a (b ∷ t) z h e f k = (
   record { next = e a (omega (arith, hit-same a)) ∙ h .0 .next; last = f b (omega (arith, hit-same b)) ∙ h .0 .last },

@@ -29,7 +29,11 @@ find-found n s size stop a [] h z l =
     (order size (sizeAt s a))
 find-found n s size stop a (b ∷ t) h z l =
     ⊎-elim (λ k. rw (find-here n s size stop a (omega arith) k) (here k))
-    (λ k. rw (find-further n s size stop a (omega arith) k (λ e. let q : hit stop b ≡ 1 = hit-eq stop b (sym e ∙ h .0 .next) in omega arith), h .0 .next) (there k (find-found (n - 1) s size stop b t (h .1) (omega arith) (omega arith))))
+    (λ k. rw (
+      find-further n s size stop a (omega arith) k (λ e. let q : hit stop b ≡ 1 = hit-eq stop b (sym e ∙ h .0 .next) in omega arith),
+      h .0 .next,
+    )
+    (there k (find-found (n - 1) s size stop b t (h .1) (omega arith) (omega arith))))
     (order size (sizeAt s a))
 
 -- what is found has room and stands in the list; else no member has room
@@ -46,8 +50,14 @@ found-cases nowhere = inl (refl, λ x c. absurd (omega arith))
 module _ {s : List ℕ} {bs : List Block} {t : List ℕ} (g : Heap s bs t) where
   -- the ring is shorter than the segment
   pub ring-short : length t < length s
-  ring-short =
-      omega (arith, g .low, g .top, g .room, count-length (rover s ∷ t) (over (blockptr s) bs ∷ frees (blockptr s) bs) (g .once), frees-few s (blockptr s) false bs (g .walk))
+  ring-short = omega (
+    arith,
+    g .low,
+    g .top,
+    g .room,
+    count-length (rover s ∷ t) (over (blockptr s) bs ∷ frees (blockptr s) bs) (g .once),
+    frees-few s (blockptr s) false bs (g .walk),
+  )
 
   -- no member stands twice
   pub ring-once : (x : ℕ) → count x (rover s ∷ t) ≤ 1
@@ -99,5 +109,9 @@ module _ {s : List ℕ} {bs : List Block} {t : List ℕ} (g : Heap s bs t) where
   find-cases size pos =
       ⊎-elim
       (λ e. inl (e .0, λ x c. e .1 x (omega (arith, g .once x))))
-      (λ e. inr (⊎-elim (λ w. absurd (omega (arith, e .1, ap (λ (y : ℕ). sizeAt s y) (w .0), dummy-size))) (λ w. omega (arith, w, e .0, g .once (find s size))) (hit-cases (find s size) (over (blockptr s) bs)), e .1))
+      (λ e. inr (
+        ⊎-elim (λ w. absurd (omega (arith, e .1, ap (λ (y : ℕ). sizeAt s y) (w .0), dummy-size)))
+            (λ w. omega (arith, w, e .0, g .once (find s size))) (hit-cases (find s size) (over (blockptr s) bs)),
+        e .1,
+      ))
       (found-cases (find-is size))

@@ -14,7 +14,7 @@ use Rattle.storage.specs.Request.{split}
 use Rattle.storage.specs.Heap.{Block, Walk, over, frees, count, Heap, free, array}
 use Rattle.heap.specs.Words.{Quiet, Leaves}
 use Rattle.heap.proofs.Walks.{over-le, walk-replace, walk-clear}
-use Rattle.heap.proofs.Counts.{hit-cases, hit-same, count-append, frees-append, over-append, frees-cases}
+use Rattle.heap.proofs.Counts.{hit-cases, hit-same, frees-append, frees-count, over-append, frees-cases}
 use Rattle.heap.proofs.Ring.{links-same, ring-next}
 use Rattle.heap.proofs.Search.{member-within}
 use Rattle.heap.proofs.Fields.{setRover-other, setRover-rover, setRover-length, setRover-base}
@@ -63,7 +63,8 @@ module _ (s : List ℕ) (f rest size : ℕ) where
         let e3 : f + rest + size ≢ f = omega arith in
         simp (getD-set-other, getD-set-same, lt-length-set)
 
-module _ {s : List ℕ} {t : List ℕ} (xs : List Block) (n : ℕ) (ys : List Block) (size : ℕ) (g : Heap s (xs ++ free n ∷ ys) t) (n3 : 3 ≤ size) (big : size + 3 ≤ n) where
+module _ {s : List ℕ} {t : List ℕ} (xs : List Block) (n : ℕ) (ys : List Block) (size : ℕ) (g : Heap s (xs ++ free n ∷ ys) t) (n3 : 3 ≤ size)
+    (big : size + 3 ≤ n) where
   -- the found block, the dummy, the blocks before and after, and the segment after
   abbrev f : ℕ
   f = over (blockptr s) xs
@@ -81,14 +82,20 @@ module _ {s : List ℕ} {t : List ℕ} (xs : List Block) (n : ℕ) (ys : List Bl
   after = setRover (split s f (n - size) size) (nextAt s f)
 
   place : (8 ≤ blockptr s) × (blockptr s ≤ f) × (f + n ≤ end) × (end + 3 ≤ length s) × (length s ≤ 16384)
-  place =
-      (g .low, over-le (blockptr s) xs, omega (arith, over-append (blockptr s) xs (free n ∷ ys), over-le (f + n) ys), omega (arith, g .top, g .room), g .short)
+  place = (
+    g .low,
+    over-le (blockptr s) xs,
+    omega (arith, over-append (blockptr s) xs (free n ∷ ys), over-le (f + n) ys),
+    omega (arith, g .top, g .room),
+    g .short,
+  )
 
   after-length : length after ≡ length s
   after-length = setRover-length _ _ ∙ split-length s _ _ _
 
   -- nothing is written but ROVER, words of the found block and the first word behind it
-  after-other : (i : ℕ) → i ≢ 1 → (i ≢ f) × (i ≢ f + (n - size) - 1) × (i ≢ f + (n - size)) × (i ≢ f + (n - size) + size) → getD after i 0 ≡ getD s i 0
+  after-other : (i : ℕ) → i ≢ 1 → (i ≢ f) × (i ≢ f + (n - size) - 1) × (i ≢ f + (n - size)) × (i ≢ f + (n - size) + size)
+      → getD after i 0 ≡ getD s i 0
   after-other i h k = setRover-other _ _ i h ∙ split-other s _ _ _ i k
 
   after-same : (i : ℕ) → i ≢ 1 → (i < f) ⊎ (f + n < i) → getD after i 0 ≡ getD s i 0
@@ -140,8 +147,7 @@ module _ {s : List ℕ} {t : List ℕ} (xs : List Block) (n : ℕ) (ys : List Bl
 
   -- NEXT of the found block is in the ring
   f-member : 0 < count f (rover s ∷ t)
-  f-member =
-      omega (arith, g .once f, hit-same f, ap (count f) (frees-append (blockptr s) xs (free n ∷ ys)), count-append f (frees (blockptr s) xs) (frees f (free n ∷ ys)))
+  f-member = omega (arith, g .once f, hit-same f, frees-count f (blockptr s) xs (free n ∷ ys))
 
   next-member : 0 < count (nextAt s f) (rover s ∷ t)
   next-member = omega (arith, ring-next s (rover s) t f (g .links) f-member .2 (nextAt s f), hit-same (nextAt s f))
@@ -153,7 +159,8 @@ module _ {s : List ℕ} {t : List ℕ} (xs : List Block) (n : ℕ) (ys : List Bl
   after-over : over (blockptr s) new ≡ end
   after-over =
       let e : f + (n - size) + (size + 0) ≡ f + n = omega arith in
-      over-append (blockptr s) xs (free (n - size) ∷ array size 0 ∷ ys) ∙ ap (λ (a : ℕ). over a ys) e ∙ sym (over-append (blockptr s) xs (free n ∷ ys))
+      over-append (blockptr s) xs (free (n - size) ∷ array size 0 ∷ ys) ∙ ap (λ (a : ℕ). over a ys) e ∙ sym
+      (over-append (blockptr s) xs (free n ∷ ys))
 
   after-frees : frees (blockptr s) new ≡ frees (blockptr s) old
   after-frees =
@@ -170,7 +177,8 @@ module _ {s : List ℕ} {t : List ℕ} (xs : List Block) (n : ℕ) (ys : List Bl
 
   pub split-heap : (t′ : List ℕ) × Heap after new t′
   split-heap =
-      heap-make g after new after-length (after-same 0 (omega arith) (inl (omega (arith, place)))) (after-same 4 (omega arith) (inl (omega (arith, place))))
+      heap-make g after new after-length (after-same 0 (omega arith) (inl (omega (arith, place))))
+      (after-same 4 (omega arith) (inl (omega (arith, place))))
       (above (sbase s - 1) (omega (arith, g .top))) after-walk after-over
       (rover s) t (links-same s after (rover s) t (rover s) (g .links) member-same (member-same (rover s) (omega (arith, hit-same (rover s)))))
       (λ x. rw after-frees (g .once x))
@@ -184,6 +192,7 @@ module _ {s : List ℕ} {t : List ℕ} (xs : List Block) (n : ℕ) (ys : List Bl
   pub split-leaves : Leaves s after old
   split-leaves = record {
     long = after-length;
-    base = setRover-base _ _ (omega (arith, split-length s f (n - size) size, place)) next-small ∙ ap (λ (w : ℕ). w / 2 ^ 16) (split-other s _ _ _ 1 (omega (arith, place, n3, big)));
+    base = setRover-base _ _ (omega (arith, split-length s f (n - size) size, place)) next-small ∙ ap (λ (w : ℕ). w / 2 ^ 16)
+        (split-other s _ _ _ 1 (omega (arith, place, n3, big)));
     quiet = quiet-same;
   }

@@ -28,7 +28,9 @@ module _ {s : List ℕ} {bs : List Block} {t : List ℕ} (g : Heap s bs t) (i v 
   pub store-heap : (t′ : List ℕ) × Heap (set s i v) bs t′
   store-heap =
       let ro : rover (set s i v) ≡ rover s = ap (λ (w : ℕ). w % 2 ^ 16) (low 1 (omega arith)) in
-      heap-make g (set s i v) bs (length-set s i v) (low 0 (omega arith)) (low 4 (omega arith)) (same (sbase s - 1) (omega (arith, g .top, inner-below (blockptr s) bs i inn))) (walk-inner s (set s i v) i same (blockptr s) false bs (g .walk) inn) refl
+      heap-make g (set s i v) bs (length-set s i v) (low 0 (omega arith)) (low 4 (omega arith))
+      (same (sbase s - 1) (omega (arith, g .top, inner-below (blockptr s) bs i inn)))
+      (walk-inner s (set s i v) i same (blockptr s) false bs (g .walk) inn) refl
       (rover s) t (links-same s (set s i v) (rover s) t (rover s) (g .links) member-same (member-same (rover s) (omega (arith, hit-same (rover s)))))
       (g .once)
       (rw ro (omega (arith, g .once (rover s), hit-same (rover s))))

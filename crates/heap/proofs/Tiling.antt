@@ -37,14 +37,18 @@ extent-of a (b ∷ bs) i l u =
 
 pub tiling-theorem : {s : List ℕ} {bs : List Block} {t : List ℕ} → Heap s bs t → Tiling s bs
 tiling-theorem {s} {bs} g = record {
-  apart = λ x z y v i h k d p q. ⊎-elim (λ (e : (x ≡ y) × (z ≡ v)). d (e .0)) (⊎-elim (λ (e : x + z ≤ y). omega (arith, e, p, q)) (λ (e : y + v ≤ x). omega (arith, e, p, q)))
+  apart =
+      λ x z y v i h k d p q. ⊎-elim (λ (e : (x ≡ y) × (z ≡ v)). d (e .0))
+      (⊎-elim (λ (e : x + z ≤ y). omega (arith, e, p, q)) (λ (e : y + v ≤ x). omega (arith, e, p, q)))
       (array-apart s (blockptr s) false bs x z y v (g .walk) h k);
   holder = λ i l u. let r = extent-of (blockptr s) bs i l (omega (arith, g .top)) in record {
     x = r .0;
     n = r .1;
     block = r .2;
     holds = r .3;
-    only = λ y m h b c. ⊎-elim (λ (e : (y ≡ r .0) × (m ≡ r .1)). e) (⊎-elim (λ (e : r .0 + r .1 ≤ y). absurd (omega (arith, e, r .3))) (λ (e : y + m ≤ r .0). absurd (omega (arith, e, r .3))))
+    only =
+        λ y m h b c. ⊎-elim (λ (e : (y ≡ r .0) × (m ≡ r .1)). e)
+        (⊎-elim (λ (e : r .0 + r .1 ≤ y). absurd (omega (arith, e, r .3))) (λ (e : y + m ≤ r .0). absurd (omega (arith, e, r .3))))
         (extent-apart s (blockptr s) false bs (r .0) (r .1) y m (g .walk) (r .2) h);
   };
 }

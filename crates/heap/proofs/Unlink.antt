@@ -28,7 +28,10 @@ unlink-ring s f b vs h one lim = ⊎-elim none some (snoc-cases vs)
         let k : Links s b [] f = rw e at (h .1) in
         let w = lim b (omega (arith, hit-same b)) in
         rw (e, unlink-is s f b b (h .0 .next) (k .last))
-        (record { next = setLast-next _ _ _ b (w .1) ∙ setNext-next s b b (w .0); last = setLast-last _ b b (omega (arith, w, setNext-length s b b)) (w .1) })
+        (record {
+          next = setLast-next _ _ _ b (w .1) ∙ setNext-next s b b (w .0);
+          last = setLast-last _ b b (omega (arith, w, setNext-length s b b)) (w .1);
+        })
 
     some : (us : List ℕ) × (e : ℕ) × (vs ≡ us ++ e ∷ []) → Links (unlink s f) b vs b
     some r = go (r .0) (r .1) (r .2)
@@ -47,7 +50,10 @@ unlink-ring s f b vs h one lim = ⊎-elim none some (snoc-cases vs)
             (λ x w. setLast-next _ b e x (we .1) ∙ setNext-next-other s e b x (λ z. omega (arith, w, one x, c x, hit-eq x e z)))
             (λ x w. setLast-last-other _ b e x (λ z. omega (arith, w, one x, c x, hit-eq x b z)) ∙ setNext-last s e b x)
             (setLast-last-other _ b e e ne ∙ setNext-last s e b e))
-            (record { next = setLast-next _ b e e (we .1) ∙ setNext-next s e b (we .0); last = setLast-last _ b e (omega (arith, wb, setNext-length s e b)) (we .1) }))
+            (record {
+              next = setLast-next _ b e e (we .1) ∙ setNext-next s e b (we .0);
+              last = setLast-last _ b e (omega (arith, wb, setNext-length s e b)) (we .1);
+            }))
 
 -- reads after an unlink
 module _ (s : List ℕ) (f : ℕ) where
@@ -59,9 +65,11 @@ module _ (s : List ℕ) (f : ℕ) where
   unfolding unlink
   unlink-other i h = setLast-other _ _ _ i (h .1) ∙ setNext-other _ _ _ i (h .0)
 
-  pub unlink-walk : (a : ℕ) (p : Bool) (bs : List Block) → Walk s a p bs → 0 < count (lastAt s f) (over a bs ∷ frees a bs) → 0 < count (nextAt s f) (over a bs ∷ frees a bs)
+  pub unlink-walk : (a : ℕ) (p : Bool) (bs : List Block) → Walk s a p bs → 0 < count (lastAt s f) (over a bs ∷ frees a bs)
+      → 0 < count (nextAt s f) (over a bs ∷ frees a bs)
       → Walk (unlink s f) a p bs
   unfolding unlink
   unlink-walk a p bs h l n =
       let m = setNext s (lastAt s f) (nextAt s f) in
-      walk-second m _ (nextAt s f) (λ i w. setLast-other m _ _ i w) a p bs (walk-second s m (lastAt s f) (λ i w. setNext-other _ _ _ i w) a p bs h l) n
+      walk-second m _ (nextAt s f) (λ i w. setLast-other m _ _ i w) a p bs
+      (walk-second s m (lastAt s f) (λ i w. setNext-other _ _ _ i w) a p bs h l) n

@@ -1,8 +1,9 @@
 -- The search, a request, ROVER's move and a release, each by its ways.
 use Prim.Native.Nat.{ℕ, zero, suc, _+_, _-_, _<_, _≤_}
-use mathlib.Core.Path.{_≡_, _∙_}
-use mathlib.Core.Bool.{true, false, cond}
+use mathlib.Core.Path.{_≡_, refl, _∙_}
+use mathlib.Core.Bool.{Bool, true, false, cond}
 use mathlib.Core.List.{List}
+use mathlib.Core.Logic.{_⊎_, inl, inr}
 use native.Mathlib.Omega.{arith}
 use lib.Dec.{leb, eqb}
 use borrow.Author.Tests.{le-leb, lt-leb, eq-eqb, ne-eqb}
@@ -11,6 +12,10 @@ use Rattle.segment.specs.Blocks.{freeAt, prevFreeAt, sizeAt, spanAt, nextAt}
 use Rattle.storage.specs.Ring.{moveRover}
 use Rattle.storage.specs.Request.{findFrom, find, split, whole, give, given, requestAt, request}
 use Rattle.storage.specs.Release.{joinBoth, joinBefore, joinAfter, joinNone, release}
+
+pub decide : (b : Bool) → (b ≡ true) ⊎ (b ≡ false)
+decide true = inl refl
+decide false = inr refl
 
 -- a turn of the search
 pub findFrom-step : (n : ℕ) (s : List ℕ) (size stop at : ℕ) → 0 < n

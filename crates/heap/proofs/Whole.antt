@@ -14,7 +14,7 @@ use Rattle.storage.specs.Request.{whole}
 use Rattle.storage.specs.Heap.{Block, prevFreeBit, Walk, over, frees, hit, count, Links, Heap, free, array}
 use Rattle.heap.specs.Words.{Quiet, Leaves}
 use Rattle.heap.proofs.Walks.{over-le, walk-replace, walk-clear}
-use Rattle.heap.proofs.Counts.{hit-cases, hit-same, hit-eq, count-append, frees-append, over-append, frees-cases}
+use Rattle.heap.proofs.Counts.{hit-cases, hit-same, hit-eq, frees-count, over-append, frees-cases}
 use Rattle.heap.proofs.Ring.{links-same, links-last}
 use Rattle.heap.proofs.Search.{members-once, member-within, free-ring}
 use Rattle.heap.proofs.Fields.{setRover-other, setRover-rover, setRover-length, setRover-base}
@@ -46,7 +46,8 @@ module _ (s : List ℕ) (f slop size : ℕ) where
         let l : f + size + slop < length (unlink s f) = omega (arith, unlink-length s f) in
         simp (getD-set-other, getD-set-same, lt-length-set)
 
-module _ {s : List ℕ} {t : List ℕ} (xs : List Block) (n : ℕ) (ys : List Block) (size : ℕ) (g : Heap s (xs ++ free n ∷ ys) t) (n3 : 3 ≤ size) (fits : size ≤ n) (small : n < size + 3) where
+module _ {s : List ℕ} {t : List ℕ} (xs : List Block) (n : ℕ) (ys : List Block) (size : ℕ) (g : Heap s (xs ++ free n ∷ ys) t) (n3 : 3 ≤ size)
+    (fits : size ≤ n) (small : n < size + 3) where
   -- the found block, the end, and the segment after the request
   abbrev f : ℕ
   f = over (blockptr s) xs
@@ -67,12 +68,16 @@ module _ {s : List ℕ} {t : List ℕ} (xs : List Block) (n : ℕ) (ys : List Bl
   after = setRover (whole s f (n - size) size) (nextAt s f)
 
   place : (8 ≤ blockptr s) × (blockptr s ≤ f) × (f + n ≤ end) × (end + 3 ≤ length s) × (length s ≤ 16384)
-  place =
-      (g .low, over-le (blockptr s) xs, omega (arith, over-append (blockptr s) xs (free n ∷ ys), over-le (f + n) ys), omega (arith, g .top, g .room), g .short)
+  place = (
+    g .low,
+    over-le (blockptr s) xs,
+    omega (arith, over-append (blockptr s) xs (free n ∷ ys), over-le (f + n) ys),
+    omega (arith, g .top, g .room),
+    g .short,
+  )
 
   f-free : 0 < count f members
-  f-free =
-      omega (arith, hit-same f, ap (count f) (frees-append (blockptr s) xs (free n ∷ ys)), count-append f (frees (blockptr s) xs) (frees f (free n ∷ ys)))
+  f-free = omega (arith, hit-same f, frees-count f (blockptr s) xs (free n ∷ ys))
 
   -- the ring from the found block
   turned : (b : ℕ) × (vs : List ℕ) × Links s f (b ∷ vs) f × ((x : ℕ) → count x (f ∷ b ∷ vs) ≡ count x (end ∷ members))
@@ -113,7 +118,8 @@ module _ {s : List ℕ} {t : List ℕ} (xs : List Block) (n : ℕ) (ys : List Bl
           record {
             least = n3;
             small = omega arith;
-            first = setRover-other _ _ f (omega (arith, place)) ∙ whole-first s f (n - size) size n3 (omega (arith, place)) ∙ omega (arith, ap prevFreeBit (w .0 .alone));
+            first = setRover-other _ _ f (omega (arith, place)) ∙ whole-first s f (n - size) size n3 (omega (arith, place)) ∙ omega
+                (arith, ap prevFreeBit (w .0 .alone));
           },
           let e : f + (size + (n - size)) ≡ f + n = omega arith in
               rw e
@@ -147,38 +153,44 @@ module _ {s : List ℕ} {t : List ℕ} (xs : List Block) (n : ℕ) (ys : List Bl
         let e : f + (size + (n - size)) ≡ f + n = omega arith in
         omega (
           arith,
-          ap (count x) (frees-append (blockptr s) xs (free n ∷ ys)),
-          count-append x (frees (blockptr s) xs) (frees f (free n ∷ ys)),
-          ap (count x) (frees-append (blockptr s) xs (array size (n - size) ∷ ys)),
-          count-append x (frees (blockptr s) xs) (frees f (array size (n - size) ∷ ys)),
+          frees-count x (blockptr s) xs (free n ∷ ys),
+          frees-count x (blockptr s) xs (array size (n - size) ∷ ys),
           ap (λ (a : ℕ). count x (frees a ys)) e,
         )
 
     after-rover : rover after ≡ b
-    after-rover = setRover-rover _ _ (omega (arith, whole-length s f (n - size) size, place)) (omega (arith, place, within (nextAt s f) next-in)) ∙ h .0 .next
+    after-rover =
+        setRover-rover _ _ (omega (arith, whole-length s f (n - size) size, place)) (omega (arith, place, within (nextAt s f) next-in)) ∙ h .0 .next
 
     above : (i : ℕ) → end + 2 ≤ i → getD after i 0 ≡ getD s i 0
-    above i k = after-same i (omega (arith, place)) ∙ unlink-other s f i (omega (arith, place, within (lastAt s f) last-in, within (nextAt s f) next-in))
+    above i k =
+        after-same i (omega (arith, place)) ∙ unlink-other s f i (omega (arith, place, within (lastAt s f) last-in, within (nextAt s f) next-in))
 
     whole-after : (t′ : List ℕ) × Heap after new t′
     whole-after =
-        heap-make g after new after-length (after-low 0 (omega arith) (omega arith)) (after-low 4 (omega arith) (omega arith)) (above (sbase s - 1) (omega (arith, g .top))) after-walk after-over
+        heap-make g after new after-length (after-low 0 (omega arith) (omega arith)) (after-low 4 (omega arith) (omega arith))
+        (above (sbase s - 1) (omega (arith, g .top))) after-walk after-over
         b vs (links-same (unlink s f) after b vs b ring1 member-same (member-same b (omega (arith, hit-same b))))
         (λ x. omega (arith, c x, after-count x))
         (rw after-rover (omega (arith, c b, after-count b, hit-same b)))
 
     quiet-same : (i : ℕ) → i ≢ 1 → Quiet s old i → getD after i 0 ≡ getD s i 0
-    quiet-same i k (inl q) = after-same i (omega (arith, place)) ∙ unlink-other s f i (omega (arith, place, within (lastAt s f) last-in, within (nextAt s f) next-in))
+    quiet-same i k (inl q) =
+        after-same i (omega (arith, place)) ∙ unlink-other s f i (omega (arith, place, within (lastAt s f) last-in, within (nextAt s f) next-in))
     quiet-same i k (inr (inl q)) = above i (omega (arith, g .top))
     quiet-same i k (inr (inr q)) =
         after-same i (⊎-elim (λ l. omega (arith, k, l)) (λ l. omega (arith, k, l)) (inner-cases (blockptr s) xs n ys i q))
-        ∙ unlink-other s f i (inner-apart s (blockptr s) false old (lastAt s f) i (g .walk) q last-in, inner-apart s (blockptr s) false old (nextAt s f) i (g .walk) q next-in)
+        ∙ unlink-other s f i (
+          inner-apart s (blockptr s) false old (lastAt s f) i (g .walk) q last-in,
+          inner-apart s (blockptr s) false old (nextAt s f) i (g .walk) q next-in,
+        )
 
     whole-left : Leaves s after old
     whole-left = record {
       long = after-length;
       base = setRover-base _ _ (omega (arith, whole-length s f (n - size) size, place)) (omega (arith, place, within (nextAt s f) next-in))
-          ∙ ap (λ (w : ℕ). w / 2 ^ 16) (whole-other s f (n - size) size 1 (omega (arith, place)) ∙ unlink-other s f 1 (omega (arith, place, within (lastAt s f) last-in, within (nextAt s f) next-in)));
+          ∙ ap (λ (w : ℕ). w / 2 ^ 16) (whole-other s f (n - size) size 1 (omega (arith, place)) ∙ unlink-other s f 1
+          (omega (arith, place, within (lastAt s f) last-in, within (nextAt s f) next-in)));
       quiet = quiet-same;
     }
 

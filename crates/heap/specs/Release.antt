@@ -3,7 +3,7 @@
 use Prim.Native.Nat.{ℕ, _+_, _≤_, _<_}
 use mathlib.Core.Path.{_≡_}
 use mathlib.Core.Logic.{_↔_, _≢_, _⊎_}
-use mathlib.Core.List.{List, [], _∷_}
+use mathlib.Core.List.{List, _∷_}
 use Rattle.segment.specs.State.{blockptr}
 use Rattle.segment.specs.Blocks.{sizeAt, slopAt, spanAt}
 use Rattle.storage.specs.Release.{release}

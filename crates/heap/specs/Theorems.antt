@@ -8,7 +8,7 @@ use Rattle.heap.specs.Tiling.{Tiling}
 use Rattle.heap.specs.Request.{Request}
 use Rattle.heap.specs.Release.{Release}
 
-pub record Theorems : Type 0 where
+pub record HeapTheorems : Type 0 where
   pub tiling : (s : List ℕ) (blocks : List Block) (ring : List ℕ) → Heap s blocks ring → Tiling s blocks
   pub request : (s : List ℕ) (blocks : List Block) (ring : List ℕ) (size : ℕ) → Heap s blocks ring → 3 ≤ size → Request s blocks size
   pub release : (s : List ℕ) (blocks : List Block) (ring : List ℕ) (x size : ℕ) → Heap s blocks ring → ArrayIn (blockptr s) blocks x size → Release s blocks x

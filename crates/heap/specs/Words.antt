@@ -1,6 +1,6 @@
 -- Which words of array storage belong to which block, told by the list of blocks from an address on.
 -- A reader must believe: these are the words that a block covers, SIZE + SLOP of them. Assumes nothing.
-use Prim.Native.Nat.{ℕ, _+_, _/_, _^_, _≤_, _<_}
+use Prim.Native.Nat.{ℕ, _+_, _≤_, _<_}
 use mathlib.Core.Path.{_≡_}
 use mathlib.Core.Logic.{_⊎_, _≢_}
 use mathlib.Core.List.{List, [], _∷_}

@@ -6,5 +6,6 @@ pub mod Effects
 pub mod Loads
 pub mod Scalars
 pub mod Memory
-pub mod Arrays
 pub mod Control
+pub mod Instructions
+pub mod Examples

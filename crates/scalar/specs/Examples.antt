@@ -8,8 +8,8 @@ use Rattle.scalar.specs.declared.Whole.the-variants as W
 use Rattle.scalar.specs.declared.Truth.the-variants as T
 use Rattle.scalar.specs.Value.{units}
 use Rattle.scalar.specs.Results.{integer, float, rounded, result}
-use Rattle.scalar.specs.Reading.{wholeOf, truthOf}
-use Rattle.scalar.specs.Operators.{identity, negative, ones, wholeNear, floor, ceiling, magnitudeOf, notOf, testNumber, convert, sumSign, sumSize, plus, minus, sum, difference, product, quotient, logicalProduct, logicalSum, less, equal}
+use Rattle.scalar.specs.Reading.{wholeUnits, wholeOf, truthUnits, truthOf}
+use Rattle.scalar.specs.Operators.{identity, negative, ones, wholeNear, floor, ceiling, magnitudeOf, notOf, testNumber, convert, sumSign, sumSize, plus, minus, times, sum, difference, product, ratioOf, quotient, logicalProduct, logicalSum, less, equal}
 
 pub record Marked : Type 0 where
   -- 1 as a float; 1 divided by 2; 8,388,607 + 1; 4,194,304 + 0.5 and 4,194,305 + 0.5, with the floats that they are
@@ -26,7 +26,7 @@ pub record Marked : Type 0 where
   pub m10-zero : integerWord 1 0 ≡ 0
 
 pub marked : Marked
-unfolding units integer float rounded result sumSign sumSize plus sum quotient size
+unfolding units integer float rounded result sumSign sumSize plus sum ratioOf quotient size
 marked = record { m5 = refl; m6 = refl; m7 = refl; m8 = refl; m8-float = refl; m9 = refl; m9-float = refl; m10-plus = refl; m10-minus = refl; m10-zero = refl }
 
 pub record Further : Type 0 where
@@ -66,7 +66,7 @@ pub record Further : Type 0 where
   pub true-float : truthOf 0x60000000 ≡ T.Value true
 
 pub further : Further
-unfolding units integer float rounded result wholeOf truthOf negative ones wholeNear floor ceiling notOf convert sumSign sumSize plus minus sum difference product quotient logicalProduct logicalSum less equal size
+unfolding units integer float rounded result wholeUnits wholeOf truthUnits truthOf negative ones wholeNear floor ceiling notOf convert sumSign sumSize plus minus times sum difference product ratioOf quotient logicalProduct logicalSum less equal size
 further =
     record {
       halves = refl;

@@ -25,7 +25,7 @@ abbrev pub number : ℕ → Answer → Answer
 number a answer = cond (isCharacter a) typeError answer
 
 abbrev pub numbers : ℕ → ℕ → Answer → Answer
-numbers a b answer = number a (number b answer)
+numbers a b answer = cond (isCharacter a || isCharacter b) typeError answer
 
 -- ---- of one operand
 
@@ -72,11 +72,14 @@ unfoldable pub testNumber : ℕ → Answer
 testNumber a = Word (bit (not (isCharacter a)))
 
 -- A character gives its code, a whole number from 0 to 255 the character of that code.
+abbrev pub characterOf : Bool → ℕ → Answer
+characterOf true n = domainError
+characterOf false n = cond (ltb n (2 ^ 8)) (Word (characterWord n)) domainError
+
 abbrev pub converted : ℕ → Whole → Answer
 converted a W.Character = Word (integerWord 0 (code a))
 converted a W.Fraction = domainError
-converted a (W.Number true n) = domainError
-converted a (W.Number false n) = cond (ltb n (2 ^ 8)) (Word (characterWord n)) domainError
+converted a (W.Number negative n) = characterOf negative n
 
 unfoldable pub convert : ℕ → Answer
 convert a = converted a (wholeOf a)
@@ -107,13 +110,18 @@ difference a b = numbers a b (minus a b)
 abbrev pub productSign : ℕ → ℕ → ℕ
 productSign a b = (sign a + sign b) % 2
 
+unfoldable pub times : ℕ → ℕ → Answer
+times a b = result (oneFloat a b) (productSign a b) (units a * units b) one
+
 unfoldable pub product : ℕ → ℕ → Answer
-product a b = numbers a b (result (oneFloat a b) (productSign a b) (units a * units b) one)
+product a b = numbers a b (times a b)
 
 -- "(8,4) -- Zero divisor if the second operand is zero"; the result is a float, or integer 0.
+unfoldable pub ratioOf : ℕ → ℕ → Answer
+ratioOf a b = cond (eqb (units b) 0) zeroDivisor (rounded (productSign a b) (units a * one) (units b))
+
 unfoldable pub quotient : ℕ → ℕ → Answer
-quotient a b =
-    numbers a b (cond (eqb (units b) 0) zeroDivisor (rounded (productSign a b) (units a * one) (units b)))
+quotient a b = numbers a b (ratioOf a b)
 
 -- AND and OR of what the operands are read as.
 abbrev pub logical : (Bool → Bool → Bool) → Truth → Truth → Answer

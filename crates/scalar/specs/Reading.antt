@@ -14,15 +14,18 @@ use Rattle.scalar.specs.declared.Truth.the-variants as T
 abbrev pub wholeNumber : ℕ → ℕ → Whole
 wholeNumber s n = W.Number (eqb s 1 && ltb 0 n) (min n (2 ^ 23))
 
--- Integral: a whole number of ones, exactly, an integer or a float.
+-- Integral: a whole number of ones, exactly, an integer or a float. Here of a sign and a number of units.
+unfoldable pub wholeUnits : ℕ → ℕ → Whole
+wholeUnits s n = cond (eqb (n % one) 0) (wholeNumber s (n / one)) W.Fraction
+
 unfoldable pub wholeOf : ℕ → Whole
-wholeOf w =
-    cond (isCharacter w) W.Character
-    (cond (eqb (units w % one) 0) (wholeNumber (sign w) (units w / one)) W.Fraction)
+wholeOf w = cond (isCharacter w) W.Character (wholeUnits (sign w) (units w))
 
 -- Logical: exactly zero or one, an integer or a float.
+unfoldable pub truthUnits : ℕ → ℕ → Truth
+truthUnits s n =
+    cond (eqb n 0) (T.Value false)
+    (cond (eqb n one && eqb s 0) (T.Value true) T.Other)
+
 unfoldable pub truthOf : ℕ → Truth
-truthOf w =
-    cond (isCharacter w) T.Character
-    (cond (eqb (units w) 0) (T.Value false)
-    (cond (eqb (units w) one && eqb (sign w) 0) (T.Value true) T.Other))
+truthOf w = cond (isCharacter w) T.Character (truthUnits (sign w) (units w))

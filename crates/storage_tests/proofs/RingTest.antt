@@ -1,14 +1,14 @@
 -- Test 15 passes exactly where there is a ring.
-use Prim.Native.Nat.{ℕ, zero, suc, _+_, _-_, _<_, _≤_}
+use Prim.Native.Nat.{ℕ, zero, suc, _-_, _<_, _≤_}
 use mathlib.Core.Path.{_≡_, refl, sym, _∙_}
 use mathlib.Core.Bool.{Bool, true, false}
 use mathlib.Core.List.{List, [], _∷_}
 use native.Mathlib.Omega.{arith}
 use lib.ListN.{length}
-use lib.Dec.{leb, eqb}
+use lib.Dec.{leb}
 use borrow.Author.Tests.{leb-true, leb-false, eqb-true, le-leb, eq-eqb}
 use Rattle.segment.specs.State.{rover}
-use Rattle.segment.specs.Blocks.{nextAt, lastAt, dummy}
+use Rattle.segment.specs.Blocks.{nextAt, dummy}
 use Rattle.storage.specs.Heap.{count, Link, Links}
 use Rattle.heap.proofs.Counts.{hit-same, count-length}
 use Rattle.heap.proofs.Ring.{ring-at}
@@ -35,8 +35,8 @@ round-sound zero s end a l e h = ([], link-sound s a end (sym (step-last s end a
 round-sound (suc n) s end a l e h = go (linked s a (nextAt s a)) refl (leb 1 (count (nextAt s a) l)) refl (round-sound n s end (nextAt s a) (without (nextAt s a) l))
   where
     go : (t : Bool) → linked s a (nextAt s a) ≡ t → (u : Bool) → leb 1 (count (nextAt s a) l) ≡ u
-      → (length (without (nextAt s a) l) ≡ n → roundFrom n s end (nextAt s a) (without (nextAt s a) l) ≡ true → (ring : List ℕ) × Links s (nextAt s a) ring end × ((x : ℕ) → count x ring ≡ count x (without (nextAt s a) l)))
-      → (ring : List ℕ) × Links s a ring end × ((x : ℕ) → count x ring ≡ count x l)
+        → (length (without (nextAt s a) l) ≡ n → roundFrom n s end (nextAt s a) (without (nextAt s a) l) ≡ true → (ring : List ℕ) × Links s (nextAt s a) ring end × ((x : ℕ) → count x ring ≡ count x (without (nextAt s a) l)))
+        → (ring : List ℕ) × Links s a ring end × ((x : ℕ) → count x ring ≡ count x l)
     go false p u q r = absurd (never (sym (step-bad s end a l (suc n) (omega arith) p) ∙ h))
     go true p false q r = absurd (never (sym (step-missing s end a l (suc n) (omega arith) p (omega (arith, leb-false 1 (count (nextAt s a) l) q))) ∙ h))
     go true p true q r =

@@ -1,15 +1,15 @@
 -- Tests 13, 14 and 15 accept exactly what is stored as document 01 has it.
 use Prim.Native.Nat.{ℕ, _+_, _-_, _^_, _<_, _≤_}
-use mathlib.Core.Path.{_≡_, refl, sym, _∙_, ap}
-use mathlib.Core.Bool.{Bool, true, false}
-use mathlib.Core.List.{List, [], _∷_}
+use mathlib.Core.Path.{_≡_, _∙_}
+use mathlib.Core.Bool.{true, false}
+use mathlib.Core.List.{List}
 use native.Mathlib.Omega.{arith}
 use lib.ListN.{getD, length}
 use lib.Dec.{eqb}
 use borrow.Author.Tests.{eqb-true, eq-eqb}
-use Rattle.segment.specs.State.{sbase, rover, blockptr}
+use Rattle.segment.specs.State.{sbase, blockptr}
 use Rattle.segment.specs.Blocks.{sizeAt, dummy}
-use Rattle.storage.specs.Heap.{Block, Walk, over, frees, count, Heap}
+use Rattle.storage.specs.Heap.{Block, Walk, over, frees}
 use Rattle.storage.specs.Owned.{ArrayIn, Inside}
 use Rattle.storage_tests.specs.Tests.{every}
 use Rattle.storage_tests.specs.Head.{Head}
@@ -18,7 +18,7 @@ use Rattle.storage_tests.specs.Structure.{Passed, Stored, arrays, Struct
 use Rattle.storage_tests.proofs.Tests.{both, passes, every-at, every-all}
 use Rattle.storage_tests.proofs.StateWords.{head-sound, head-complete}
 use Rattle.storage_tests.proofs.Insides.{array-sound, array-complete}
-use Rattle.storage_tests.proofs.Tiling.{Tiled, walk-sound, walk-complete, walk-frees, walk-arrays, array-counted, array-named}
+use Rattle.storage_tests.proofs.Tiling.{Tiled, walk-sound, walk-complete, walk-starts, array-counted, array-named}
 use Rattle.storage_tests.proofs.RingTest.{Ringed, ring-sound, ring-complete}
 
 -- blocks that tile the storage of a segment whose state words are right
@@ -35,11 +35,11 @@ module _ (s : List ℕ) (h : Head s) (short : length s ≤ 16384) (blocks : List
 
   pub frees-are : freeStarts s ≡ frees (blockptr s) blocks
   unfolding freeStarts
-  frees-are = rw (← o) (walk-frees (length s) s (blockptr s) false blocks w near fuel)
+  frees-are = rw (← o) (walk-starts (length s) s (blockptr s) false blocks w near fuel .0)
 
   pub arrays-are : arrayStarts s ≡ arrays (blockptr s) blocks
   unfolding arrayStarts
-  arrays-are = rw (← o) (walk-arrays (length s) s (blockptr s) false blocks w near fuel)
+  arrays-are = rw (← o) (walk-starts (length s) s (blockptr s) false blocks w near fuel .1)
 
   inside-sound : every (arrayTest s) (arrayStarts s) ≡ true → (x size : ℕ) → ArrayIn (blockptr s) blocks x size → Inside s x size
   inside-sound t x size k =

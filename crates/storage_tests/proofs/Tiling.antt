@@ -5,9 +5,8 @@ use mathlib.Core.Bool.{Bool, true, false}
 use mathlib.Core.List.{List, [], _∷_}
 use mathlib.Core.Logic.{_⊎_, inl, inr, ⊎-elim}
 use native.Mathlib.Omega.{arith}
-use lib.ListN.{getD}
 use borrow.Author.Tests.{eqb-true, eq-eqb}
-use Rattle.segment.specs.Blocks.{freeAt, sizeAt, spanAt}
+use Rattle.segment.specs.Blocks.{freeAt, sizeAt}
 use Rattle.storage.specs.Heap.{Block, free, array, span, isFree, BlockAt, Walk, over, frees, count, hit}
 use Rattle.storage.specs.Owned.{ArrayIn}
 use Rattle.heap.proofs.Walks.{over-le}
@@ -52,33 +51,21 @@ walk-complete n s a before (b ∷ blocks) h l k =
     ∙ rw (r .covers, r .kind) (walk-complete (n - 1) s (a + span b) (isFree b) blocks (h .1) l (omega (arith, r .least)))
 
 -- the starts are those of the blocks
-pub walk-frees : (n : ℕ) (s : List ℕ) (a : ℕ) (before : Bool) (blocks : List Block) → Walk s a before blocks → over a blocks < 2 ^ 16 → over a blocks - a < n
-    → startsFrom true n s a (over a blocks) ≡ frees a blocks
-walk-frees n s a before [] h l k = starts-end s a a n (omega arith) true (omega arith)
-walk-frees n s a before (free m ∷ blocks) h l k =
+pub walk-starts : (n : ℕ) (s : List ℕ) (a : ℕ) (before : Bool) (blocks : List Block) → Walk s a before blocks → over a blocks < 2 ^ 16 → over a blocks - a < n
+    → (startsFrom true n s a (over a blocks) ≡ frees a blocks) × (startsFrom false n s a (over a blocks) ≡ arrays a blocks)
+walk-starts n s a before [] h l k = (starts-end s a a n (omega arith) true (omega arith), starts-end s a a n (omega arith) false (omega arith))
+walk-starts n s a before (free m ∷ blocks) h l k =
     let o = over-le (a + m) blocks in
     let r = seen s a before (free m) (h .0) (omega arith) in
-    free-hit s a _ n (omega arith) (omega (arith, r .least)) (r .kind)
-    ∙ ap (λ (t : List ℕ). a ∷ t) (rw (r .steps) (walk-frees (n - 1) s (a + m) true blocks (h .1) l (omega (arith, r .least))))
-walk-frees n s a before (array z m ∷ blocks) h l k =
+    let low : a < over (a + m) blocks = omega (arith, r .least) in
+    let t = walk-starts (n - 1) s (a + m) true blocks (h .1) l (omega (arith, r .least)) in
+    (free-hit s a _ n (omega arith) low (r .kind) ∙ ap (λ (rest : List ℕ). a ∷ rest) (rw (r .steps) (t .0)), array-miss s a _ n (omega arith) low (r .kind) ∙ rw (r .steps) (t .1))
+walk-starts n s a before (array z m ∷ blocks) h l k =
     let o = over-le (a + (z + m)) blocks in
     let r = seen s a before (array z m) (h .0) (omega arith) in
-    free-miss s a _ n (omega arith) (omega (arith, r .least)) (r .kind)
-    ∙ rw (r .steps) (walk-frees (n - 1) s (a + (z + m)) false blocks (h .1) l (omega (arith, r .least)))
-
-pub walk-arrays : (n : ℕ) (s : List ℕ) (a : ℕ) (before : Bool) (blocks : List Block) → Walk s a before blocks → over a blocks < 2 ^ 16 → over a blocks - a < n
-    → startsFrom false n s a (over a blocks) ≡ arrays a blocks
-walk-arrays n s a before [] h l k = starts-end s a a n (omega arith) false (omega arith)
-walk-arrays n s a before (free m ∷ blocks) h l k =
-    let o = over-le (a + m) blocks in
-    let r = seen s a before (free m) (h .0) (omega arith) in
-    array-miss s a _ n (omega arith) (omega (arith, r .least)) (r .kind)
-    ∙ rw (r .steps) (walk-arrays (n - 1) s (a + m) true blocks (h .1) l (omega (arith, r .least)))
-walk-arrays n s a before (array z m ∷ blocks) h l k =
-    let o = over-le (a + (z + m)) blocks in
-    let r = seen s a before (array z m) (h .0) (omega arith) in
-    array-hit s a _ n (omega arith) (omega (arith, r .least)) (r .kind)
-    ∙ ap (λ (t : List ℕ). a ∷ t) (rw (r .steps) (walk-arrays (n - 1) s (a + (z + m)) false blocks (h .1) l (omega (arith, r .least))))
+    let low : a < over (a + (z + m)) blocks = omega (arith, r .least) in
+    let t = walk-starts (n - 1) s (a + (z + m)) false blocks (h .1) l (omega (arith, r .least)) in
+    (free-miss s a _ n (omega arith) low (r .kind) ∙ rw (r .steps) (t .0), array-hit s a _ n (omega arith) low (r .kind) ∙ ap (λ (rest : List ℕ). a ∷ rest) (rw (r .steps) (t .1)))
 
 -- an array among the blocks, by its address and by its SIZE
 pub array-counted : (s : List ℕ) (a : ℕ) (before : Bool) (blocks : List Block) (x size : ℕ) → Walk s a before blocks → over a blocks < 2 ^ 16 → ArrayIn a blocks x size

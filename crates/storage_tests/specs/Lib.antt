@@ -6,3 +6,4 @@ pub mod Ring
 pub mod Marks
 pub mod Answer
 pub mod Structure
+pub mod Examples

@@ -37,6 +37,7 @@ pub fn blocks_test(seg: &[u32], arrays: &mut [u16], frees: &mut [u16]) -> Blocks
     walk(seg, from, end, arrays, frees)
 }
 
+// The walk, where the dummy's last word is 0.
 fn walk(seg: &[u32], from: usize, end: usize, arrays: &mut [u16], frees: &mut [u16]) -> Blocks
     requires { ⌜ (from ≡ blockptr (now seg)) × (end ≡ dummy (now seg)) × (from ≤ end) × (end + 2 < length (now seg)) × (length (now seg) ≤ 16384) × (getD (now seg) (end + 2) 0 ≡ 0) × Clear (now arrays) (length (now seg)) × Clear (now frees) (length (now seg)) ⌝ }
     ensures { λ r. ⌜ r ≡ blocksAnswer (now (seg .entry)) ⌝ }
@@ -109,12 +110,6 @@ fn free_span(seg: &[u32], a: usize, before: bool, size: u32) -> u32
     size
 }
 
-fn prev_free_bit(before: bool) -> u32
-    ensures { λ r. ⌜ r ≡ prevFreeBit before ⌝ }
-{
-    if before { 0x4000_0000 } else { 0 }
-}
-
 fn array_span(seg: &[u32], a: usize, before: bool) -> u32
     requires { ⌜ a < length (now seg) ⌝ }
     ensures { λ r. ⌜ r ≡ arraySpan (now (seg .entry)) a before ⌝ }
@@ -132,4 +127,11 @@ fn array_span(seg: &[u32], a: usize, before: bool) -> u32
         return 0;
     }
     size + slop
+}
+
+// PREVFREE as it stands in a word.
+fn prev_free_bit(before: bool) -> u32
+    ensures { λ r. ⌜ r ≡ prevFreeBit before ⌝ }
+{
+    if before { 0x4000_0000 } else { 0 }
 }

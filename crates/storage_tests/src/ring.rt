@@ -68,5 +68,6 @@ fn linked_to(seg: &[u32], a: u16, b: u16) -> bool
     if next_at(seg, a as u32) != b {
         return false;
     }
-    last_at(seg, b as u32) == a
+    let back = last_at(seg, b as u32);
+    back == a
 }
