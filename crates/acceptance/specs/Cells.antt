@@ -61,7 +61,15 @@ variablesFrom (suc fuel) size s base =
     let start = base - size (codeWordAt s base) in
     range start (base - start) ++ cond (leb base (lastLbaseAt s base)) [] older
 
--- The cells of the frames from the one at `base` down: its temporaries below `top`, its arguments, its locals.
+-- The cells of the frame at `base` that starts at `start`: its temporaries below `top`, which may name its own variables, its
+-- arguments, which may name those of older frames, and its locals.
+unfoldable pub frameCells : List ℕ → (ℕ → ℕ) → (ℕ → ℕ) → (ℕ → ℕ) → ℕ → ℕ → ℕ → ℕ → Bool
+frameCells s arrays own older args start base top =
+    words (top - (base + 2)) (freeCell s arrays own) s (sbase s + base + 2)
+    and words args (freeCell s arrays older) s (sbase s + start)
+    and words (base - (start + args)) (plainCell arrays) s (sbase s + start + args)
+
+-- The cells of the frames from the one at `base` down.
 unfoldable pub cellsFrom : ℕ → (ℕ → ℕ) → (ℕ → ℕ) → List ℕ → (ℕ → ℕ) → ℕ → ℕ → Bool
 cellsFrom zero args size s arrays base top = false
 cellsFrom (suc fuel) args size s arrays base top =
@@ -70,9 +78,7 @@ cellsFrom (suc fuel) args size s arrays base top =
     let bottom = leb base (lastLbaseAt s base) in
     let older = cond bottom [] (variablesFrom fuel size s (lastLbaseAt s base)) in
     let further = cellsFrom fuel args size s arrays (lastLbaseAt s base) start in
-    words (top - (base + 2)) (freeCell s arrays (inList (variablesFrom (suc fuel) size s base))) s (sbase s + base + 2)
-    and words (args w) (freeCell s arrays (inList older)) s (sbase s + start)
-    and words (base - (start + args w)) (plainCell arrays) s (sbase s + start + args w)
+    frameCells s arrays (inList (variablesFrom (suc fuel) size s base)) (inList older) (args w) start base top
     and cond bottom true further
 
 unfoldable pub cellsTest : List ℕ → List ℕ → List ℕ → Bool

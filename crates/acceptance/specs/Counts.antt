@@ -1,7 +1,7 @@
 -- Test 18: "a count that is zero or not the number of cells pointing to the array", with decision 10 of docs/DECISIONS.md.
 -- Assumes nothing.
 use Prim.Native.Nat.{ℕ}
-use mathlib.Core.Bool.{Bool, true, false, cond}
+use mathlib.Core.Bool.{Bool}
 use mathlib.Core.List.{List}
 use lib.Dec.{leb, eqb}
 use Rattle.descriptor.specs.Fields.{arrayWord}

@@ -2,7 +2,8 @@
 -- every other frame starting above the older one's two words, and LTOP at least LBASE + 1", with decision 8 of
 -- docs/DECISIONS.md. Assumes nothing.
 use Prim.Native.Nat.{ℕ, zero, suc, _+_, _-_, _^_}
-use mathlib.Core.Bool.{Bool, true, false, cond}
+use mathlib.Core.Bool.{Bool, false, cond}
+use mathlib.Core.Path.{_≡_}
 use mathlib.Core.List.{List}
 use lib.ListN.{length}
 use lib.Dec.{leb, ltb, eqb}
@@ -39,3 +40,10 @@ framesFrom (suc fuel) has size s base =
 unfoldable pub framesTest : List ℕ → List ℕ → List ℕ → Bool
 framesTest s regular other =
     leb (lbase s + 1) (ltop s) and framesFrom (length s) (known regular other) (variables regular other) s (lbase s)
+
+-- What the code reads of the frame at `base`: its two words, and how many arguments and variables its function has.
+pub record FrameAt (s regular other : List ℕ) (base first second args size : ℕ) : Type 0 where
+  pub last : first ≡ lastLbaseAt s base
+  pub code : second ≡ codeWordAt s base
+  pub arguments : args ≡ arguments regular other (codeWordAt s base)
+  pub variables : size ≡ variables regular other (codeWordAt s base)

@@ -3,3 +3,6 @@ pub mod Frames
 pub mod Cells
 pub mod Counts
 pub mod Refusal
+pub mod Tables
+pub mod Answer
+pub mod Structure

@@ -1,7 +1,7 @@
 -- The table of document 01 for a data segment with its procedure segments: the first test that fails, or 0 where all pass.
 -- Tests go in table order. Assumes nothing.
 use Prim.Native.Nat.{ℕ}
-use mathlib.Core.Bool.{Bool, true, false, cond}
+use mathlib.Core.Bool.{Bool, cond}
 use mathlib.Core.List.{List}
 use lib.ListN.{length}
 use lib.Dec.{leb, eqb}
