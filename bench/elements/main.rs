@@ -1,5 +1,5 @@
 //! Nanoseconds for an element of the loops of the crate `elements`, beside plain Rust that makes the same checks and must
-//! give the same words. Run by bench/elements/run; no test depends on the times.
+//! give the same words. Run by bench/run-elements.
 use std::hint::black_box;
 use std::time::Instant;
 
