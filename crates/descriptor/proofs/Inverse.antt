@@ -37,14 +37,14 @@ float-back t e f he hf =
 
 -- a word of type k with bit 31 clear
 module _ (k below : ℕ) (typed : k < 2 ^ 6) (short : below < 2 ^ 24) where
-  typed-fields : (((k * 2 ^ 24 + below) / 2 ^ 30 % 2 ≡ 1) → ⊥) × (typeNumber (k * 2 ^ 24 + below) ≡ k) × (rest (k * 2 ^ 24 + below) ≡ below) × ((sign (k * 2 ^ 24 + below) ≡ 1) → ⊥)
-  typed-fields = ((λ q. omega (arith, q)), omega arith, omega arith, (λ q. omega (arith, q)))
+  typed-fields : (((k * 2 ^ 24 + below) / 2 ^ 30 % 2 ≡ 1) → ⊥) × (typeNumber (k * 2 ^ 24 + below) ≡ k) × (rest (k * 2 ^ 24 + below) ≡ below) × (sign (k * 2 ^ 24 + below) ≡ 0)
+  typed-fields = ((λ q. omega (arith, q)), omega arith, omega arith, omega arith)
 
   typed-back : (k ≡ 0 → ⊥) → kindOf (k * 2 ^ 24 + below) ≡ unsignedKind k below
   unfolding kindOf
   typed-back positive =
       let h = typed-fields in
-      simp (ne-eqb _ _ (h .0), h .1, ne-eqb k 0 positive, ne-eqb _ _ (h .3), h .2)
+      simp (ne-eqb _ _ (h .0), h .1, ne-eqb k 0 positive, h .3, h .2)
 
 integer-fields : (s m : ℕ) → s ≤ 1 → m ≤ 8388607 → (m ≡ 0 → ⊥) → (((s * 2 ^ 31 + m) / 2 ^ 30 % 2 ≡ 1) → ⊥) × (typeNumber (s * 2 ^ 31 + m) ≡ 0) × (rest (s * 2 ^ 31 + m) ≡ m) × (sign (s * 2 ^ 31 + m) ≡ s) × ((s * 2 ^ 31 + m ≡ 2 ^ 31) → ⊥)
 integer-fields s m hs small some = ((λ q. omega (arith, q)), omega arith, omega arith, omega arith, (λ q. omega (arith, q, some)))
@@ -81,7 +81,7 @@ read-back K.Invalid h = refl
 -- ---- from the word to the kind and back
 
 -- what holds of both arms holds of the arm that is picked
-pick : (P : Kind → Type 0) (t : Bool) (a b : Kind) → (t ≡ true → P a) → (t ≡ false → P b) → P (cond t a b)
+pub pick : (P : Kind → Type 0) (t : Bool) (a b : Kind) → (t ≡ true → P a) → (t ≡ false → P b) → P (cond t a b)
 pick P true a b p q = p refl
 pick P false a b p q = q refl
 
@@ -123,10 +123,10 @@ module _ (w : ℕ) (fits : w < 2 ^ 32) where
         ∙ signed-again (eqb-true (typeNumber w) 0 k) (eqb-false w (2 ^ 31) some) (eqb (rest w) 0) refl)))
 
     -- type k and bit 31 clear
-    typed-again : (k : ℕ) → eqb (sign w) 1 ≡ false → eqb (typeNumber w) k ≡ true → k * 2 ^ 24 + rest w ≡ w
-    typed-again k s e = omega (arith, parts, eqb-false (sign w) 1 s, eqb-true (typeNumber w) k e)
+    typed-again : (k : ℕ) → eqb (sign w) 0 ≡ true → eqb (typeNumber w) k ≡ true → k * 2 ^ 24 + rest w ≡ w
+    typed-again k s e = omega (arith, parts, eqb-true (sign w) 0 s, eqb-true (typeNumber w) k e)
 
-    unsigned-again : eqb (sign w) 1 ≡ false → Again (unsignedKind (typeNumber w) (rest w))
+    unsigned-again : eqb (sign w) 0 ≡ true → Again (unsignedKind (typeNumber w) (rest w))
     unfolding unsignedKind characterKind arrayKind indirectKind undefinedKind
     unsigned-again s =
         pick Again (eqb (typeNumber w) 1) _ _ (λ e. pick Again (ltb (rest w) (2 ^ 8)) _ _ (λ l. inr (typed-again 1 s e)) (λ l. inl refl)) (λ n1.
@@ -143,7 +143,7 @@ module _ (w : ℕ) (fits : w < 2 ^ 32) where
   made-again =
       pick Again (eqb (w / 2 ^ 30 % 2) 1) _ _ float-again (λ plain.
       pick Again (eqb (typeNumber w) 0) _ _ (integer-again plain) (λ k.
-      pick Again (eqb (sign w) 1) _ _ (λ s. inl refl) (unsigned-again plain)))
+      pick Again (eqb (sign w) 0) _ _ (unsigned-again plain) (λ s. inl refl)))
 
 pub inverse : Inverse
 inverse = record { readBack = read-back; madeAgain = made-again }

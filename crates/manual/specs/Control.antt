@@ -20,7 +20,7 @@ use Rattle.manual.specs.Loads.{isUndefined}
 
 -- A place of code is valid from 8 to 7 + 4·NCODE; a jump outside is (3,1).
 abbrev pub jumpTo : Header → ℕ → List Effect → Plan
-jumpTo h place before = stopIf (ltb place codeStart || leb (codeEnd h) place) 3 1 (gives (jumps place ∷ before))
+jumpTo h place before = stopIf (ltb place codeStart || leb (codeEnd h) place) 3 1 (gives (before ++ (jumps place ∷ [])))
 
 unfoldable pub go : Header → ℕ → Plan
 go h place = jumpTo h place []
@@ -31,7 +31,7 @@ goIf seen h next wanted place =
     stopIf (ltb (seen .count) 1) 3 4
     (andThen (valueOf (seen .operand 0)) (λ v.
     andThen (values.truthOfValue v) (λ b.
-    cond (cond wanted b (not b)) (jumpTo h place (discards 1 ∷ [])) (gives (jumps next ∷ discards 1 ∷ [])))))
+    cond (cond wanted b (not b)) (jumpTo h place (discards 1 ∷ [])) (gives (discards 1 ∷ jumps next ∷ [])))))
 
 -- Leaving the function, where so many temporaries are on the stack after the operands in `before` are taken: (3,12), (3,13),
 -- (10,0). The frame's variables go, and its result is pushed if it has one.
@@ -39,7 +39,7 @@ abbrev pub leaving : Seen → Header → ℕ → List Effect → Plan
 leaving seen h temporaries before =
     stopIf (ltb 0 temporaries) 3 12
     (stopIf (seen .bottom) 3 13
-    (stopIf (h .result && isUndefined (seen .result)) 10 0
+    (stopIf (h .result && isUndefined (seen .result (h .result))) 10 0
     (gives (before ++ (leaves (variablesOf h) (h .result) ∷ [])))))
 
 unfoldable pub return : Seen → Header → Plan
@@ -65,7 +65,7 @@ branch seen h line next =
     stopIf (ltb (seen .count) 1) 3 4
     (andThen (valueOf (seen .operand 0)) (λ v.
     stopIf (ltb 1 (values.rank v)) 5 0
-    (cond (eqb (values.size v) 0) (gives (jumps next ∷ discards 1 ∷ []))
+    (cond (eqb (values.size v) 0) (gives (discards 1 ∷ jumps next ∷ []))
     (branchTo seen h line (wholeOf (values.first (v .ravel)))))))
 
 -- CALL: "CALL whose NARGS differs from the header: (3,4)". The frame's second word is P, the function number and PCTR 8.

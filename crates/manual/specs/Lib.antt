@@ -7,3 +7,5 @@ pub mod Loads
 pub mod Scalars
 pub mod Memory
 pub mod Control
+pub mod Instructions
+pub mod Examples

@@ -14,7 +14,7 @@ use Rattle.manual.specs.Values.{any}
 
 -- The result is pushed, and the next instruction follows. "Runtime stack overflow if room for one more cell doesn't exist"
 abbrev pub push : Seen → ℕ → Source → Plan
-push seen next source = stopIf (ltb (seen .room) 1) 1 1 (gives (jumps next ∷ replaces 0 source ∷ []))
+push seen next source = stopIf (ltb (seen .room) 1) 1 1 (gives (replaces 0 source ∷ jumps next ∷ []))
 
 abbrev pub isUndefined : Cell → Bool
 isUndefined undefined = true

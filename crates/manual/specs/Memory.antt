@@ -20,11 +20,11 @@ assigning seen resolved effects =
     (andThen (valueOf (seen .operand 0)) (λ a. gives (effects v))))
 
 unfoldable pub assign : Seen → ℕ → OrTrap Variable → Plan
-assign seen next resolved = assigning seen resolved (λ v. jumps next ∷ stores (v .place) (operand 0) ∷ [])
+assign seen next resolved = assigning seen resolved (λ v. stores (v .place) (operand 0) ∷ jumps next ∷ [])
 
 -- "equivalent to an ASSIGN instruction followed by an EAT1 instruction"
 unfoldable pub assignNoResult : Seen → ℕ → OrTrap Variable → Plan
-assignNoResult seen next resolved = assigning seen resolved (λ v. jumps next ∷ stores (v .place) (operand 0) ∷ discards 1 ∷ [])
+assignNoResult seen next resolved = assigning seen resolved (λ v. stores (v .place) (operand 0) ∷ discards 1 ∷ jumps next ∷ [])
 
 abbrev pub hasNoValue : Cell → Bool
 hasNoValue undefined = true
@@ -43,14 +43,14 @@ assignIndexed seen next rank resolved =
     stopIf (anyCell hasNoValue taken) 3 5
     (stopIf (eqb (values.rank a) 0 || anyCell (λ c. not (isScalarCell c)) taken) 5 0
     (andThen (subscripted (seen .origin) rank (a .shape) subscripts) (λ k.
-    gives (jumps next ∷ storesElement (v .place) k (scalarWord (seen .operand rank)) (rank + 1) ∷ [])))))))
+    gives (storesElement (v .place) k (scalarWord (seen .operand rank)) (rank + 1) ∷ jumps next ∷ [])))))))
 
 -- EAT1, INTERCHANGE, NO_OPERATION.
 unfoldable pub eat : Seen → ℕ → Plan
-eat seen next = stopIf (ltb (seen .count) 1) 3 4 (gives (jumps next ∷ discards 1 ∷ []))
+eat seen next = stopIf (ltb (seen .count) 1) 3 4 (gives (discards 1 ∷ jumps next ∷ []))
 
 unfoldable pub interchange : Seen → ℕ → Plan
-interchange seen next = stopIf (ltb (seen .count) 2) 3 4 (gives (jumps next ∷ swaps ∷ []))
+interchange seen next = stopIf (ltb (seen .count) 2) 3 4 (gives (swaps ∷ jumps next ∷ []))
 
 unfoldable pub noOperation : Seen → ℕ → Plan
 noOperation seen next = gives (jumps next ∷ [])

@@ -29,7 +29,7 @@ resultOf v = cond (eqb (values.rank v) 0) (word (values.first (v .ravel))) (made
 
 -- The result takes the place of n operands.
 abbrev pub replaceBy : ℕ → ℕ → OrTrap Value → Plan
-replaceBy next n result = andThen result (λ v. gives (jumps next ∷ replaces n (resultOf v) ∷ []))
+replaceBy next n result = andThen result (λ v. gives (replaces n (resultOf v) ∷ jumps next ∷ []))
 
 -- Instructions of one operand and of two.
 abbrev pub ofOne : Seen → ℕ → (Value → OrTrap Value) → Plan
@@ -67,7 +67,7 @@ setOrigin seen next =
     stopIf (ltb (seen .count) 1) 3 4
     (andThen (valueOf (seen .operand 0)) (λ v.
     andThen (values.truthOfValue v) (λ b.
-    gives (jumps next ∷ setsOrigin (bit b) ∷ replaces 1 (word (seen .origin)) ∷ []))))
+    gives (setsOrigin (bit b) ∷ replaces 1 (word (seen .origin)) ∷ jumps next ∷ []))))
 
 -- ---- INDEX
 
@@ -117,4 +117,4 @@ index seen next rank =
     stopIf (anyCell isForeign subscripts) 3 5
     (stopIf (eqb (values.rank a) 0 || anyCell (λ c. not (isScalarCell c)) subscripts) 5 0
     (andThen (subscripted (seen .origin) rank (a .shape) subscripts) (λ k.
-    gives (jumps next ∷ replaces (rank + 1) (word (getD (a .ravel) k 0)) ∷ []))))))
+    gives (replaces (rank + 1) (word (getD (a .ravel) k 0)) ∷ jumps next ∷ []))))))

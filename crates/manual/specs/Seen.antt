@@ -32,12 +32,12 @@ pub record Seen : Type 0 where
   -- the temporaries: how many, and the i-th from the top, from 0
   pub count : ℕ
   pub operand : ℕ → Cell
-  -- the variable so many words below LBASE, and the global at that address
-  pub local : ℕ → OrTrap Variable
+  -- the variable so many words below LBASE, of a frame with that many, and the global at that address
+  pub local : ℕ → ℕ → OrTrap Variable
   pub global : ℕ → OrTrap Variable
-  -- is this the bottom frame, and what its result variable holds, where it has one
+  -- is this the bottom frame, and what its result variable holds, if it has one
   pub bottom : Bool
-  pub result : Cell
+  pub result : Bool → Cell
 
 -- "One level of indirect addressing": (3,6) where the target is indirect again. `read` tells what a variable holds.
 abbrev pub followed : Target → Cell → OrTrap Variable
@@ -70,16 +70,16 @@ noOlder [] = true
 noOlder (r ∷ []) = true
 noOlder (r ∷ q ∷ rs) = false
 
--- What is seen of a machine whose current function has that header, on a stack of `words` words.
-unfoldable pub seenOf : Header → ℕ → Machine Cell → Seen
-seenOf h words m =
+-- What is seen of a machine on a stack of `words` words.
+unfoldable pub seenOf : ℕ → Machine Cell → Seen
+seenOf words m =
     let read : Target → Cell = λ t. look undefined t m in
     record {
       origin = iorg (m .flags);
       room = words - depth m;
       count = length (m .temporaries);
       operand = λ i. getD (m .temporaries) i undefined;
-      local = λ v. localAt read (depthOfFrames (m .frames) - 2) (variablesOf h) v;
+      local = λ variables v. localAt read (depthOfFrames (m .frames) - 2) variables v;
       global = λ g. globalAt read (8 + length (m .globals)) g;
       bottom = noOlder (m .frames);
-      result = cond (h .result) (getD (currentCells (m .frames)) 0 undefined) undefined }
+      result = λ has. cond has (getD (currentCells (m .frames)) 0 undefined) undefined }

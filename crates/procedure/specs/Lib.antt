@@ -3,3 +3,5 @@ pub mod Bytes
 pub mod Headers
 pub mod Directory
 pub mod Refusal
+pub mod Accepted
+pub mod Examples

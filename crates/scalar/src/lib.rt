@@ -2,18 +2,35 @@
 ghost use mathlib.Core.Path.{_≡_};
 ghost use Rattle.scalar.specs.Operators as S;
 
-pub mod characters;
-pub mod comparisons;
-pub mod logic;
-pub mod products;
+mod characters;
+mod comparisons;
+mod logic;
+mod products;
 pub mod reading;
-pub mod results;
-pub mod signs;
-pub mod sums;
-pub mod wholes;
+mod results;
+mod signs;
+mod sums;
+mod wholes;
+mod words;
 
+pub use characters::convert;
+pub use characters::test_number;
+pub use comparisons::equal;
+pub use comparisons::less;
+pub use logic::logical_product;
+pub use logic::logical_sum;
+pub use logic::not;
 use operator::Dyadic;
 use operator::Monadic;
+pub use products::product;
+pub use products::quotient;
+pub use signs::identity;
+pub use signs::magnitude;
+pub use signs::negative;
+pub use sums::difference;
+pub use sums::sum;
+pub use wholes::ceiling;
+pub use wholes::floor;
 
 // A scalar's word, or a trap's class and number.
 pub enum Answer {
@@ -40,14 +57,14 @@ pub fn monadic(operator: Monadic, a: u32) -> Answer
     ensures { λ r. ⌜ r ≡ S.monadicOf operator a ⌝ }
 {
     match operator {
-        Monadic::Identity => signs::identity(a),
-        Monadic::Negative => signs::negative(a),
-        Monadic::Floor => wholes::floor(a),
-        Monadic::Ceiling => wholes::ceiling(a),
-        Monadic::Magnitude => signs::magnitude(a),
-        Monadic::Not => logic::not(a),
-        Monadic::TestNumber => characters::test_number(a),
-        Monadic::Convert => characters::convert(a),
+        Monadic::Identity => identity(a),
+        Monadic::Negative => negative(a),
+        Monadic::Floor => floor(a),
+        Monadic::Ceiling => ceiling(a),
+        Monadic::Magnitude => magnitude(a),
+        Monadic::Not => not(a),
+        Monadic::TestNumber => test_number(a),
+        Monadic::Convert => convert(a),
     }
 }
 
@@ -56,13 +73,13 @@ pub fn dyadic(operator: Dyadic, a: u32, b: u32) -> Answer
     ensures { λ r. ⌜ r ≡ S.dyadicOf operator a b ⌝ }
 {
     match operator {
-        Dyadic::Sum => sums::sum(a, b),
-        Dyadic::Difference => sums::difference(a, b),
-        Dyadic::Product => products::product(a, b),
-        Dyadic::Quotient => products::quotient(a, b),
-        Dyadic::LogicalProduct => logic::logical_product(a, b),
-        Dyadic::LogicalSum => logic::logical_sum(a, b),
-        Dyadic::Less => comparisons::less(a, b),
-        Dyadic::Equal => comparisons::equal(a, b),
+        Dyadic::Sum => sum(a, b),
+        Dyadic::Difference => difference(a, b),
+        Dyadic::Product => product(a, b),
+        Dyadic::Quotient => quotient(a, b),
+        Dyadic::LogicalProduct => logical_product(a, b),
+        Dyadic::LogicalSum => logical_sum(a, b),
+        Dyadic::Less => less(a, b),
+        Dyadic::Equal => equal(a, b),
     }
 }

@@ -7,16 +7,16 @@ ghost use Rattle.scalar.specs.Results as R;
 ghost use Rattle.scalar.specs.Operators as S;
 ghost use Rattle.scalar.specs.Parts.{Normal};
 use crate::Answer;
-use crate::reading;
 use crate::results;
+use crate::words;
 
 pub fn product(a: u32, b: u32) -> Answer
     ensures { λ r. ⌜ r ≡ S.product a b ⌝ }
 {
-    if reading::both_small(a, b) {
+    if words::both_small(a, b) {
         return integer_product(a, b);
     }
-    if reading::one_character(a, b) {
+    if words::one_character(a, b) {
         return Answer::Trap(7, 0);
     }
     times(a, b)
@@ -46,8 +46,8 @@ fn integer_product(a: u32, b: u32) -> Answer
 fn float_product(a: u32, b: u32) -> Answer
     ensures { λ r. ⌜ r ≡ R.rounded (S.productSign a b) (units a * units b) one ⌝ }
 {
-    let p = reading::unpack(a);
-    let q = reading::unpack(b);
+    let p = words::unpack(a);
+    let q = words::unpack(b);
     results::rounded(
         (a / 0x8000_0000 + b / 0x8000_0000) % 2,
         p.sig * q.sig,
@@ -58,11 +58,11 @@ fn float_product(a: u32, b: u32) -> Answer
 pub fn quotient(a: u32, b: u32) -> Answer
     ensures { λ r. ⌜ r ≡ S.quotient a b ⌝ }
 {
-    if reading::one_character(a, b) {
+    if words::one_character(a, b) {
         return Answer::Trap(7, 0);
     }
-    let p = reading::unpack(a);
-    let q = reading::unpack(b);
+    let p = words::unpack(a);
+    let q = words::unpack(b);
     if q.sig == 0 {
         return Answer::Trap(8, 4);
     }

@@ -7,8 +7,8 @@ ghost use Rattle.scalar.specs.Value.{one, units, oneFloat};
 ghost use Rattle.scalar.specs.Operators as S;
 ghost use Rattle.scalar.specs.Parts.{Added, placeOf, distanceOf};
 use crate::Answer;
-use crate::reading;
 use crate::results;
+use crate::words;
 
 // A sum's sign and magnitude.
 struct Signed {
@@ -19,7 +19,7 @@ struct Signed {
 pub fn sum(a: u32, b: u32) -> Answer
     ensures { λ r. ⌜ r ≡ S.sum a b ⌝ }
 {
-    if reading::both_small(a, b) {
+    if words::both_small(a, b) {
         return integer_sum(
             a / 0x8000_0000,
             a % 0x80_0000,
@@ -27,7 +27,7 @@ pub fn sum(a: u32, b: u32) -> Answer
             b % 0x80_0000,
         );
     }
-    if reading::one_character(a, b) {
+    if words::one_character(a, b) {
         return Answer::Trap(7, 0);
     }
     plus(a / 0x8000_0000, a, b / 0x8000_0000, b)
@@ -36,10 +36,10 @@ pub fn sum(a: u32, b: u32) -> Answer
 pub fn difference(a: u32, b: u32) -> Answer
     ensures { λ r. ⌜ r ≡ S.difference a b ⌝ }
 {
-    if reading::both_small(a, b) {
+    if words::both_small(a, b) {
         return integer_difference(a, b);
     }
-    if reading::one_character(a, b) {
+    if words::one_character(a, b) {
         return Answer::Trap(7, 0);
     }
     minus(a, b)
@@ -90,8 +90,8 @@ fn float_sum(s: u32, a: u32, t: u32, b: u32) -> Answer
     requires { ⌜ (s < 2) × (t < 2) ⌝ }
     ensures { λ r. ⌜ r ≡ S.plus true s (units a) t (units b) ⌝ }
 {
-    let p = reading::unpack(a);
-    let q = reading::unpack(b);
+    let p = words::unpack(a);
+    let q = words::unpack(b);
     if p.sig == 0 {
         return results::rounded(t, q.sig, q.exp + 150);
     }

@@ -3,13 +3,13 @@ ghost use mathlib.Core.Path.{_≡_};
 ghost use Prim.Native.Nat.{_*_, _^_, _<_};
 ghost use Rattle.scalar.specs.Operators as S;
 use crate::Answer;
-use crate::reading;
 use crate::results;
+use crate::words;
 
 pub fn floor(a: u32) -> Answer
     ensures { λ r. ⌜ r ≡ S.floor a ⌝ }
 {
-    if reading::is_character(a) {
+    if words::is_character(a) {
         return Answer::Trap(7, 0);
     }
     whole_near((a / 0x8000_0000) as u64, a)
@@ -18,7 +18,7 @@ pub fn floor(a: u32) -> Answer
 pub fn ceiling(a: u32) -> Answer
     ensures { λ r. ⌜ r ≡ S.ceiling a ⌝ }
 {
-    if reading::is_character(a) {
+    if words::is_character(a) {
         return Answer::Trap(7, 0);
     }
     whole_near((1 - a / 0x8000_0000) as u64, a)
@@ -32,7 +32,7 @@ fn whole_near(up: u64, a: u32) -> Answer
     if a / 0x4000_0000 % 2 == 0 {
         return results::integer(a / 0x8000_0000, (a % 0x80_0000) as u64);
     }
-    let p = reading::unpack(a);
+    let p = words::unpack(a);
     if 150 < p.exp {
         return Answer::Word(a);
     }

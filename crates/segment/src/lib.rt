@@ -2,7 +2,8 @@
 // storage. Access is total: a read past the end is 0, and a write there does nothing.
 ghost use mathlib.Core.Path.{_≡_};
 ghost use Prim.Native.Nat.{_+_, _-_, _*_, _^_};
-ghost use lib.ListN.{getD, set};
+ghost use lib.ListN.{getD, set, length};
+ghost use lib.Seq.{sets};
 ghost use Rattle.segment.specs.State as fields;
 
 pub mod blocks;
@@ -20,6 +21,32 @@ pub fn put(seg: &mut [u32], i: usize, v: u32)
 {
     if i < seg.len() {
         seg[i] = v;
+    }
+}
+
+// The words from i up are those of `words` from now on.
+pub fn put_all(seg: &mut [u32], i: usize, words: &[u32])
+    ensures { λ _. ⌜ now (seg .exit) ≡ sets (now (seg .entry)) i (now (words .entry)) ⌝ }
+{
+    if seg.len() <= i {
+        return;
+    }
+    let room = seg.len() - i;
+    if words.len() <= room {
+        copy(words, &mut seg[i..i + words.len()]);
+    } else {
+        copy(&words[..room], &mut seg[i..]);
+    }
+}
+
+fn copy(from: &[u32], to: &mut [u32])
+    requires { ⌜ length (now from) ≡ length (now to) ⌝ }
+    ensures { λ _. ⌜ now (to .exit) ≡ now (from .entry) ⌝ }
+{
+    let mut i = 0;
+    while i < from.len() {
+        to[i] = from[i];
+        i += 1;
     }
 }
 

@@ -3,3 +3,7 @@ pub mod Tests
 pub mod Head
 pub mod Blocks
 pub mod Ring
+pub mod Marks
+pub mod Answer
+pub mod Structure
+pub mod Examples

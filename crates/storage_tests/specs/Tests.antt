@@ -5,7 +5,6 @@ use mathlib.Core.List.{List, [], _∷_}
 use lib.ListN.{getD}
 
 infixr 30 _and_
-
 -- Both tests pass; the second is not looked at where the first fails.
 abbrev pub _and_ : Bool → Bool → Bool
 a and b = cond a b false

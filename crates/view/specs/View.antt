@@ -7,7 +7,7 @@ use lib.Dec.{leb}
 use Rattle.segment.specs.State.{sbase, ltop, lbase, flags, blockptr}
 use Rattle.segment.specs.Blocks.{part}
 use Rattle.segment.specs.Stack.{lastLbaseAt, codeWordAt, pctr, downward}
-use Rattle.storage.specs.Owned.{Cell, cell}
+use Rattle.segment.specs.Cells.{Cell, cell}
 use Rattle.view.specs.Machine.{Frame, Machine, mapMachine, allCells}
 
 -- The frame at `base`, whose cells start at the stack address `start`.
