@@ -1,0 +1,254 @@
+// The listing of one procedure segment.
+ghost use Prim.Native.Nat.{_≤_, _<_};
+ghost use lib.ListN.{length};
+use crate::text::array_name;
+use crate::text::control_name;
+use crate::text::field;
+use crate::text::flag;
+use crate::text::hex;
+use crate::text::jump_name;
+use crate::text::memory_name;
+use crate::text::number;
+use crate::text::number_right;
+use crate::text::operator_name;
+use crate::text::say;
+use crate::text::stack_name;
+use crate::text::variable;
+use descriptor::address::CodeAddress;
+use instruction::Decoded;
+use instruction::Instruction;
+use instruction::decode::instruction_at;
+use instruction::family::Family;
+use instruction::family::family_of;
+use procedure::bytes::byte_at;
+use procedure::bytes::word_at;
+use procedure::directory::Function;
+use procedure::directory::entries;
+use procedure::directory::find;
+use procedure::header::Block;
+use procedure::header::Line;
+use procedure::refusal::Fault;
+use procedure::refusal::FunctionFault;
+use procedure::refusal::fault_of;
+
+// All functions of a segment that the tests 11 and 12 accept; else what is wrong.
+pub fn segment(p: &[u8]) {
+    match fault_of(p) {
+        Fault::SegmentLength => say(b": refused 11, shorter than 4 bytes\n"),
+        Fault::Entries => say(b": refused 12, entry 0 or the number of entries\n"),
+        Fault::Function(k, wrong) => {
+            say(b": refused 12, function ");
+            number(k as u64);
+            say(b", ");
+            reason(wrong);
+        }
+        Fault::Nothing => {
+            say(b"\n");
+            functions(p);
+        }
+    }
+}
+
+fn reason(wrong: FunctionFault) {
+    match wrong {
+        FunctionFault::Start => say(b"its block starts in the directory\n"),
+        FunctionFault::End => say(b"its block ends past the segment\n"),
+        FunctionFault::Length => say(b"its length is not that of its header, code and lines\n"),
+        FunctionFault::UnnamedBits => say(b"bits 28-24 of its header are not zero\n"),
+        FunctionFault::Arguments => say(b"NARGS above 15\n"),
+        FunctionFault::ResultLocal => say(b"RESULT without a local\n"),
+        FunctionFault::Variables => say(b"NARGS + NLOCALS above 4096\n"),
+    }
+}
+
+fn functions(p: &[u8]) {
+    let end = entries(p);
+    let mut k = 1;
+    while k < end {
+        function(p, k);
+        k += 1;
+    }
+}
+
+fn function(p: &[u8], k: u16) {
+    let Function::At(block) = find(p, k) else {
+        return;
+    };
+    let h = block.header;
+    say(b"function ");
+    number(k as u64);
+    field(b"word", block.start);
+    flag(b"CALLTRACE", h.calltrace);
+    flag(b"RTNTRACE", h.rtntrace);
+    flag(b"RESULT", h.result);
+    field(b"NARGS", h.nargs);
+    field(b"NLINES", h.nlines);
+    field(b"NLOCALS", h.nlocals);
+    field(b"NCODE", h.ncode);
+    say(b"\n");
+    instructions(p, block);
+}
+
+// Instruction after instruction; a byte that starts none is passed over.
+fn instructions(p: &[u8], block: Block) {
+    let code = block.code(p);
+    let end = block.code_end();
+    let mut at: u32 = 8;
+    while at < end {
+        lines(p, block, at);
+        at = instruction(code, at);
+    }
+}
+
+// The lines that start at a place.
+fn lines(p: &[u8], block: Block, at: u32) {
+    let last = block.header.nlines as u32;
+    let mut i: u32 = 0;
+    while i < last {
+        i += 1;
+        line(p, block, i, at);
+    }
+}
+
+fn line(p: &[u8], block: Block, i: u32, at: u32) {
+    let Line::At(place) = block.line(p, i) else {
+        return;
+    };
+    if place.number() == at {
+        say(b"line ");
+        number(i as u64);
+        say(b"\n");
+    }
+}
+
+// One instruction, and the place after it, which is a later one.
+fn instruction(code: &[u8], at: u32) -> u32
+    requires { ⌜ (at < 262148) × (length (now code) ≤ 262148) ⌝ }
+    ensures { λ r. ⌜ at < r ⌝ }
+{
+    match instruction_at(code, CodeAddress::of(at)) {
+        Decoded::Trap(class, n) => {
+            dump(code, at as usize, at as usize + 1);
+            say(b"trap (");
+            number(class as u64);
+            say(b",");
+            number(n as u64);
+            say(b")\n");
+            at + 1
+        }
+        Decoded::Instruction(i, next) => {
+            dump(code, at as usize, next.number() as usize);
+            name(code, byte_at(code, at as usize), i);
+            say(b"\n");
+            next.number()
+        }
+    }
+}
+
+// The place and the first five bytes.
+fn dump(code: &[u8], from: usize, to: usize) {
+    number_right(from as u64);
+    say(b"  ");
+    let mut k: usize = 0;
+    while k < 5 {
+        byte_column(code, from, to, k);
+        k += 1;
+    }
+    say(b" ");
+}
+
+fn byte_column(code: &[u8], from: usize, to: usize, k: usize) {
+    if from < to {
+        if k < to - from {
+            hex(byte_at(code, from + k) as u64, 2);
+            say(b" ");
+            return;
+        }
+    }
+    say(b"   ");
+}
+
+fn name(code: &[u8], first: u8, i: Instruction) {
+    match i {
+        Instruction::Load(a) => {
+            load_name(family_of(first));
+            variable(a);
+        }
+        Instruction::ShortConstant {
+            negative,
+            magnitude,
+        } => {
+            say(b"SHORTCONST ");
+            if negative {
+                say(b"-");
+            }
+            number(magnitude as u64);
+        }
+        Instruction::Scalar(o) => operator_name(o),
+        Instruction::Memory(o, a) => {
+            memory_name(o);
+            variable(a);
+        }
+        Instruction::Stack(o) => stack_name(o),
+        Instruction::Array(o) => array_name(o),
+        Instruction::Control(o) => control_name(o),
+        Instruction::Jump(o, to) => {
+            jump_name(o);
+            say(b" ");
+            number(to.number() as u64);
+        }
+        Instruction::ConstantScalar(w) => {
+            say(b"CONSTANT_SCALAR ");
+            hex(w as u64, 8);
+        }
+        Instruction::ConstantVector {
+            count,
+            first: words,
+        } => vector(code, count, words),
+        Instruction::Call {
+            arguments,
+            alternate,
+            function: callee,
+        } => call(arguments, alternate, callee),
+        Instruction::Index(rank) => {
+            say(b"INDEX rank ");
+            number(rank as u64);
+        }
+    }
+}
+
+fn load_name(family: Family) {
+    match family {
+        Family::ShortLocal => say(b"SHORTLOCAL"),
+        Family::LongLocal => say(b"LONGLOCAL"),
+        _ => say(b"LONGGLOBAL"),
+    }
+}
+
+fn call(arguments: u16, alternate: bool, callee: u16) {
+    say(b"CALL");
+    field(b"NARGS", arguments);
+    if alternate {
+        say(b" alternate");
+    }
+    field(b"function", callee);
+}
+
+fn vector(code: &[u8], count: u8, words: CodeAddress) {
+    say(b"CONSTANT_VECTOR ");
+    number(count as u64);
+    say(b" from ");
+    number(words.number() as u64);
+    let mut j: u8 = 0;
+    while j < count {
+        word(code, words.number() as u64 + 4 * j as u64);
+        j += 1;
+    }
+}
+
+fn word(code: &[u8], at: u64) {
+    if at < 0x1_0000_0000 {
+        say(b" ");
+        hex(word_at(code, at as u32) as u64, 8);
+    }
+}

@@ -1,0 +1,4 @@
+-- Laws that the proofs of this crate share.
+pub mod Ranges
+pub mod Words
+pub mod Calls
