@@ -2,8 +2,8 @@ use Prim.Native.Nat.{_≤_, _-_}
 use mathlib.Core.Path.{_≡_}
 use lib.ListN.{length}
 use borrow.Author.Needs.{needs}
-use Rattle.scalar_c.proofs.scalar_products.Statement.{statement}
-use Rattle.scalar_c.proofs.scalar_products.Tie as tie
+use Rattle.scalar_export.proofs.scalar_products.Statement.{statement}
+use Rattle.scalar_export.proofs.scalar_products.Tie as tie
 
 abbrev Inv-loop : tie.InvT-loop
 Inv-loop a b out₀ traps₀ i₀ out traps i = (i ≤ length a) × (traps ≤ i) × (length out ≡ length a) × (length b ≡ length a)

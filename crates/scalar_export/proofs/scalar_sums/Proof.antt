@@ -2,8 +2,8 @@ use Prim.Native.Nat.{_≤_, _-_}
 use mathlib.Core.Path.{_≡_}
 use lib.ListN.{length}
 use borrow.Author.Needs.{needs}
-use Rattle.scalar_c.proofs.scalar_quotients.Statement.{statement}
-use Rattle.scalar_c.proofs.scalar_quotients.Tie as tie
+use Rattle.scalar_export.proofs.scalar_sums.Statement.{statement}
+use Rattle.scalar_export.proofs.scalar_sums.Tie as tie
 
 abbrev Inv-loop : tie.InvT-loop
 Inv-loop a b out₀ traps₀ i₀ out traps i = (i ≤ length a) × (traps ≤ i) × (length out ≡ length a) × (length b ≡ length a)
@@ -14,20 +14,20 @@ abbrev μ-loop : tie.MeasureT-loop
 loop-holds : tie.Need-loop-holds Inv-loop μ-loop
 loop-holds c = search needs
 
-mul-quotient : tie.Need-mul-quotient Inv-loop μ-loop
-mul-quotient c = search needs
+mul-sum : tie.Need-mul-sum Inv-loop μ-loop
+mul-sum c = search needs
 
-shared-slice-read-quotient : tie.Need-shared-slice-read-quotient Inv-loop μ-loop
-shared-slice-read-quotient c = search needs
+shared-slice-read-sum : tie.Need-shared-slice-read-sum Inv-loop μ-loop
+shared-slice-read-sum c = search needs
 
-mul-quotient-2 : tie.Need-mul-quotient-2 Inv-loop μ-loop
-mul-quotient-2 c = search needs
+mul-sum-2 : tie.Need-mul-sum-2 Inv-loop μ-loop
+mul-sum-2 c = search needs
 
-shared-slice-read-quotient-2 : tie.Need-shared-slice-read-quotient-2 Inv-loop μ-loop
-shared-slice-read-quotient-2 c = search needs
+shared-slice-read-sum-2 : tie.Need-shared-slice-read-sum-2 Inv-loop μ-loop
+shared-slice-read-sum-2 c = search needs
 
-quotient-requires : tie.Need-quotient-requires Inv-loop μ-loop
-quotient-requires c κs = search needs
+sum-requires : tie.Need-sum-requires Inv-loop μ-loop
+sum-requires c κs = search needs
 
 put-requires : tie.Need-put-requires Inv-loop μ-loop
 put-requires c κs = search needs
@@ -50,18 +50,18 @@ same-length c = search needs
 returns : tie.Need-returns Inv-loop μ-loop
 returns c = search needs
 
-pub scalar-quotients-spec : {M : Type 1} → statement M
-scalar-quotients-spec =
+pub scalar-sums-spec : {M : Type 1} → statement M
+scalar-sums-spec =
     tie.close
     (tie.spec
     Inv-loop
     μ-loop
     loop-holds
-    mul-quotient
-    shared-slice-read-quotient
-    mul-quotient-2
-    shared-slice-read-quotient-2
-    quotient-requires
+    mul-sum
+    shared-slice-read-sum
+    mul-sum-2
+    shared-slice-read-sum-2
+    sum-requires
     put-requires
     add-traps
     add-i

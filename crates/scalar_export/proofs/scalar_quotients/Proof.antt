@@ -2,8 +2,8 @@ use Prim.Native.Nat.{_≤_, _-_}
 use mathlib.Core.Path.{_≡_}
 use lib.ListN.{length}
 use borrow.Author.Needs.{needs}
-use Rattle.scalar_c.proofs.scalar_lesses.Statement.{statement}
-use Rattle.scalar_c.proofs.scalar_lesses.Tie as tie
+use Rattle.scalar_export.proofs.scalar_quotients.Statement.{statement}
+use Rattle.scalar_export.proofs.scalar_quotients.Tie as tie
 
 abbrev Inv-loop : tie.InvT-loop
 Inv-loop a b out₀ traps₀ i₀ out traps i = (i ≤ length a) × (traps ≤ i) × (length out ≡ length a) × (length b ≡ length a)
@@ -14,20 +14,20 @@ abbrev μ-loop : tie.MeasureT-loop
 loop-holds : tie.Need-loop-holds Inv-loop μ-loop
 loop-holds c = search needs
 
-mul-less : tie.Need-mul-less Inv-loop μ-loop
-mul-less c = search needs
+mul-quotient : tie.Need-mul-quotient Inv-loop μ-loop
+mul-quotient c = search needs
 
-shared-slice-read-less : tie.Need-shared-slice-read-less Inv-loop μ-loop
-shared-slice-read-less c = search needs
+shared-slice-read-quotient : tie.Need-shared-slice-read-quotient Inv-loop μ-loop
+shared-slice-read-quotient c = search needs
 
-mul-less-2 : tie.Need-mul-less-2 Inv-loop μ-loop
-mul-less-2 c = search needs
+mul-quotient-2 : tie.Need-mul-quotient-2 Inv-loop μ-loop
+mul-quotient-2 c = search needs
 
-shared-slice-read-less-2 : tie.Need-shared-slice-read-less-2 Inv-loop μ-loop
-shared-slice-read-less-2 c = search needs
+shared-slice-read-quotient-2 : tie.Need-shared-slice-read-quotient-2 Inv-loop μ-loop
+shared-slice-read-quotient-2 c = search needs
 
-less-requires : tie.Need-less-requires Inv-loop μ-loop
-less-requires c κs = search needs
+quotient-requires : tie.Need-quotient-requires Inv-loop μ-loop
+quotient-requires c κs = search needs
 
 put-requires : tie.Need-put-requires Inv-loop μ-loop
 put-requires c κs = search needs
@@ -50,18 +50,18 @@ same-length c = search needs
 returns : tie.Need-returns Inv-loop μ-loop
 returns c = search needs
 
-pub scalar-lesses-spec : {M : Type 1} → statement M
-scalar-lesses-spec =
+pub scalar-quotients-spec : {M : Type 1} → statement M
+scalar-quotients-spec =
     tie.close
     (tie.spec
     Inv-loop
     μ-loop
     loop-holds
-    mul-less
-    shared-slice-read-less
-    mul-less-2
-    shared-slice-read-less-2
-    less-requires
+    mul-quotient
+    shared-slice-read-quotient
+    mul-quotient-2
+    shared-slice-read-quotient-2
+    quotient-requires
     put-requires
     add-traps
     add-i
