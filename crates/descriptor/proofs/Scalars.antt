@@ -56,9 +56,9 @@ module _ (w : ℕ) (fits : w < 2 ^ 32) (plain : (w / 2 ^ 30 % 2 ≡ 1) → ⊥) 
       no-scalar (typeNumber w) (rest w) e
       ∙ sym (ne-eqb (w / 2 ^ 8) (2 ^ 16) (λ q. omega (arith, q, eqb-false (typeNumber w) 1 e)))
 
-  signed : (t : Bool) → eqb (sign w) 1 ≡ t → scalarKind (cond (eqb (sign w) 1) K.Invalid (unsignedKind (typeNumber w) (rest w))) ≡ eqb (w / 2 ^ 8) (2 ^ 16)
-  signed true e = simp (e, ne-eqb (w / 2 ^ 8) (2 ^ 16) (λ q. omega (arith, q, eqb-true (sign w) 1 e)))
-  signed false e = simp e (unsigned (eqb (typeNumber w) 1) refl (omega (arith, eqb-false (sign w) 1 e)))
+  signed : (t : Bool) → eqb (sign w) 0 ≡ t → scalarKind (cond (eqb (sign w) 0) (unsignedKind (typeNumber w) (rest w)) K.Invalid) ≡ eqb (w / 2 ^ 8) (2 ^ 16)
+  signed true e = simp e (unsigned (eqb (typeNumber w) 1) refl (eqb-true (sign w) 0 e))
+  signed false e = simp (e, ne-eqb (w / 2 ^ 8) (2 ^ 16) (λ q. omega (arith, q, eqb-false (sign w) 0 e)))
 
   typed : (t : Bool) → eqb (typeNumber w) 0 ≡ t → isScalar w ≡ eqb (w / 2 ^ 8) (2 ^ 16)
   unfolding isScalar kindOf integerKind
@@ -66,7 +66,7 @@ module _ (w : ℕ) (fits : w < 2 ^ 32) (plain : (w / 2 ^ 30 % 2 ≡ 1) → ⊥) 
       let z : typeNumber w ≡ 0 = eqb-true (typeNumber w) 0 e in
       let same : w % 2 ^ 31 ≡ rest w = clear-float w (omega (arith, plain)) ∙ clear-type w z in
       simp (ne-eqb (w / 2 ^ 30 % 2) 1 plain, e, lt-ltb 8388607 (rest w) (omega arith), ne-eqb (w / 2 ^ 8) (2 ^ 16) (λ q. omega (arith, q)))
-  typed false e = simp (ne-eqb (w / 2 ^ 30 % 2) 1 plain, e) (signed (eqb (sign w) 1) refl)
+  typed false e = simp (ne-eqb (w / 2 ^ 30 % 2) 1 plain, e) (signed (eqb (sign w) 0) refl)
 
   pub large-scalar : isScalar w ≡ eqb (w / 2 ^ 8) (2 ^ 16)
   large-scalar = typed (eqb (typeNumber w) 0) refl

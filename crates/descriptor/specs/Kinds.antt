@@ -59,7 +59,7 @@ unfoldable pub kindOf : ℕ → Kind
 kindOf w =
     cond (isFloat w) (K.Scalar (Float (eqb (sign w) 1) (exponent w) (fraction w)))
     (cond (eqb (typeNumber w) 0) (integerKind w)
-    (cond (eqb (sign w) 1) K.Invalid (unsignedKind (typeNumber w) (rest w))))
+    (cond (eqb (sign w) 0) (unsignedKind (typeNumber w) (rest w)) K.Invalid))
 
 -- Scalars are floats, integers and characters.
 abbrev pub scalarKind : Kind → Bool

@@ -140,10 +140,10 @@ impl Descriptor {
                 magnitude: rest,
             });
         }
-        if negative {
-            return Kind::Invalid;
+        if w / 0x8000_0000 == 0 {
+            return unsigned_kind(number, rest);
         }
-        unsigned_kind(number, rest)
+        Kind::Invalid
     }
 
     // A word that is a scalar, by the readings of a float, an integer and a character.

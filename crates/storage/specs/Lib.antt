@@ -3,5 +3,7 @@ pub mod Ring
 pub mod Request
 pub mod Release
 pub mod Arrays
+pub mod Found
 pub mod Heap
 pub mod Owned
+pub mod Examples

@@ -1,16 +1,16 @@
--- Arrays, what a cell is seen as, and array storage whose arrays are pointed to by a list of words and by nothing else.
+-- Arrays, and array storage whose arrays are pointed to by a list of words and by nothing else.
 -- The invariant speaks of any list of owning words, wherever they stand. Assumes nothing.
-use Prim.Native.Nat.{ℕ, _+_, _-_, _*_, _/_, _%_, _^_, _≤_, _<_}
+use Prim.Native.Nat.{ℕ, _+_, _/_, _%_, _^_, _≤_, _<_}
 use mathlib.Core.Path.{_≡_}
-use mathlib.Core.Bool.{Bool, true, false, cond}
+use mathlib.Core.Bool.{true}
 use mathlib.Core.Logic.{_⊎_}
 use mathlib.Core.List.{List, [], _∷_}
 use lib.ListN.{getD, length}
-use lib.Dec.{eqb}
-use Rattle.descriptor.specs.Fields.{isArray, address, arrayWord, undefinedWord}
+use Rattle.descriptor.specs.Fields.{arrayWord}
 use Rattle.descriptor.specs.Kinds.{isScalar}
 use Rattle.segment.specs.State.{sbase, blockptr}
 use Rattle.segment.specs.Blocks.{countAt, rankAt, shapeAt, elementsAt, product}
+use Rattle.segment.specs.Cells.{cell}
 use Rattle.storage.specs.Heap.{Block, free, array, count, Heap}
 
 -- An array of SIZE `size` at `x` is among the blocks from `a` on.
@@ -18,18 +18,6 @@ abbrev pub ArrayIn : ℕ → List Block → ℕ → ℕ → Type 0
 ArrayIn a [] x size = ⊥
 ArrayIn a (free n ∷ blocks) x size = ArrayIn (a + n) blocks x size
 ArrayIn a (array n slop ∷ blocks) x size = ((x ≡ a) × (size ≡ n)) ⊎ ArrayIn (a + (n + slop)) blocks x size
-
--- What a cell is seen as: undefined, the variable that it names, or a value with its shape and elements. A scalar has no lengths.
-pub data Cell : Type 0 where
-  undefined : Cell
-  indirect : ℕ → Cell
-  value : List ℕ → List ℕ → Cell
-
-unfoldable pub cell : List ℕ → ℕ → Cell
-cell s w =
-    cond (isArray w) (value (shapeAt s (address w)) (elementsAt s (address w)))
-    (cond (eqb w undefinedWord) undefined
-    (cond (eqb (w / 2 ^ 17) 0x180) (indirect (w % 2 ^ 17)) (value [] (w ∷ []))))
 
 -- The inside of an array of SIZE `size` at `x`, as test 14 wants it.
 pub record Inside (s : List ℕ) (x size : ℕ) : Type 0 where

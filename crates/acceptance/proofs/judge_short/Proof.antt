@@ -1,0 +1,14 @@
+use borrow.Author.Needs.{needs}
+use native.Mathlib.Omega.{arith}
+use Rattle.acceptance.proofs.Table.{zeros}
+use Rattle.acceptance.proofs.judge_short.Statement.{statement}
+use Rattle.acceptance.proofs.judge_short.Tie as tie
+
+pub judge-short-spec : {M : Type 1} → statement M
+judge-short-spec =
+    tie.close
+    (tie.spec
+    (λ c. search needs)
+    (λ c. search needs)
+    (λ c κs. ((c .before .before .before .before .before .pre .0), omega (arith, (c .before .before .before .before .before .pre .1)), record { long = omega (arith, (c .before .before .before .before .before .pre .1)); empty = zeros 1024 }, record { long = omega (arith, (c .before .before .before .before .before .pre .1)); empty = zeros 1024 }))
+    (λ c. search needs))

@@ -1,0 +1,34 @@
+-- The table of document 01 for a data segment with its procedure segments: the first test that fails, or 0 where all pass.
+-- Tests go in table order. Assumes nothing.
+use Prim.Native.Nat.{ℕ}
+use mathlib.Core.Bool.{Bool, cond}
+use mathlib.Core.List.{List}
+use lib.ListN.{length}
+use lib.Dec.{leb, eqb}
+use Rattle.procedure.specs.Refusal.{procedureRefusal}
+use Rattle.storage_tests.specs.Tests.{_and_}
+use Rattle.storage_tests.specs.Head.{headTest}
+use Rattle.storage_tests.specs.Blocks.{blocksTest}
+use Rattle.storage_tests.specs.Ring.{ringTest}
+use Rattle.acceptance.specs.Frames.{framesTest}
+use Rattle.acceptance.specs.Cells.{cellsTest}
+use Rattle.acceptance.specs.Counts.{countsTest}
+
+-- Test 10: 32 to 16,384 words.
+abbrev pub lengthTest : List ℕ → Bool
+lengthTest s = leb 32 (length s) and leb (length s) 16384
+
+-- Tests 13–18.
+unfoldable pub dataRefusal : List ℕ → List ℕ → List ℕ → ℕ
+dataRefusal s regular other =
+    cond (headTest s)
+    (cond (blocksTest s)
+    (cond (ringTest s) (cond (framesTest s regular other) (cond (cellsTest s regular other) (cond (countsTest s) 0 18) 17) 16) 15)
+    14)
+    13
+
+unfoldable pub refusal : List ℕ → List ℕ → List ℕ → ℕ
+refusal s regular other =
+    cond (lengthTest s)
+    (cond (eqb (procedureRefusal regular other) 0) (dataRefusal s regular other) (procedureRefusal regular other))
+    10

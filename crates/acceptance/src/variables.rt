@@ -1,0 +1,58 @@
+// The table of variables: a mark at the stack address of each argument and local of the frames that are looked at.
+ghost use mathlib.Core.Path.{_≡_};
+ghost use mathlib.Core.List.{[]};
+ghost use Prim.Native.Nat.{ℕ, _+_, _-_, _≤_, _<_};
+ghost use lib.ListN.{getD, length};
+ghost use Rattle.storage.specs.Heap.{count};
+ghost use Rattle.storage_tests.specs.Marks.{Tally};
+ghost use Rattle.acceptance.specs.Frames.{variables};
+ghost use Rattle.acceptance.specs.Cells.{range, variablesFrom};
+ghost use Rattle.acceptance.specs.Tables.{Gains};
+use super::frames::frame_at;
+use descriptor::address::StackAddress;
+use segment::minus;
+use storage_tests::marks::lower;
+use storage_tests::marks::raise;
+
+// The variables of the frames from the one at `from` down are marked.
+pub fn mark_variables(seg: &[u32], regular: &[u8], alternate: &[u8], from: u32, marks: &mut [u16])
+    requires { ⌜ (from < 16384) × (from ≤ length (now marks)) × Tally (now marks) [] ⌝ }
+    ensures { λ _. ⌜ Tally (now (marks .exit)) (variablesFrom (length (now (seg .entry))) (variables (now (regular .entry)) (now (alternate .entry))) (now (seg .entry)) from) ⌝ }
+{
+    let mut base = from;
+    let mut left = seg.len();
+    while 0 < left {
+        let frame = frame_at(seg, regular, alternate, StackAddress::of(base));
+        let start = minus(base, frame.variables);
+        mark(marks, start, base);
+        if base <= frame.last {
+            return;
+        }
+        base = frame.last;
+        left -= 1;
+    }
+}
+
+// One more at each address from `start` up to `end`.
+fn mark(marks: &mut [u16], start: u32, end: u32)
+    requires { ⌜ (end ≤ length (now marks)) × ((x : ℕ) → getD (now marks) x 0 < 65535) ⌝ }
+    ensures { λ _. ⌜ Gains (now (marks .entry)) (now (marks .exit)) (range start (end - start)) ⌝ }
+{
+    let mut a = start;
+    while a < end {
+        raise(marks, a as usize);
+        a += 1;
+    }
+}
+
+// One less at each of them.
+pub fn unmark(marks: &mut [u16], start: u32, end: u32)
+    requires { ⌜ ((x : ℕ) → count x (range start (end - start)) ≤ getD (now marks) x 0) ⌝ }
+    ensures { λ _. ⌜ Gains (now (marks .exit)) (now (marks .entry)) (range start (end - start)) ⌝ }
+{
+    let mut a = start;
+    while a < end {
+        lower(marks, a as usize);
+        a += 1;
+    }
+}

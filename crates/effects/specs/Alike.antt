@@ -1,0 +1,35 @@
+-- What an instruction sees of the words of a segment is what it sees of the view: the planner cannot tell them apart.
+-- Proved in proofs/Seen. Assumes nothing.
+use Prim.Native.Nat.{ℕ, _≤_}
+use mathlib.Core.Path.{_≡_}
+use mathlib.Core.Bool.{Bool, true}
+use mathlib.Core.List.{List}
+use lib.ListN.{length}
+use Rattle.descriptor.specs.declared.Target.{Target}
+use Rattle.segment.specs.Cells.{indirect, cell}
+use Rattle.view.specs.View.{words}
+use Rattle.manual.specs.Effects.{currentCells}
+use Rattle.manual.specs.Seen.{Seen}
+use Rattle.effects.specs.Sources.{heldAt}
+use Rattle.effects.specs.Fits.{IsVariable}
+
+-- What a function with so many variables, and a result or none, sees: of the current frame no more than its variables.
+abbrev pub seenBy : ℕ → Bool → Seen → Seen
+seenBy variables result seen =
+    record {
+      origin = seen .origin;
+      room = seen .room;
+      count = seen .count;
+      operand = seen .operand;
+      local = λ n v. seen .local variables v;
+      global = seen .global;
+      bottom = seen .bottom;
+      result = λ has. seen .result result;
+    }
+
+-- What an accepted segment has besides: the current frame has the function's variables, and an indirect word of a variable
+-- names a variable.
+pub record Runs (s : List ℕ) (variables : ℕ) (result : Bool) : Type 0 where
+  pub cells : variables ≤ length (currentCells (words s .frames))
+  pub some : result ≡ true → 1 ≤ variables
+  pub targets : (t u : Target) → IsVariable s t → cell s (heldAt s t) ≡ indirect u → IsVariable s u

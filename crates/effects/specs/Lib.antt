@@ -1,0 +1,9 @@
+-- The effects of instructions on the words of a data segment, and what is proved of them.
+pub mod Sources
+pub mod Perform
+pub mod Seen
+pub mod Sound
+pub mod Fits
+pub mod Alike
+pub mod Theorems
+pub mod Plans

@@ -1,0 +1,1 @@
+// The effects of instructions on the words of a data segment.

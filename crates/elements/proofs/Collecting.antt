@@ -1,0 +1,203 @@
+-- Loops that write the results of elements: the results so far, and the first trap.
+use Prim.Native.Nat.{ℕ, zero, suc, _+_, _-_, _<_}
+use native.Mathlib.Nat.{le-of-suc-le-suc, not-suc-le-zero}
+use native.Mathlib.Numerals.{add-one}
+use native.Mathlib.Omega.{arith}
+use mathlib.Core.Path.{_≡_, refl, sym, ap, _∙_}
+use mathlib.Core.Bool.{Bool, true, false}
+use mathlib.Core.List.{List, [], _∷_, _++_, append-assoc, append-nil, map}
+use lib.Dec.{eqb}
+use borrow.Author.Tests.{eq-eqb, ne-eqb, eqb-true, eqb-false}
+use lib.ListN.{length, getD, take, drop, set, length-replicate, getD-replicate}
+use lib.Seq.{take-suc-set, drop-cons}
+use Rattle.manual.specs.OrTrap.{OrTrap, gives, trap, andThen}
+use Rattle.elements.specs.Answers.{Paired}
+use Rattle.elements.specs.Parts.{Spans, Operands}
+use Rattle.manual.specs.Values.{collect, each, zip, spread, isSingle, extent, pairwise}
+
+-- words, then what is left
+abbrev pub joined : List ℕ → OrTrap (List ℕ) → OrTrap (List ℕ)
+joined ws (gives r) = gives (ws ++ r)
+joined ws (trap c n) = trap c n
+
+joined-joined : (xs ys : List ℕ) (r : OrTrap (List ℕ)) → joined xs (joined ys r) ≡ joined (xs ++ ys) r
+joined-joined xs ys (gives r) = ap gives (sym (append-assoc xs ys r))
+joined-joined xs ys (trap c n) = refl
+
+joined-one : (w : ℕ) (r : OrTrap (List ℕ)) → andThen r (λ ws. gives (w ∷ ws)) ≡ joined (w ∷ []) r
+joined-one w (gives r) = refl
+joined-one w (trap c n) = refl
+
+joined-none : (r : OrTrap (List ℕ)) → joined [] r ≡ r
+joined-none (gives r) = refl
+joined-none (trap c n) = refl
+
+-- The loop's invariant: the results are the words written so far and then the results from i on. A record, so that what stands in it is found by its name.
+pub record Written (rs : List (OrTrap ℕ)) (out : List ℕ) (i : ℕ) : Type 0 where
+  pub so-far : collect rs ≡ joined (take i out) (collect (drop i rs))
+
+-- r is element i of the results
+pub record Element (rs : List (OrTrap ℕ)) (i : ℕ) (r : OrTrap ℕ) : Type 0 where
+  pub below : i < length rs
+  pub is : getD rs i (trap 0 0) ≡ r
+
+-- the loop begins
+pub start : {rs : List (OrTrap ℕ)} {out : List ℕ} → Written rs out 0
+start {rs} {out} = record { so-far = sym (joined-none (collect rs)) }
+
+-- the element at i is a trap
+pub trapped : {rs : List (OrTrap ℕ)} {out : List ℕ} {i : ℕ} {r : OrTrap ℕ} {c k : ℕ} → Written rs out i → Element rs i r → r ≡ trap c k → collect rs ≡ trap c k
+trapped {rs} {out} {i} inv e t =
+    inv .so-far ∙ ap (λ (l : List (OrTrap ℕ)). joined (take i out) (collect l)) (drop-cons rs i (trap 0 0) (e .below)) ∙ rw (e .is, t)
+
+-- the element at i is a word, and is written
+pub word : {rs : List (OrTrap ℕ)} {out : List ℕ} {i : ℕ} {r : OrTrap ℕ} {w : ℕ} → Written rs out i → Element rs i r → r ≡ gives w → i < length out
+    → Written rs (set out i w) (i + 1)
+word {rs} {out} {i} {r} {w} inv e t h =
+    record {
+      so-far =
+          rw (add-one i, take-suc-set out i w h)
+          (inv .so-far
+          ∙ ap (λ (l : List (OrTrap ℕ)). joined (take i out) (collect l)) (drop-cons rs i (trap 0 0) (e .below))
+          ∙ ap (λ (r : OrTrap ℕ). joined (take i out) (andThen r (λ v. andThen (collect (drop (suc i) rs)) (λ ws. gives (v ∷ ws))))) (e .is ∙ t)
+          ∙ ap (joined (take i out)) (joined-one w (collect (drop (suc i) rs)))
+          ∙ joined-joined (take i out) (w ∷ []) (collect (drop (suc i) rs)));
+    }
+
+-- the loop ends
+pub ended : {rs : List (OrTrap ℕ)} {out : List ℕ} {i : ℕ} (n : ℕ) → Written rs out i → length rs ≡ n → i ≡ n → collect rs ≡ gives (take n out)
+ended {rs} {out} {i} n inv h e =
+    inv .so-far ∙ rw (e, ← h, lib.Seq.drop-length rs) (ap gives (append-nil (take (length rs) out)))
+
+-- ---- a one-element operand is repeated
+
+length-spread : (n : ℕ) (a : List ℕ) → ((length a ≡ 1 → ⊥) → length a ≡ n) → length (spread n a) ≡ n
+length-spread n a h = go (isSingle a) refl
+  where
+    go : (t : Bool) → isSingle a ≡ t → length (spread n a) ≡ n
+    go true e = rw e (length-replicate n (getD a 0 0))
+    go false e = rw e (h (eqb-false (length a) 1 e))
+
+length-zip : {A : Type 0} (f : ℕ → ℕ → A) (xs ys : List ℕ) (n : ℕ) → length xs ≡ n → length ys ≡ n → length (zip f xs ys) ≡ n
+length-zip f [] ys n p q = p
+length-zip f (x ∷ xs) [] n p q = q
+length-zip f (x ∷ xs) (y ∷ ys) zero p q = absurd (omega arith)
+length-zip f (x ∷ xs) (y ∷ ys) (suc n) p q = ap suc (length-zip f xs ys n (omega arith) (omega arith))
+
+pub length-pairs : {A : Type 0} (f : ℕ → ℕ → A) {n : ℕ} {a b : List ℕ} → Operands a b n → length (zip f (spread n a) (spread n b)) ≡ n
+length-pairs f {n} {a} {b} o = length-zip f (spread n a) (spread n b) n (length-spread n a (o .first .fits)) (length-spread n b (o .second .fits))
+
+getD-zip : {A : Type 0} (f : ℕ → ℕ → A) (xs ys : List ℕ) (i : ℕ) (d : A) → i < length xs → i < length ys
+    → getD (zip f xs ys) i d ≡ f (getD xs i 0) (getD ys i 0)
+getD-zip f [] ys i d p q = absurd (not-suc-le-zero p)
+getD-zip f (x ∷ xs) [] i d p q = absurd (not-suc-le-zero q)
+getD-zip f (x ∷ xs) (y ∷ ys) zero d p q = refl
+getD-zip f (x ∷ xs) (y ∷ ys) (suc i) d p q = getD-zip f xs ys i d (le-of-suc-le-suc p) (le-of-suc-le-suc q)
+
+-- element i of the results, from what the code picked
+pub pair-at : (f : ℕ → ℕ → OrTrap ℕ) {n : ℕ} {a b : List ℕ} {i x y : ℕ} → Operands a b n → i < n
+    → x ≡ getD (spread n a) i 0 → y ≡ getD (spread n b) i 0 → Element (zip f (spread n a) (spread n b)) i (f x y)
+pair-at f {n} {a} {b} {i} {x} {y} o h p q =
+    record {
+      below = rw (length-pairs f o) h;
+      is = getD-zip f (spread n a) (spread n b) i (trap 0 0) (rw (length-spread n a (o .first .fits)) h) (rw (length-spread n b (o .second .fits)) h) ∙ rw (p, q);
+    }
+
+pub spans-below : {n i : ℕ} {a : List ℕ} → Spans n a → i < n → (length a ≡ 1 → ⊥) → i < length a
+spans-below s h e = omega (arith, s .fits e)
+
+pub spread-one : (n i : ℕ) (a : List ℕ) → length a ≡ 1 → i < n → getD a 0 0 ≡ getD (spread n a) i 0
+spread-one n i a e h = rw (eq-eqb (length a) 1 e) (sym (getD-replicate n i (getD a 0 0) 0 h))
+
+pub spread-all : (n i : ℕ) (a : List ℕ) → (length a ≡ 1 → ⊥) → getD a i 0 ≡ getD (spread n a) i 0
+spread-all n i a e = rw (ne-eqb (length a) 1 e)
+
+-- ---- one operand
+
+pub length-each : {A : Type 0} (f : ℕ → A) (xs : List ℕ) → length (map f xs) ≡ length xs
+length-each f [] = refl
+length-each f (x ∷ xs) = ap suc (length-each f xs)
+
+getD-each : {A : Type 0} (f : ℕ → A) (xs : List ℕ) (i : ℕ) (d : A) → i < length xs → getD (map f xs) i d ≡ f (getD xs i 0)
+getD-each f [] i d h = absurd (not-suc-le-zero h)
+getD-each f (x ∷ xs) zero d h = refl
+getD-each f (x ∷ xs) (suc i) d h = getD-each f xs i d (le-of-suc-le-suc h)
+
+pub each-at : (f : ℕ → OrTrap ℕ) (a : List ℕ) (i : ℕ) → i < length a → Element (map f a) i (f (getD a i 0))
+each-at f a i h = record { below = rw (length-each f a) h; is = getD-each f a i (trap 0 0) h }
+
+-- ---- the results of a whole loop
+
+-- The results of n pairs are those of the operands.
+pub pairs-are : (f : ℕ → ℕ → OrTrap ℕ) {n : ℕ} {a b : List ℕ} → Operands a b n → collect (zip f (spread n a) (spread n b)) ≡ pairwise f a b
+unfolding pairwise
+pairs-are f {n} {a} {b} o = ap (λ (k : ℕ). collect (zip f (spread k a) (spread k b))) (o .count)
+
+-- operands that are paired serve as many results as they extend to
+pub operands : {a b : List ℕ} {n : ℕ} → Paired a b → n ≡ extent a b → Operands a b n
+operands {a} {b} {n} p e = record { count = e; first = record { fits = λ h. first h }; second = record { fits = λ h. second h (isSingle a) refl } }
+  where
+    first : (length a ≡ 1 → ⊥) → length a ≡ n
+    first h = sym (e ∙ rw (ne-eqb (length a) 1 h))
+
+    second : (length b ≡ 1 → ⊥) → (t : Bool) → isSingle a ≡ t → length b ≡ n
+    second h true t = sym (e ∙ rw t)
+    second h false t = sym (e ∙ rw t (p .fits (eqb-false (length a) 1 t) h))
+
+-- ---- fast loops: the words so far are the results, where nothing odd was met
+
+pub fast-on : (f : ℕ → ℕ → OrTrap ℕ) {a b out : List ℕ} {n i x y w odd more : ℕ} → Operands a b n → i < n → i < length out
+    → x ≡ getD (spread n a) i 0 → y ≡ getD (spread n b) i 0 → (more ≡ 0 → f x y ≡ gives w)
+    → (odd ≡ 0 → Written (zip f (spread n a) (spread n b)) out i) → odd + more ≡ 0 → Written (zip f (spread n a) (spread n b)) (set out i w) (i + 1)
+fast-on f o h l p q e inv z = word (inv (omega arith)) (pair-at f o h p q) (e (omega arith)) l
+
+pub fast-end : (f : ℕ → ℕ → OrTrap ℕ) {a b out : List ℕ} {n i odd : ℕ} → Operands a b n → i ≡ n
+    → (odd ≡ 0 → Written (zip f (spread n a) (spread n b)) out i) → eqb odd 0 ≡ true → gives (take n out) ≡ pairwise f a b
+fast-end f {n = n} {odd = odd} o e inv t = sym (ended n (inv (eqb-true odd 0 t)) (length-pairs f o) e) ∙ pairs-are f o
+
+-- ---- as many words as elements
+
+collected : (rs : List (OrTrap ℕ)) (ws : List ℕ) → collect rs ≡ gives ws → length ws ≡ length rs
+collected [] ws e = let z : ws ≡ [] = cc in ap length z
+collected ((trap class number) ∷ rs) ws e = let z : _≡_ {A = ℕ} 0 1 = cc in absurd (omega arith)
+collected ((gives w) ∷ rs) ws e = go (collect rs) refl (λ vs f. collected rs vs f)
+  where
+    go : (r : OrTrap (List ℕ)) → collect rs ≡ r → ((vs : List ℕ) → collect rs ≡ gives vs → length vs ≡ length rs) → length ws ≡ suc (length rs)
+    go (gives vs) f ih = let g : gives (w ∷ vs) ≡ gives ws = rw f at e in let z : (w ∷ vs) ≡ ws = cc in sym (ap length z) ∙ ap suc (ih vs f)
+    go (trap class number) f ih = let g : trap class number ≡ gives ws = rw f at e in let z : _≡_ {A = ℕ} 0 1 = cc in absurd (omega arith)
+
+pub each-gives : (f : ℕ → OrTrap ℕ) (a ws : List ℕ) → each f a ≡ gives ws → length ws ≡ length a
+unfolding each
+each-gives f a ws e = collected (map f a) ws e ∙ length-each f a
+
+pub pairwise-gives : (f : ℕ → ℕ → OrTrap ℕ) {a b : List ℕ} → Paired a b → (ws : List ℕ) → pairwise f a b ≡ gives ws → length ws ≡ extent a b
+pairwise-gives f {a} {b} p ws e =
+    let o : Operands a b (extent a b) = operands p refl in
+    collected (zip f (spread (extent a b) a) (spread (extent a b) b)) ws (pairs-are f o ∙ e) ∙ length-pairs f o
+
+-- ---- each word is its element's result
+
+collected-at : (rs : List (OrTrap ℕ)) (ws : List ℕ) → collect rs ≡ gives ws → (i : ℕ) → i < length rs → getD rs i (trap 0 0) ≡ gives (getD ws i 0)
+collected-at [] ws e i h = absurd (not-suc-le-zero h)
+collected-at ((trap class number) ∷ rs) ws e i h = let z : _≡_ {A = ℕ} 0 1 = cc in absurd (omega arith)
+collected-at ((gives w) ∷ rs) ws e i h = go (collect rs) refl (λ vs f. collected-at rs vs f) i h
+  where
+    go : (r : OrTrap (List ℕ)) → collect rs ≡ r → ((vs : List ℕ) → collect rs ≡ gives vs → (j : ℕ) → j < length rs → getD rs j (trap 0 0) ≡ gives (getD vs j 0))
+        → (j : ℕ) → j < suc (length rs) → getD ((gives w) ∷ rs) j (trap 0 0) ≡ gives (getD ws j 0)
+    go (gives vs) f ih zero k = let g : gives (w ∷ vs) ≡ gives ws = rw f at e in let z : (w ∷ vs) ≡ ws = cc in ap (λ (l : List ℕ). gives (getD l 0 0)) z
+    go (gives vs) f ih (suc j) k =
+        let g : gives (w ∷ vs) ≡ gives ws = rw f at e in
+        let z : (w ∷ vs) ≡ ws = cc in
+        ih vs f j (le-of-suc-le-suc k) ∙ ap (λ (l : List ℕ). gives (getD l (suc j) 0)) z
+    go (trap class number) f ih j k = let g : trap class number ≡ gives ws = rw f at e in let z : _≡_ {A = ℕ} 0 1 = cc in absurd (omega arith)
+
+pub each-word : (f : ℕ → OrTrap ℕ) (a ws : List ℕ) → each f a ≡ gives ws → (i : ℕ) → i < length a → f (getD a i 0) ≡ gives (getD ws i 0)
+unfolding each
+each-word f a ws e i h = let at = each-at f a i h in sym (at .is) ∙ collected-at (map f a) ws e i (at .below)
+
+pub pairwise-word : (f : ℕ → ℕ → OrTrap ℕ) {a b : List ℕ} → Paired a b → (ws : List ℕ) → pairwise f a b ≡ gives ws → (i : ℕ) → i < extent a b
+    → f (getD (spread (extent a b) a) i 0) (getD (spread (extent a b) b) i 0) ≡ gives (getD ws i 0)
+pairwise-word f {a} {b} p ws e i h =
+    let o : Operands a b (extent a b) = operands p refl in
+    let at = pair-at f o h refl refl in
+    sym (at .is) ∙ collected-at (zip f (spread (extent a b) a) (spread (extent a b) b)) ws (pairs-are f o ∙ e) i (at .below)

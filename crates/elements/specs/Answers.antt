@@ -1,0 +1,33 @@
+-- What the answers of the loops say, in the manual's terms, and what the loop over two operands asks of them.
+-- A reader must believe: an answer is read so. Assumes nothing.
+use Prim.Native.Nat.{ℕ}
+use mathlib.Core.Path.{_≡_}
+use mathlib.Core.List.{List}
+use lib.ListN.{length}
+use Rattle.manual.specs.OrTrap.{OrTrap, gives, trap}
+use Rattle.elements.specs.declared.Finished.{Finished}
+use Rattle.elements.specs.declared.Finished.the-variants as F
+use Rattle.elements.specs.declared.Shape.{Shape}
+use Rattle.elements.specs.declared.Shape.the-variants as S
+use Rattle.elements.specs.declared.Found.{Found}
+use Rattle.elements.specs.declared.Found.the-variants as P
+
+-- The words that a loop has written, or the first trap.
+abbrev pub finished : Finished → List ℕ → OrTrap (List ℕ)
+finished F.Done words = gives words
+finished (F.Trap class number) words = trap class number
+
+-- The shape that an answer names, of the operands' shapes.
+abbrev pub shapeNamed : Shape → List ℕ → List ℕ → OrTrap (List ℕ)
+shapeNamed S.First a b = gives a
+shapeNamed S.Second a b = gives b
+shapeNamed (S.Trap class number) a b = trap class number
+
+-- The place that an answer names.
+abbrev pub placeNamed : Found → OrTrap ℕ
+placeNamed (P.At place) = gives place
+placeNamed (P.Trap class number) = trap class number
+
+-- Two operands have as many elements, unless one of them has a single element.
+pub record Paired (a b : List ℕ) : Type 0 where
+  pub fits : (length a ≡ 1 → ⊥) → (length b ≡ 1 → ⊥) → length a ≡ length b

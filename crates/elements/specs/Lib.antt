@@ -1,0 +1,3 @@
+-- What the contracts of the crate cite besides the manual.
+pub mod Answers
+pub mod Parts

@@ -1,0 +1,47 @@
+-- What the contracts of the inner functions say. Nothing here need be believed: the public contracts do not cite it.
+-- Assumes nothing.
+use Prim.Native.Nat.{ℕ, _+_, _/_, _%_, _^_, _<_, _≤_, max}
+use mathlib.Core.Path.{_≡_}
+use mathlib.Core.Bool.{cond}
+use mathlib.Core.List.{List, [], _∷_}
+use lib.ListN.{length}
+use Rattle.scalar.specs.declared.Whole.{Whole}
+use Rattle.scalar.specs.declared.Whole.the-variants as W
+use Rattle.scalar.specs.Reading.{wholeOf}
+use Rattle.manual.specs.Values.{extent, inRange}
+
+-- An operand for n elements has one, or n.
+pub record Spans (n : ℕ) (a : List ℕ) : Type 0 where
+  pub fits : (length a ≡ 1 → ⊥) → length a ≡ n
+
+-- Two operands for n results.
+pub record Operands (a b : List ℕ) (n : ℕ) : Type 0 where
+  pub count : n ≡ extent a b
+  pub first : Spans n a
+  pub second : Spans n b
+
+-- Bits 30–23 are clear: an integer's word, if it is a scalar's.
+abbrev pub Plain : ℕ → Type 0
+Plain w = w / 2 ^ 23 % 2 ^ 8 ≡ 0
+
+-- o is 2 ^ 24 plus the number of sign s and magnitude n.
+pub record Offset (s n o : ℕ) : Type 0 where
+  pub plus : s ≡ 0 → o ≡ 2 ^ 24 + n
+  pub minus : s ≡ 1 → o + n ≡ 2 ^ 24
+  pub small : o < 2 ^ 25
+
+-- r is the word of the number that t is 2 ^ 25 above.
+pub record Back (t r : ℕ) : Type 0 where
+  pub low : t < 2 ^ 25 → r + t ≡ 2 ^ 31 + 2 ^ 25
+  pub high : 2 ^ 25 ≤ t → r + 2 ^ 25 ≡ t
+
+-- What is wrong with a subscript: 3 a character, 2 a fraction, 1 out of range, 0 nothing; and the worst of all.
+abbrev pub faultOf : ℕ → Whole → ℕ → ℕ
+faultOf origin W.Character l = 3
+faultOf origin W.Fraction l = 2
+faultOf origin (W.Number negative n) l = cond (inRange origin (W.Number negative n) l) 0 1
+
+abbrev pub worstOf : ℕ → List ℕ → List ℕ → ℕ
+worstOf origin [] ls = 0
+worstOf origin (w ∷ ws) [] = 0
+worstOf origin (w ∷ ws) (l ∷ ls) = max (faultOf origin (wholeOf w) l) (worstOf origin ws ls)

@@ -1,0 +1,60 @@
+// An operator of two operands on every pair of elements; a one-element operand is repeated.
+ghost use mathlib.Core.Path.{_≡_};
+ghost use Prim.Native.Nat.{ℕ, _≤_, _<_};
+ghost use lib.ListN.{length, getD, take};
+ghost use Rattle.scalar.specs.Operators.{dyadicOf};
+ghost use Rattle.manual.specs.Values as values;
+ghost use Rattle.elements.specs.Answers.{finished, Paired};
+ghost use Rattle.elements.specs.Parts.{Operands};
+use crate::Finished;
+use crate::integers;
+use operator::Dyadic;
+use scalar::Answer;
+
+// The fast loops first, and where they do not serve, the exact one from the start.
+pub fn dyadic(operator: Dyadic, a: &[u32], b: &[u32], out: &mut [u32]) -> Finished
+    requires { ⌜ Paired (now a) (now b) × (values.extent (now a) (now b) ≤ length (now out)) × (values.extent (now a) (now b) ≤ 65536) ⌝ }
+    ensures { λ r. ⌜ finished r (take (values.extent (now (a .entry)) (now (b .entry))) (now (out .exit))) ≡ values.pairwise (λ x y. values.answered (dyadicOf operator x y)) (now (a .entry)) (now (b .entry)) ⌝ }
+{
+    let n = extent(a, b);
+    if integers::all(operator, a, b, n, out) {
+        return Finished::Done;
+    }
+    exact(operator, a, b, n, out)
+}
+
+// The number of results.
+fn extent(a: &[u32], b: &[u32]) -> usize
+    ensures { λ r. ⌜ r ≡ values.extent (now (a .entry)) (now (b .entry)) ⌝ }
+{
+    if a.len() == 1 { b.len() } else { a.len() }
+}
+
+// At the first trap the words of `out` so far are left.
+fn exact(operator: Dyadic, a: &[u32], b: &[u32], n: usize, out: &mut [u32]) -> Finished
+    requires { ⌜ Operands (now a) (now b) n × (n ≤ length (now out)) ⌝ }
+    ensures { λ r. ⌜ finished r (take n (now (out .exit))) ≡ values.pairwise (λ x y. values.answered (dyadicOf operator x y)) (now (a .entry)) (now (b .entry)) ⌝ }
+{
+    let mut i = 0;
+    while i < n {
+        let r = scalar::dyadic(operator, pick(a, i), pick(b, i));
+        match r {
+            Answer::Word(w) => {
+                out[i] = w;
+            }
+            Answer::Trap(class, number) => {
+                return Finished::Trap(class, number);
+            }
+        }
+        i += 1;
+    }
+    Finished::Done
+}
+
+// Element i of an operand: of a one-element operand always that one.
+pub fn pick(a: &[u32], i: usize) -> u32
+    requires { ⌜ ((length (now a) ≡ 1 → ⊥) → i < length (now a)) ⌝ }
+    ensures { λ r. ⌜ ((n : ℕ) → i < n → r ≡ getD (values.spread n (now (a .entry))) i 0) ⌝ }
+{
+    if a.len() == 1 { a[0] } else { a[i] }
+}

@@ -1,0 +1,126 @@
+// Fast loops for integers, without branches. Each stores every word and adds up an oddness number, from bits 30-23 of the
+// operands and of the result: where the sum is 0, all were integers and the words are right. One loop for each operator, for
+// the compiler makes vector code of it, and none where the operator is a parameter.
+ghost use mathlib.Core.Path.{_≡_};
+ghost use mathlib.Core.Bool.{true};
+ghost use Prim.Native.Nat.{_≤_};
+ghost use lib.ListN.{length, take};
+ghost use Rattle.scalar.specs.Operators as S;
+ghost use Rattle.manual.specs.OrTrap.{gives};
+ghost use Rattle.manual.specs.Values as values;
+ghost use Rattle.elements.specs.Parts.{Operands};
+use crate::dyadic::pick;
+use crate::words::difference_word;
+use crate::words::is_zero;
+use crate::words::oddness;
+use crate::words::product_oddness;
+use crate::words::product_word;
+use crate::words::sum_word;
+use operator::Dyadic;
+use segment::word;
+
+// The results of n pairs, and true, if the operator has a fast loop and all are integers; else false. Operands that do not
+// start with integers are not tried.
+pub fn all(operator: Dyadic, a: &[u32], b: &[u32], n: usize, out: &mut [u32]) -> bool
+    requires { ⌜ Operands (now a) (now b) n × (n ≤ length (now out)) × (n ≤ 65536) ⌝ }
+    ensures { λ r. ⌜ (r ≡ true → gives (take n (now (out .exit))) ≡ values.pairwise (λ x y. values.answered (S.dyadicOf operator x y)) (now (a .entry)) (now (b .entry))) ⌝ }
+{
+    if word(a, 0) / 0x80_0000 % 0x100 + word(b, 0) / 0x80_0000 % 0x100 != 0 {
+        return false;
+    }
+    match operator {
+        Dyadic::Sum => sum(a, b, n, out),
+        Dyadic::Difference => difference(a, b, n, out),
+        Dyadic::Product => product(a, b, n, out),
+        Dyadic::Less => less(a, b, n, out),
+        Dyadic::Equal => equal(a, b, n, out),
+        Dyadic::Quotient => false,
+        Dyadic::LogicalProduct => false,
+        Dyadic::LogicalSum => false,
+    }
+}
+
+fn sum(a: &[u32], b: &[u32], n: usize, out: &mut [u32]) -> bool
+    requires { ⌜ Operands (now a) (now b) n × (n ≤ length (now out)) × (n ≤ 65536) ⌝ }
+    ensures { λ r. ⌜ (r ≡ true → gives (take n (now (out .exit))) ≡ values.pairwise (λ x y. values.answered (S.sum x y)) (now (a .entry)) (now (b .entry))) ⌝ }
+{
+    let mut odd: u32 = 0;
+    let mut i = 0;
+    while i < n {
+        let x = pick(a, i);
+        let y = pick(b, i);
+        let w = sum_word(x, y);
+        out[i] = w;
+        odd += oddness(x, y, w);
+        i += 1;
+    }
+    odd == 0
+}
+
+fn difference(a: &[u32], b: &[u32], n: usize, out: &mut [u32]) -> bool
+    requires { ⌜ Operands (now a) (now b) n × (n ≤ length (now out)) × (n ≤ 65536) ⌝ }
+    ensures { λ r. ⌜ (r ≡ true → gives (take n (now (out .exit))) ≡ values.pairwise (λ x y. values.answered (S.difference x y)) (now (a .entry)) (now (b .entry))) ⌝ }
+{
+    let mut odd: u32 = 0;
+    let mut i = 0;
+    while i < n {
+        let x = pick(a, i);
+        let y = pick(b, i);
+        let d = difference_word(x, y);
+        out[i] = d;
+        odd += oddness(x, y, d);
+        i += 1;
+    }
+    odd == 0
+}
+
+// LESS and EQUAL go by the difference, and trap with it.
+fn less(a: &[u32], b: &[u32], n: usize, out: &mut [u32]) -> bool
+    requires { ⌜ Operands (now a) (now b) n × (n ≤ length (now out)) × (n ≤ 65536) ⌝ }
+    ensures { λ r. ⌜ (r ≡ true → gives (take n (now (out .exit))) ≡ values.pairwise (λ x y. values.answered (S.less x y)) (now (a .entry)) (now (b .entry))) ⌝ }
+{
+    let mut odd: u32 = 0;
+    let mut i = 0;
+    while i < n {
+        let x = pick(a, i);
+        let y = pick(b, i);
+        let d = difference_word(x, y);
+        out[i] = d / 0x8000_0000;
+        odd += oddness(x, y, d);
+        i += 1;
+    }
+    odd == 0
+}
+
+fn equal(a: &[u32], b: &[u32], n: usize, out: &mut [u32]) -> bool
+    requires { ⌜ Operands (now a) (now b) n × (n ≤ length (now out)) × (n ≤ 65536) ⌝ }
+    ensures { λ r. ⌜ (r ≡ true → gives (take n (now (out .exit))) ≡ values.pairwise (λ x y. values.answered (S.equal x y)) (now (a .entry)) (now (b .entry))) ⌝ }
+{
+    let mut odd: u32 = 0;
+    let mut i = 0;
+    while i < n {
+        let x = pick(a, i);
+        let y = pick(b, i);
+        let d = difference_word(x, y);
+        out[i] = is_zero(d);
+        odd += oddness(x, y, d);
+        i += 1;
+    }
+    odd == 0
+}
+
+fn product(a: &[u32], b: &[u32], n: usize, out: &mut [u32]) -> bool
+    requires { ⌜ Operands (now a) (now b) n × (n ≤ length (now out)) × (n ≤ 65536) ⌝ }
+    ensures { λ r. ⌜ (r ≡ true → gives (take n (now (out .exit))) ≡ values.pairwise (λ x y. values.answered (S.product x y)) (now (a .entry)) (now (b .entry))) ⌝ }
+{
+    let mut odd: u64 = 0;
+    let mut i = 0;
+    while i < n {
+        let x = pick(a, i);
+        let y = pick(b, i);
+        out[i] = product_word(x, y);
+        odd += product_oddness(x, y);
+        i += 1;
+    }
+    odd == 0
+}

@@ -1,0 +1,28 @@
+// Loops over the element words of arrays: parts of lent slices, with proved indices.
+pub mod copies;
+pub mod dyadic;
+pub mod integers;
+pub mod kinds;
+pub mod monadic;
+pub mod shapes;
+pub mod subscripts;
+mod words;
+
+// What a loop gives: all words are written, or the first trap's class and number.
+pub enum Finished {
+    Done,
+    Trap(u8, u8),
+}
+
+// The shape of a result: the first operand's, the second's, or a trap.
+pub enum Shape {
+    First,
+    Second,
+    Trap(u8, u8),
+}
+
+// A place in a ravel, or a trap.
+pub enum Found {
+    At(u32),
+    Trap(u8, u8),
+}

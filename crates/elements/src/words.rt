@@ -1,0 +1,86 @@
+// The words of integer results, without branches, and whether they can be relied on.
+ghost use mathlib.Core.Path.{_≡_};
+ghost use mathlib.Core.Bool.{true};
+ghost use Prim.Native.Nat.{_*_, _/_, _%_, _^_, _<_};
+ghost use lib.Dec.{eqb};
+ghost use Rattle.descriptor.specs.Fields.{magnitude};
+ghost use Rattle.descriptor.specs.Kinds.{bit};
+ghost use Rattle.scalar.specs.declared.Answer.the-variants.{Word};
+ghost use Rattle.scalar.specs.Operators as S;
+ghost use Rattle.elements.specs.Parts.{Plain, Offset, Back};
+
+// Zero if three words have bits 30-23 clear.
+pub fn oddness(x: u32, y: u32, w: u32) -> u32
+    ensures { λ r. ⌜ (r < 1024) × (r ≡ 0 → Plain x × Plain y × Plain w) ⌝ }
+{
+    x / 0x80_0000 % 0x100 + y / 0x80_0000 % 0x100 + w / 0x80_0000 % 0x100
+}
+
+// The word of the sum of two integers, and of the difference, if all three words have bits 30-23 clear.
+pub fn sum_word(x: u32, y: u32) -> u32
+    ensures { λ r. ⌜ (Plain x → Plain y → Plain r → S.sum x y ≡ Word r) ⌝ }
+{
+    back(offset(x) + offset(y))
+}
+
+pub fn difference_word(x: u32, y: u32) -> u32
+    ensures { λ r. ⌜ (Plain x → Plain y → Plain r → S.minus x y ≡ Word r) ⌝ }
+{
+    back(offset(x) + (0x200_0000 - offset(y)))
+}
+
+// 2^24 plus the value of an integer.
+fn offset(x: u32) -> u32
+    ensures { λ r. ⌜ Offset (x / 2 ^ 31) (x % 2 ^ 23) r ⌝ }
+{
+    let m = x % 0x80_0000;
+    if x < 0x8000_0000 {
+        0x100_0000 + m
+    } else {
+        0x100_0000 - m
+    }
+}
+
+// The word of an integer, from 2^25 plus its value.
+fn back(t: u32) -> u32
+    requires { ⌜ t < 2 ^ 26 ⌝ }
+    ensures { λ r. ⌜ Back t r ⌝ }
+{
+    if t < 0x200_0000 {
+        0x8000_0000 + (0x200_0000 - t)
+    } else {
+        t - 0x200_0000
+    }
+}
+
+// 1 for zero, else 0.
+pub fn is_zero(w: u32) -> u32
+    ensures { λ r. ⌜ r ≡ bit (eqb w 0) ⌝ }
+{
+    if w == 0 { 1 } else { 0 }
+}
+
+// Zero if two words have bits 30-23 clear and the product of their magnitudes is below 2^23.
+pub fn product_oddness(x: u32, y: u32) -> u64
+    ensures { λ r. ⌜ (r < 2 ^ 24) × (r ≡ 0 → Plain x × Plain y × (magnitude x * magnitude y < 2 ^ 23)) ⌝ }
+{
+    (x / 0x80_0000 % 0x100 + y / 0x80_0000 % 0x100) as u64 + product_size(x, y) / 0x80_0000
+}
+
+// The word of the product, if the oddness is zero.
+pub fn product_word(x: u32, y: u32) -> u32
+    ensures { λ r. ⌜ (Plain x → Plain y → magnitude x * magnitude y < 2 ^ 23 → S.product x y ≡ Word r) ⌝ }
+{
+    let m = (product_size(x, y) % 0x80_0000) as u32;
+    if m == 0 {
+        0
+    } else {
+        (x / 0x8000_0000 + y / 0x8000_0000) % 2 * 0x8000_0000 + m
+    }
+}
+
+fn product_size(x: u32, y: u32) -> u64
+    ensures { λ r. ⌜ (r ≡ magnitude x * magnitude y) × (r < 2 ^ 46) ⌝ }
+{
+    (x % 0x80_0000) as u64 * (y % 0x80_0000) as u64
+}

@@ -1,0 +1,171 @@
+-- A release of an array: the theorem of specs/Release.
+use Prim.Native.Nat.{ℕ, _+_, _-_, _%_, _^_, _<_, _≤_}
+use mathlib.Core.Path.{_≡_, refl, _∙_, ap}
+use mathlib.Core.Bool.{Bool, true, false}
+use mathlib.Core.List.{List, [], _∷_, _++_, append-assoc}
+use mathlib.Core.Logic.{_⊎_, inl, inr, ⊎-elim}
+use native.Mathlib.Omega.{arith}
+use lib.ListN.{getD}
+use borrow.Author.Tests.{leb-true}
+use Rattle.segment.specs.State.{blockptr}
+use Rattle.segment.specs.Blocks.{freeAt, prevFreeAt, slopAt, sizeAt, spanAt}
+use Rattle.storage.specs.Release.{joinBoth, joinBefore, joinAfter, joinNone, release}
+use Rattle.storage.specs.Heap.{Block, span, isFree, ArrayBlock, Walk, over, Heap, free, array}
+use Rattle.storage.specs.Owned.{ArrayIn}
+use Rattle.heap.specs.Words.{Leaves}
+use Rattle.heap.specs.Release.{Freed, Release, joinsBoth, joinsBefore, joinsAfter, joinsNone}
+use Rattle.heap.proofs.Ways.{decide, release-both, release-before, release-after, release-none}
+use Rattle.heap.proofs.Walks.{over-le, walk-at}
+use Rattle.heap.proofs.Counts.{over-append}
+use Rattle.heap.proofs.Arrays.{array-split, array-fields}
+use Rattle.heap.proofs.JoinBefore.{before-heap, before-leaves}
+use Rattle.heap.proofs.JoinNone.{none-heap, none-leaves}
+use Rattle.heap.proofs.JoinAfter.{after-heap, after-leaves}
+use Rattle.heap.proofs.JoinBoth.{both-heap, both-leaves}
+use Rattle.heap.proofs.Freed.{freed-further, freed-words, freed-rest, freed-back}
+
+-- the block before a place of the walk
+last-block : (s : List ℕ) (a : ℕ) (p : Bool) (b : Block) (xs ys : List Block) → Walk s a p (b ∷ xs ++ ys)
+    → ((vs : List Block) × (m : ℕ) × (b ∷ xs ≡ vs ++ free m ∷ [])) ⊎ Walk s (over (a + span b) xs) false ys
+last-block s a p (free m) [] ys h = inl ([], m, refl)
+last-block s a p (array z k) [] ys h = inr (h .1)
+last-block s a p b (c ∷ xs) ys h =
+    ⊎-elim (λ r. inl (b ∷ r .0, r .1, ap (λ (l : List Block). b ∷ l) (r .2))) (λ r. inr r) (last-block s (a + span b) (isFree b) c xs ys (h .1))
+
+walk-last : (s : List ℕ) (a : ℕ) (xs ys : List Block) → Walk s a false (xs ++ ys)
+    → ((vs : List Block) × (m : ℕ) × (xs ≡ vs ++ free m ∷ [])) ⊎ Walk s (over a xs) false ys
+walk-last s a [] ys h = inr h
+walk-last s a (b ∷ xs) ys h = last-block s a false b xs ys h
+
+-- a free block behind a place of the walk
+next-free : (s : List ℕ) (e : ℕ) (p : Bool) (ys : List Block) → Walk s e p ys → over e ys < 2 ^ 16 → freeAt s e ≡ true
+    → (m : ℕ) × (vs : List Block) × (ys ≡ free m ∷ vs)
+next-free s e true [] h l f = absurd (omega (arith, h, leb-true (2 ^ 31) (getD s e 0) f))
+next-free s e false [] h l f = absurd (omega (arith, h, leb-true (2 ^ 31) (getD s e 0) f))
+next-free s e p (free m ∷ vs) h l f = (m, vs, refl)
+next-free s e true (array z k ∷ vs) h l f =
+    absurd (omega (arith, h .0 .first, h .0 .small, over-le (e + (z + k)) vs, leb-true (2 ^ 31) (getD s e 0) f))
+next-free s e false (array z k ∷ vs) h l f =
+    absurd (omega (arith, h .0 .first, h .0 .small, over-le (e + (z + k)) vs, leb-true (2 ^ 31) (getD s e 0) f))
+
+array-before : (s : List ℕ) (a z k : ℕ) → ArrayBlock s a false z k → z < 2 ^ 16 → prevFreeAt s a ≡ true → ⊥
+array-before s a z k h l f = omega (arith, h .first, h .small, leb-true (2 ^ 30) (getD s a 0 % 2 ^ 31) f)
+
+-- a release, by what the walk tells of the block
+module _ (s : List ℕ) (a n : ℕ) (sp : spanAt s a ≡ n) where
+  is-both : (m p : ℕ) → sizeAt s (a - 1) ≡ m → a - m ≡ p → prevFreeAt s a ≡ true → freeAt s (a + n) ≡ true
+      → release s a ≡ joinBoth s p (m + n) (a + n)
+  is-both m p pz pa f h = release-both s a f (rw sp h) ∙ rw (sp, pz, pa)
+
+  is-before : (m p : ℕ) → sizeAt s (a - 1) ≡ m → a - m ≡ p → prevFreeAt s a ≡ true → freeAt s (a + n) ≡ false
+      → release s a ≡ joinBefore s p (m + n) (a + n)
+  is-before m p pz pa f h = release-before s a f (rw sp h) ∙ rw (sp, pz, pa)
+
+  is-after : prevFreeAt s a ≡ false → freeAt s (a + n) ≡ true → release s a ≡ joinAfter s a n (a + n)
+  is-after f h = release-after s a f (rw sp h) ∙ rw sp
+
+  is-none : prevFreeAt s a ≡ false → freeAt s (a + n) ≡ false → release s a ≡ joinNone s a n (a + n)
+  is-none f h = release-none s a f (rw sp h) ∙ rw sp
+
+-- the theorem from its parts
+released : {s : List ℕ} {bs : List Block} {t : List ℕ} → Heap s bs t → (a z k : ℕ) (s′ : List ℕ) (cs : List Block)
+    → (sizeAt s a ≡ z) × (slopAt s a ≡ k) → release s a ≡ s′
+    → (t′ : List ℕ) × Heap s′ cs t′ → Leaves s s′ cs → Freed a z k (blockptr s) bs cs → Release s bs a
+released {s} {bs} g a z k s′ cs n e r l f = record {
+  blocks = cs;
+  ring = r .0;
+  heap = rw e (r .1);
+  freed = rw (n .0, n .1) f;
+  words = λ i. let r = freed-words a z k (blockptr s) bs cs f i in
+      (λ h. ⊎-elim (λ u. inl u) (λ u. inr (omega (arith, n, u))) (r .0 h), λ h. r .1 (⊎-elim (λ u. inl u) (λ u. inr (omega (arith, n, u))) h));
+  others = λ y v. (λ h. freed-back s a z k (blockptr s) false bs cs (g .walk) f y v h, λ h. freed-rest a z k (blockptr s) bs cs f y v (h .0) (h .1));
+  leaves = rw e l;
+}
+
+-- the block before is free
+module _ {s : List ℕ} {t : List ℕ} (xs : List Block) (m z k : ℕ) (ys : List Block) (g : Heap s (xs ++ free m ∷ array z k ∷ ys) t) where
+  abbrev p : ℕ
+  p = over (blockptr s) xs
+
+  at : (o : Bool) × Walk s p o (free m ∷ array z k ∷ ys)
+  at = walk-at s (blockptr s) false xs (free m ∷ array z k ∷ ys) (g .walk)
+
+  place : (p + m + (z + k) ≤ over (p + m + (z + k)) ys) × (over (p + m + (z + k)) ys < 2 ^ 16)
+  place = omega (arith, over-append (blockptr s) xs (free m ∷ array z k ∷ ys), over-le (p + m + (z + k)) ys, g .top, g .room, g .short)
+
+  fields : (sizeAt s (p + m) ≡ z) × (slopAt s (p + m) ≡ k)
+  fields = array-fields s (p + m) true z k (at .1 .1 .0) (omega (arith, place))
+
+  module _ (f : prevFreeAt s (p + m) ≡ true) where
+    before : freeAt s (p + m + (z + k)) ≡ false → Release s (xs ++ free m ∷ array z k ∷ ys) (p + m)
+    before h =
+        released g (p + m) z k _ _ fields
+        (is-before s (p + m) (z + k) (omega (arith, fields)) m p (omega (arith, place, at .1 .0 .end)) (omega arith) f h)
+        (before-heap xs m z k ys g h) (before-leaves xs m z k ys g h) (freed-further _ _ _ _ xs _ _ (joinsBefore refl))
+
+    both : (n : ℕ) (vs : List Block) → ys ≡ free n ∷ vs → freeAt s (p + m + (z + k)) ≡ true → Release s (xs ++ free m ∷ array z k ∷ ys) (p + m)
+    both n vs q h =
+        let g′ : Heap s (xs ++ free m ∷ array z k ∷ free n ∷ vs) t = rw q at g in
+        rw q
+        (released g′ (p + m) z k _ _ fields
+        (is-both s (p + m) (z + k) (omega (arith, fields)) m p (omega (arith, place, at .1 .0 .end)) (omega arith) f h)
+        (both-heap xs m z k n vs g′) (both-leaves xs m z k n vs g′) (freed-further _ _ _ _ xs _ _ (joinsBoth refl)))
+
+    release-front : Release s (xs ++ free m ∷ array z k ∷ ys) (p + m)
+    release-front =
+        ⊎-elim (λ h. let r = next-free s (p + m + (z + k)) false ys (at .1 .1 .1) (place .1) h in both (r .0) (r .1) (r .2) h) before
+        (decide (freeAt s (p + m + (z + k))))
+
+-- it is not
+module _ {s : List ℕ} {t : List ℕ} (xs : List Block) (z k : ℕ) (ys : List Block) (g : Heap s (xs ++ array z k ∷ ys) t) where
+  abbrev a : ℕ
+  a = over (blockptr s) xs
+
+  at′ : (o : Bool) × Walk s a o (array z k ∷ ys)
+  at′ = walk-at s (blockptr s) false xs (array z k ∷ ys) (g .walk)
+
+  place′ : (a + (z + k) ≤ over (a + (z + k)) ys) × (over (a + (z + k)) ys < 2 ^ 16)
+  place′ = omega (arith, over-append (blockptr s) xs (array z k ∷ ys), over-le (a + (z + k)) ys, g .top, g .room, g .short)
+
+  fields′ : (sizeAt s a ≡ z) × (slopAt s a ≡ k)
+  fields′ = array-fields s a (at′ .0) z k (at′ .1 .0) (omega (arith, place′))
+
+  module _ (f : prevFreeAt s a ≡ false) where
+    none : freeAt s (a + (z + k)) ≡ false → Release s (xs ++ array z k ∷ ys) a
+    none h =
+        released g a z k _ _ fields′ (is-none s a (z + k) (omega (arith, fields′)) f h) (none-heap xs z k ys g f h) (none-leaves xs z k ys g f h)
+        (freed-further _ _ _ _ xs _ _ (joinsNone refl))
+
+    after : (n : ℕ) (vs : List Block) → ys ≡ free n ∷ vs → freeAt s (a + (z + k)) ≡ true → Release s (xs ++ array z k ∷ ys) a
+    after n vs q h =
+        let g′ : Heap s (xs ++ array z k ∷ free n ∷ vs) t = rw q at g in
+        rw q
+        (released g′ a z k _ _ fields′ (is-after s a (z + k) (omega (arith, fields′)) f h) (after-heap xs z k n vs g′ f)
+        (after-leaves xs z k n vs g′ f)
+        (freed-further _ _ _ _ xs _ _ (joinsAfter refl)))
+
+    release-alone : Release s (xs ++ array z k ∷ ys) a
+    release-alone =
+        ⊎-elim (λ h. let r = next-free s (a + (z + k)) false ys (at′ .1 .1) (place′ .1) h in after (r .0) (r .1) (r .2) h) none
+        (decide (freeAt s (a + (z + k))))
+
+  front : (vs : List Block) (m : ℕ) → xs ≡ vs ++ free m ∷ [] → prevFreeAt s a ≡ true → Release s (xs ++ array z k ∷ ys) a
+  front vs m e f =
+      let o : over (blockptr s) xs ≡ over (blockptr s) vs + m = ap (over (blockptr s)) e ∙ over-append (blockptr s) vs (free m ∷ []) in
+      let l : xs ++ array z k ∷ ys ≡ vs ++ free m ∷ array z k ∷ ys = ap (λ (v : List Block). v ++ array z k ∷ ys) e ∙ append-assoc vs (free m ∷ [])
+      (array z k ∷ ys) in
+      rw (l, o) (release-front vs m z k ys (rw l at g) (rw o at f))
+
+  release-place : Release s (xs ++ array z k ∷ ys) a
+  release-place =
+      ⊎-elim
+      (λ f. ⊎-elim (λ r. front (r .0) (r .1) (r .2) f) (λ w. absurd (array-before s a z k (w .0) (omega (arith, place′)) f))
+      (walk-last s (blockptr s) xs (array z k ∷ ys) (g .walk)))
+      release-alone (decide (prevFreeAt s a))
+
+-- the theorem of a release
+pub release-theorem : {s : List ℕ} {bs : List Block} {t : List ℕ} → Heap s bs t → (x z : ℕ) → ArrayIn (blockptr s) bs x z → Release s bs x
+release-theorem {s} {bs} {t} g x z u = let p = array-split (blockptr s) bs x z u in go (p .0) (p .1) (p .2) (p .3) (p .4)
+  where
+    go : (xs : List Block) (k : ℕ) (ys : List Block) → bs ≡ xs ++ array z k ∷ ys → over (blockptr s) xs ≡ x → Release s bs x
+    go xs k ys e q = rw (e, ← q) (release-place xs z k ys (rw e at g))

@@ -1,0 +1,1 @@
+// The theorems of array storage's blocks and ring: a proof library, with no code.

@@ -1,0 +1,3 @@
+-- Steps and runs on the words of a data segment.
+pub mod Step
+pub mod Run

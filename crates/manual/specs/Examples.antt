@@ -1,0 +1,178 @@
+-- An example of every instruction, by computation from the definitions: what a planner would expect on a small machine.
+-- Assumes nothing.
+use Prim.Native.Nat.{ℕ, zero, suc, _+_, _-_, _*_, _^_}
+use mathlib.Core.Path.{_≡_, refl}
+use mathlib.Core.Bool.{Bool, true, false}
+use mathlib.Core.List.{List, [], _∷_}
+use lib.Ieee.{size}
+use Rattle.descriptor.specs.declared.Target.the-variants.{Local, Global}
+use Rattle.descriptor.specs.Kinds.{segment, stack, kindOf, integerKind, characterKind, arrayKind, indirectKind, undefinedKind, unsignedKind, isScalar}
+use Rattle.operator.specs.declared.Monadic.the-variants as M
+use Rattle.operator.specs.declared.Dyadic.the-variants as D
+use Rattle.operator.specs.declared.Operator.the-variants as O
+use Rattle.scalar.specs.Value.{units}
+use Rattle.scalar.specs.Results.{integer, float, rounded, result}
+use Rattle.scalar.specs.Reading.{wholeUnits, wholeOf, truthOf}
+use Rattle.scalar.specs.Operators as S
+use Rattle.procedure.specs.declared.header.Header.{Header}
+use Rattle.procedure.specs.declared.header.Block.{Block}
+use Rattle.procedure.specs.Bytes.{halfAt, wordAt}
+use Rattle.procedure.specs.Headers.{headerAt, codeOf, lineOf}
+use Rattle.instruction.specs.declared.Address.the-variants as A
+use Rattle.instruction.specs.declared.MemoryOperation.the-variants as W
+use Rattle.instruction.specs.declared.StackOperation.the-variants as K
+use Rattle.instruction.specs.declared.ArrayOperation.the-variants as R
+use Rattle.instruction.specs.declared.ControlOperation.the-variants as C
+use Rattle.instruction.specs.declared.Jump.the-variants as J
+use Rattle.instruction.specs.declared.Instruction.{Instruction}
+use Rattle.instruction.specs.declared.Instruction.the-variants as I
+use Rattle.instruction.specs.Reading.{codeAddress}
+use Rattle.segment.specs.Cells.{Cell, undefined, indirect, value, invalid}
+use Rattle.view.specs.Machine.{Frame, Machine}
+use Rattle.manual.specs.OrTrap.{OrTrap, gives, trap}
+use Rattle.manual.specs.Values as values
+use Rattle.manual.specs.Effects.{Source, variable, operand, word, undefinedValue, reference, made, Effect, replaces, discards, swaps, stores, storesElement, enters, leaves, jumps, setsOrigin, Plan, performAll}
+use Rattle.manual.specs.Seen.{Seen, seenOf}
+use Rattle.manual.specs.Loads as loads
+use Rattle.manual.specs.Scalars as scalars
+use Rattle.manual.specs.Memory as memory
+use Rattle.manual.specs.Control as control
+use Rattle.manual.specs.Instructions.{Running, planOf}
+
+-- Scalars, a vector and a matrix.
+abbrev number : ℕ → Cell
+number w = value [] (w ∷ [])
+
+abbrev vector : Cell
+vector = value (3 ∷ []) (10 ∷ 20 ∷ 30 ∷ [])
+
+abbrev matrix : Cell
+matrix = value (2 ∷ 2 ∷ []) (1 ∷ 2 ∷ 3 ∷ 4 ∷ [])
+
+-- A function with a result, one argument, one more local, one line and three words of code: it starts at word 2 of a segment of two entries.
+-- Line 1 is at code place 12.
+abbrev bytes : List ℕ
+bytes = 0 ∷ 0 ∷ 0 ∷ 2 ∷ 0 ∷ 2 ∷ 0 ∷ 6 ∷ 0x20 ∷ 1 ∷ 0 ∷ 1 ∷ 0 ∷ 2 ∷ 0 ∷ 3 ∷ 0 ∷ 0 ∷ 0 ∷ 0 ∷ 0 ∷ 0 ∷ 0 ∷ 7 ∷ 0 ∷ 0 ∷ 0 ∷ 8 ∷ 0 ∷ 12 ∷ 0 ∷ 0 ∷ []
+
+abbrev header : Header
+header = record { calltrace = false; rtntrace = false; result = true; nargs = 1; nlines = 1; nlocals = 2; ncode = 3 }
+
+abbrev running : Running
+running = record { regular = bytes; alternate = bytes; selector = false; block = record { start = 2; header = header } }
+
+-- Globals 8 and 9 hold the vector and undefined; the current frame, called from a bottom frame of no variables, has the result
+-- variable 7 at −1, an undefined local at −2 and at −3 an argument that refers to global 8. The stack has twenty words.
+abbrev machine : List Cell → Machine Cell
+machine temporaries =
+    record {
+      flags = 1;
+      temporaries = temporaries;
+      frames = record { function = 1; pctr = 8; cells = number 7 ∷ undefined ∷ indirect (Global (segment 8)) ∷ [] } ∷ record { function = 1; pctr = 8; cells = [] } ∷ [];
+      globals = vector ∷ undefined ∷ [];
+    }
+
+abbrev plan : List Cell → Instruction → Plan
+plan temporaries i = planOf running (seenOf 20 (machine temporaries)) i 9
+
+pub record Pushing : Type 0 where
+  -- a local, the argument by reference, an undefined local, a word outside the frame, a global that is none
+  pub local : plan [] (I.Load (A.Local 1)) ≡ gives (replaces 0 (variable (Local (stack 4))) ∷ jumps 9 ∷ [])
+  pub byReference : plan [] (I.Load (A.Local 3)) ≡ gives (replaces 0 (variable (Global (segment 8))) ∷ jumps 9 ∷ [])
+  pub noValue : plan [] (I.Load (A.Local 2)) ≡ trap 10 0
+  pub outside : plan [] (I.Load (A.Local 4)) ≡ trap 3 2
+  pub global : plan [] (I.Load (A.Global (segment 8))) ≡ gives (replaces 0 (variable (Global (segment 8))) ∷ jumps 9 ∷ [])
+  pub noGlobal : plan [] (I.Load (A.Global (segment 10))) ≡ trap 3 3
+  pub shortConstant : plan [] (I.ShortConstant true 5) ≡ gives (replaces 0 (word 0x80000005) ∷ jumps 9 ∷ [])
+  pub constantScalar : plan [] (I.ConstantScalar 0x01000041) ≡ gives (replaces 0 (word 0x01000041) ∷ jumps 9 ∷ [])
+  pub constantArray : plan [] (I.ConstantScalar 0x02000019) ≡ trap 3 5
+  pub constantVector : plan [] (I.ConstantVector 2 (codeAddress 12)) ≡ gives (replaces 0 (made (2 ∷ []) (7 ∷ 8 ∷ [])) ∷ jumps 9 ∷ [])
+  pub undefinedPushed : plan [] (I.Stack K.Undefined) ≡ gives (replaces 0 undefinedValue ∷ jumps 9 ∷ [])
+  pub getOrigin : plan [] (I.Stack K.GetOrigin) ≡ gives (replaces 0 (word 1) ∷ jumps 9 ∷ [])
+  pub referred : plan [] (I.Memory W.Reference (A.Local 3)) ≡ gives (replaces 0 (reference (Global (segment 8))) ∷ jumps 9 ∷ [])
+  pub notDefined : plan [] (I.Memory W.TestDefined (A.Local 2)) ≡ gives (replaces 0 (word 0) ∷ jumps 9 ∷ [])
+  pub defined : plan [] (I.Memory W.TestDefined (A.Local 3)) ≡ gives (replaces 0 (word 1) ∷ jumps 9 ∷ [])
+
+pub record Making : Type 0 where
+  -- one operand: a scalar stays in its cell, an array is a new one; a character; nothing there; an undefined operand
+  pub negative : plan (number 5 ∷ []) (I.Scalar (O.Monadic M.Negative)) ≡ gives (replaces 1 (word 0x80000005) ∷ jumps 9 ∷ [])
+  pub identity : plan (vector ∷ []) (I.Scalar (O.Monadic M.Identity)) ≡ gives (replaces 1 (made (3 ∷ []) (10 ∷ 20 ∷ 30 ∷ [])) ∷ jumps 9 ∷ [])
+  pub typed : plan (number 0x01000041 ∷ []) (I.Scalar (O.Monadic M.Magnitude)) ≡ trap 7 0
+  pub missing : plan [] (I.Scalar (O.Monadic M.Not)) ≡ trap 3 4
+  pub unknown : plan (undefined ∷ []) (I.Scalar (O.Monadic M.Floor)) ≡ trap 3 5
+  -- two operands: the first is the top; one element extends; unequal ranks; unequal lengths; the first trap in ravel order
+  pub difference : plan (number 5 ∷ number 7 ∷ []) (I.Scalar (O.Dyadic D.Difference)) ≡ gives (replaces 2 (word 0x80000002) ∷ jumps 9 ∷ [])
+  pub extended : plan (vector ∷ number 1 ∷ []) (I.Scalar (O.Dyadic D.Sum)) ≡ gives (replaces 2 (made (3 ∷ []) (11 ∷ 21 ∷ 31 ∷ [])) ∷ jumps 9 ∷ [])
+  pub ranks : plan (vector ∷ matrix ∷ []) (I.Scalar (O.Dyadic D.Sum)) ≡ trap 5 0
+  pub lengths : plan (vector ∷ value (2 ∷ []) (1 ∷ 2 ∷ []) ∷ []) (I.Scalar (O.Dyadic D.Sum)) ≡ trap 6 0
+  pub firstTrap : plan (value (2 ∷ []) (8388607 ∷ 0x01000041 ∷ []) ∷ number 1 ∷ []) (I.Scalar (O.Dyadic D.Sum)) ≡ trap 8 1
+  pub empty : plan (value (0 ∷ []) [] ∷ number 0x01000041 ∷ []) (I.Scalar (O.Dyadic D.Sum)) ≡ gives (replaces 2 (made (0 ∷ []) []) ∷ jumps 9 ∷ [])
+  pub shape : plan (matrix ∷ []) (I.Array R.Shape) ≡ gives (replaces 1 (made (2 ∷ []) (2 ∷ 2 ∷ [])) ∷ jumps 9 ∷ [])
+  pub shapeOfScalar : plan (number 5 ∷ []) (I.Array R.Shape) ≡ gives (replaces 1 (made (0 ∷ []) []) ∷ jumps 9 ∷ [])
+  pub ravel : plan (matrix ∷ []) (I.Array R.Ravel) ≡ gives (replaces 1 (made (4 ∷ []) (1 ∷ 2 ∷ 3 ∷ 4 ∷ [])) ∷ jumps 9 ∷ [])
+  pub reshape : plan (value (2 ∷ []) (2 ∷ 2 ∷ []) ∷ vector ∷ []) (I.Array R.Reshape) ≡ gives (replaces 2 (made (2 ∷ 2 ∷ []) (10 ∷ 20 ∷ 30 ∷ 10 ∷ [])) ∷ jumps 9 ∷ [])
+  pub noLengths : plan (value (0 ∷ []) [] ∷ vector ∷ []) (I.Array R.Reshape) ≡ gives (replaces 2 (word 10) ∷ jumps 9 ∷ [])
+  pub nothingToTake : plan (number 2 ∷ value (0 ∷ []) [] ∷ []) (I.Array R.Reshape) ≡ trap 6 0
+  pub catenate : plan (number 5 ∷ vector ∷ []) (I.Array R.Catenate) ≡ gives (replaces 2 (made (4 ∷ []) (5 ∷ 10 ∷ 20 ∷ 30 ∷ [])) ∷ jumps 9 ∷ [])
+  pub indexGenerator : plan (number 3 ∷ []) (I.Array R.IndexGenerator) ≡ gives (replaces 1 (made (3 ∷ []) (1 ∷ 2 ∷ 3 ∷ [])) ∷ jumps 9 ∷ [])
+  -- row 2, column 1 at origin 1; the wrong number of subscripts; an undefined one; one out of range
+  pub index : plan (matrix ∷ number 2 ∷ number 1 ∷ []) (I.Index 2) ≡ gives (replaces 3 (word 3) ∷ jumps 9 ∷ [])
+  pub subscripts : plan (matrix ∷ number 2 ∷ []) (I.Index 1) ≡ trap 9 1
+  pub noSubscript : plan (vector ∷ undefined ∷ []) (I.Index 1) ≡ trap 5 0
+  pub outOfRange : plan (vector ∷ number 4 ∷ []) (I.Index 1) ≡ trap 9 2
+
+pub record Writing : Type 0 where
+  pub assign : plan (number 5 ∷ []) (I.Memory W.Assign (A.Local 2)) ≡ gives (stores (Local (stack 3)) (operand 0) ∷ jumps 9 ∷ [])
+  pub assignNoResult : plan (vector ∷ []) (I.Memory W.AssignNoResult (A.Local 3)) ≡ gives (stores (Global (segment 8)) (operand 0) ∷ discards 1 ∷ jumps 9 ∷ [])
+  pub assignUndefined : plan (undefined ∷ []) (I.Memory W.Assign (A.Local 2)) ≡ trap 3 5
+  -- 5 into slot 3 of the vector by reference; into an undefined variable; into a scalar
+  pub assignIndexed : plan (number 3 ∷ number 5 ∷ []) (I.Memory (W.AssignIndexed 1) (A.Local 3)) ≡ gives (storesElement (Global (segment 8)) 2 5 2 ∷ jumps 9 ∷ [])
+  pub intoNothing : plan (number 3 ∷ number 5 ∷ []) (I.Memory (W.AssignIndexed 1) (A.Local 2)) ≡ trap 3 5
+  pub intoScalar : plan (number 3 ∷ number 5 ∷ []) (I.Memory (W.AssignIndexed 1) (A.Local 1)) ≡ trap 5 0
+  pub eat : plan (undefined ∷ []) (I.Stack K.Eat1) ≡ gives (discards 1 ∷ jumps 9 ∷ [])
+  pub interchange : plan (number 1 ∷ number 2 ∷ []) (I.Stack K.Interchange) ≡ gives (swaps ∷ jumps 9 ∷ [])
+  pub setOrigin : plan (number 0 ∷ []) (I.Stack K.SetOrigin) ≡ gives (setsOrigin 0 ∷ replaces 1 (word 1) ∷ jumps 9 ∷ [])
+
+pub record Going : Type 0 where
+  pub go : plan [] (I.Jump J.Go (codeAddress 19)) ≡ gives (jumps 19 ∷ [])
+  pub goOutside : plan [] (I.Jump J.Go (codeAddress 20)) ≡ trap 3 1
+  pub goTrue : plan (number 1 ∷ []) (I.Jump J.GoTrue (codeAddress 8)) ≡ gives (discards 1 ∷ jumps 8 ∷ [])
+  pub goFalse : plan (number 1 ∷ []) (I.Jump J.GoFalse (codeAddress 99)) ≡ gives (discards 1 ∷ jumps 9 ∷ [])
+  -- line 1; an empty vector; line 0 leaves, and so does −1; half a line
+  pub branch : plan (number 1 ∷ []) (I.Control C.Branch) ≡ gives (discards 1 ∷ jumps 12 ∷ [])
+  pub branchNowhere : plan (value (0 ∷ []) [] ∷ []) (I.Control C.Branch) ≡ gives (discards 1 ∷ jumps 9 ∷ [])
+  pub branchOut : plan (number 0 ∷ []) (I.Control C.Branch) ≡ gives (discards 1 ∷ leaves 3 true ∷ [])
+  pub branchBelow : plan (number 0x80000001 ∷ []) (I.Control C.Branch) ≡ gives (discards 1 ∷ leaves 3 true ∷ [])
+  pub branchHalf : plan (number 0x5fc00000 ∷ []) (I.Control C.Branch) ≡ trap 8 5
+  pub branchLeftover : plan (number 0 ∷ number 1 ∷ []) (I.Control C.Branch) ≡ trap 3 12
+  pub return : plan [] (I.Control C.Return) ≡ gives (leaves 3 true ∷ [])
+  pub returnLeftover : plan (number 1 ∷ []) (I.Control C.Return) ≡ trap 3 12
+  -- function 1 wants one argument; with two locals and two words of its frame it has room on this stack, but not with eleven temporaries
+  pub call : plan (number 5 ∷ []) (I.Call 1 false 1) ≡ gives (jumps 9 ∷ enters 2 0x10008 ∷ [])
+  pub arguments : plan (number 5 ∷ []) (I.Call 0 false 1) ≡ trap 3 4
+  pub noOperation : plan [] (I.Control C.NoOperation) ≡ gives (jumps 9 ∷ [])
+  pub breakpoint : plan [] (I.Control C.Breakpoint) ≡ trap 2 4
+  pub attention : plan [] (I.Control C.Attention) ≡ trap 4 0
+
+-- The auditor's story on values: writing 0 into a copy leaves the list that was copied.
+pub record Story : Type 0 where
+  pub copied : performAll (stores (Global (segment 9)) (variable (Global (segment 8))) ∷ storesElement (Global (segment 9)) 2 0 0 ∷ discards 1 ∷ []) (machine []) .globals
+      ≡ vector ∷ value (3 ∷ []) (10 ∷ 20 ∷ 0 ∷ []) ∷ []
+
+pub pushing : Pushing
+unfolding planOf seenOf loads.load loads.referTo loads.testDefined loads.pushUndefined loads.getOrigin loads.shortConstant loads.constantScalar loads.constantVector isScalar kindOf integerKind characterKind arrayKind indirectKind undefinedKind unsignedKind codeOf wordAt halfAt
+pushing = record { local = refl; byReference = refl; noValue = refl; outside = refl; global = refl; noGlobal = refl; shortConstant = refl; constantScalar = refl; constantArray = refl; constantVector = refl; undefinedPushed = refl; getOrigin = refl; referred = refl; notDefined = refl; defined = refl }
+
+pub making : Making
+unfolding planOf seenOf scalars.monadic scalars.dyadic scalars.shape scalars.ravel scalars.reshape scalars.catenate scalars.indexGenerator scalars.index values.each values.monadic values.dyadic values.conform values.pairwise values.catenate values.upFrom values.indexGenerator values.cycle values.reshape values.place S.identity S.negative S.floor S.magnitudeOf S.notOf S.sumSign S.sumSize S.plus S.minus S.sum S.difference units integer float rounded result wholeUnits wholeOf truthOf size
+making = record { negative = refl; identity = refl; typed = refl; missing = refl; unknown = refl; difference = refl; extended = refl; ranks = refl; lengths = refl; firstTrap = refl; empty = refl; shape = refl; shapeOfScalar = refl; ravel = refl; reshape = refl; noLengths = refl; nothingToTake = refl; catenate = refl; indexGenerator = refl; index = refl; subscripts = refl; noSubscript = refl; outOfRange = refl }
+
+pub writing : Writing
+unfolding planOf seenOf memory.assign memory.assignNoResult memory.assignIndexed memory.eat memory.interchange scalars.setOrigin values.place units wholeUnits wholeOf truthOf
+writing = record { assign = refl; assignNoResult = refl; assignUndefined = refl; assignIndexed = refl; intoNothing = refl; intoScalar = refl; eat = refl; interchange = refl; setOrigin = refl }
+
+pub going : Going
+unfolding planOf seenOf control.go control.goIf control.return control.branch control.call control.breakpoint control.attention memory.noOperation lineOf headerAt wordAt halfAt units wholeUnits wholeOf truthOf
+going = record { go = refl; goOutside = refl; goTrue = refl; goFalse = refl; branch = refl; branchNowhere = refl; branchOut = refl; branchBelow = refl; branchHalf = refl; branchLeftover = refl; return = refl; returnLeftover = refl; call = refl; arguments = refl; noOperation = refl; breakpoint = refl; attention = refl }
+
+pub story : Story
+story = record { copied = refl }

@@ -1,0 +1,1 @@
+// Definitions only: what every instruction means, told by values. They stand in specs/.

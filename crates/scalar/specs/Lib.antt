@@ -1,0 +1,7 @@
+-- The arithmetic of scalars: what their words mean and what the sixteen operators give.
+pub mod Value
+pub mod Results
+pub mod Reading
+pub mod Operators
+pub mod Examples
+pub mod Parts

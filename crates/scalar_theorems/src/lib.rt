@@ -1,0 +1,1 @@
+// No code: the theorems that say that the definitions of `scalar` are the right ones.

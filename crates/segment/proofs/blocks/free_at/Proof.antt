@@ -1,0 +1,12 @@
+use borrow.Author.Needs.{needs}
+use Rattle.segment.proofs.blocks.free_at.Statement.{statement}
+use Rattle.segment.proofs.blocks.free_at.Tie as tie
+
+word-requires : tie.Need-word-requires
+word-requires c κs = search needs
+
+returns : tie.Need-returns
+returns c = cc
+
+pub free-at-spec : {M : Type 1} → statement M
+free-at-spec = tie.close (tie.spec word-requires returns)

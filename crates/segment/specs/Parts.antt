@@ -1,0 +1,18 @@
+-- What the code hands back of an array's block: a part of the lent segment. It is the shape, and the elements, wherever the
+-- block is as test 14 wants it (proofs/Parts.antt); a part that does not lie in the segment is empty. Assumes nothing.
+use Prim.Native.Nat.{ℕ, _+_, _-_}
+use mathlib.Core.Bool.{cond}
+use mathlib.Core.List.{List, []}
+use lib.ListN.{length}
+use lib.Dec.{leb}
+use Rattle.segment.specs.Blocks.{part, sizeAt, rankAt}
+
+unfoldable pub within : List ℕ → ℕ → ℕ → List ℕ
+within s start count = cond (leb (start + count) (length s)) (part s start count) []
+
+unfoldable pub shapePart : List ℕ → ℕ → List ℕ
+shapePart s a = within s (a + 2) (rankAt s a)
+
+-- SIZE tells how many there are.
+unfoldable pub elementsPart : List ℕ → ℕ → List ℕ
+elementsPart s a = within s (a + 2 + rankAt s a) (sizeAt s a - (rankAt s a + 2))

@@ -1,0 +1,107 @@
+// The blocks of array storage: the tags and links of the block at a word, and what an array's block holds.
+ghost use mathlib.Core.Path.{_≡_};
+ghost use Prim.Native.Nat.{_+_, _-_, _≤_};
+ghost use lib.ListN.{length};
+ghost use Rattle.segment.specs.Blocks as layout;
+ghost use Rattle.segment.specs.Parts as parts;
+use super::high;
+use super::low;
+use super::minus;
+use super::word;
+use descriptor::address::SegmentAddress;
+
+pub fn free_at(seg: &[u32], a: u32) -> bool
+    ensures { λ r. ⌜ r ≡ layout.freeAt (now (seg .entry)) a ⌝ }
+{
+    0x8000_0000 <= word(seg, a as usize)
+}
+
+pub fn prev_free_at(seg: &[u32], a: u32) -> bool
+    ensures { λ r. ⌜ r ≡ layout.prevFreeAt (now (seg .entry)) a ⌝ }
+{
+    0x4000_0000 <= word(seg, a as usize) % 0x8000_0000
+}
+
+pub fn slop_at(seg: &[u32], a: u32) -> u32
+    ensures { λ r. ⌜ r ≡ layout.slopAt (now (seg .entry)) a ⌝ }
+{
+    word(seg, a as usize) / 0x1_0000 % 4
+}
+
+pub fn size_at(seg: &[u32], a: u32) -> u16
+    ensures { λ r. ⌜ r ≡ layout.sizeAt (now (seg .entry)) a ⌝ }
+{
+    low(word(seg, a as usize))
+}
+
+// The words that an array's block covers, its slop among them.
+pub fn span_at(seg: &[u32], a: u32) -> u32
+    ensures { λ r. ⌜ r ≡ layout.spanAt (now (seg .entry)) a ⌝ }
+{
+    let w = word(seg, a as usize);
+    w % 0x1_0000 + w / 0x1_0000 % 4
+}
+
+// The links of a free block or the dummy.
+pub fn next_at(seg: &[u32], a: u32) -> u16
+    ensures { λ r. ⌜ r ≡ layout.nextAt (now (seg .entry)) a ⌝ }
+{
+    high(word(seg, a as usize + 1))
+}
+
+pub fn last_at(seg: &[u32], a: u32) -> u16
+    ensures { λ r. ⌜ r ≡ layout.lastAt (now (seg .entry)) a ⌝ }
+{
+    low(word(seg, a as usize + 1))
+}
+
+pub fn dummy(seg: &[u32]) -> u16
+    ensures { λ r. ⌜ r ≡ layout.dummy (now (seg .entry)) ⌝ }
+{
+    minus(high(word(seg, 0)) as u32, 3) as u16
+}
+
+// How many cells point to the array.
+pub fn count(seg: &[u32], block: SegmentAddress) -> u16
+    ensures { λ r. ⌜ r ≡ layout.countAt (now (seg .entry)) (block .0) ⌝ }
+{
+    high(word(seg, block.index() + 1))
+}
+
+pub fn rank(seg: &[u32], block: SegmentAddress) -> usize
+    ensures { λ r. ⌜ r ≡ layout.rankAt (now (seg .entry)) (block .0) ⌝ }
+{
+    (word(seg, block.index() + 1) % 16) as usize
+}
+
+// The lengths, as a part of the lent segment; none where the words do not lie in it.
+pub fn shape(seg: &[u32], block: SegmentAddress) -> &[u32]
+    ensures { λ r. ⌜ now r ≡ parts.shapePart (now (seg .entry)) (block .0) ⌝ }
+{
+    within(seg, block.index() + 2, rank(seg, block))
+}
+
+// The elements, as a part of the lent segment; none where the words do not lie in it.
+pub fn elements(seg: &[u32], block: SegmentAddress) -> &[u32]
+    ensures { λ r. ⌜ now r ≡ parts.elementsPart (now (seg .entry)) (block .0) ⌝ }
+{
+    let rank = rank(seg, block);
+    let size = size_at(seg, block.number());
+    within(
+        seg,
+        block.index() + 2 + rank,
+        minus(size as u32, rank as u32 + 2) as usize,
+    )
+}
+
+fn within(seg: &[u32], start: usize, count: usize) -> &[u32]
+    ensures { λ r. ⌜ now r ≡ parts.within (now (seg .entry)) start count ⌝ }
+{
+    if seg.len() < start {
+        return &seg[..0];
+    }
+    if seg.len() - start < count {
+        return &seg[..0];
+    }
+    &seg[start..start + count]
+}

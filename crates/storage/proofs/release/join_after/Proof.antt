@@ -1,0 +1,42 @@
+use Rattle.storage.specs.Release.{joinAfter}
+use borrow.Author.Needs.{needs}
+use Rattle.storage.proofs.release.join_after.Statement.{statement}
+use Rattle.storage.proofs.release.join_after.Tie as tie
+
+size-at-requires : tie.Need-size-at-requires
+size-at-requires c κs = search needs
+
+relink-requires : tie.Need-relink-requires
+relink-requires c κs = search needs
+
+cast-mark-free : tie.Need-cast-mark-free
+cast-mark-free c = search needs
+
+add-mark-free : tie.Need-add-mark-free
+add-mark-free c = search needs
+
+mark-free-requires : tie.Need-mark-free-requires
+mark-free-requires c κs = search needs
+
+move-rover-requires : tie.Need-move-rover-requires
+move-rover-requires c κs = search needs
+
+same-length : tie.Need-same-length
+same-length c = search needs
+
+returns : tie.Need-returns
+unfolding joinAfter
+returns c = cc
+
+pub join-after-spec : {M : Type 1} → statement M
+join-after-spec =
+    tie.close
+    (tie.spec
+    size-at-requires
+    relink-requires
+    cast-mark-free
+    add-mark-free
+    mark-free-requires
+    move-rover-requires
+    same-length
+    returns)

@@ -1,0 +1,79 @@
+use mathlib.Core.Path.{sym, _∙_}
+use native.Mathlib.Omega.{arith}
+use Rattle.storage.proofs.Requests.{given-split, given-whole, give-split, give-whole}
+use borrow.Author.Needs.{needs}
+use Rattle.storage.proofs.request.give.Statement.{statement}
+use Rattle.storage.proofs.request.give.Tie as tie
+
+next-at-requires : tie.Need-next-at-requires
+next-at-requires c κs = search needs
+
+size-at-requires : tie.Need-size-at-requires
+size-at-requires c κs = search needs
+
+sub-over : tie.Need-sub-over
+sub-over c = search needs
+
+split-requires : tie.Need-split-requires
+split-requires c κs = search needs
+
+cast-of : tie.Need-cast-of
+cast-of c = search needs
+
+of-requires : tie.Need-of-requires
+of-requires c κs = search needs
+
+set-rover-requires : tie.Need-set-rover-requires
+set-rover-requires c κs = search needs
+
+cast-result : tie.Need-cast-result
+cast-result c = search needs
+
+add-result : tie.Need-add-result
+add-result c = search needs
+
+whole-requires : tie.Need-whole-requires
+whole-requires c κs = search needs
+
+cast-of-2 : tie.Need-cast-of-2
+cast-of-2 c = search needs
+
+of-requires-2 : tie.Need-of-requires-2
+of-requires-2 c κs = search needs
+
+set-rover-requires-2 : tie.Need-set-rover-requires-2
+set-rover-requires-2 c κs = search needs
+
+same-length : tie.Need-same-length
+same-length c = search needs
+
+returns : tie.Need-returns
+returns c = ((cc) ∙ sym (given-split _ _ _ (omega arith)), (cc) ∙ sym (give-split _ _ _ (omega arith)))
+
+same-length-2 : tie.Need-same-length-2
+same-length-2 c = search needs
+
+returns-2 : tie.Need-returns-2
+returns-2 c = ((cc) ∙ sym (given-whole _ _ _ (omega arith)), (cc) ∙ sym (give-whole _ _ _ (omega arith)))
+
+pub give-spec : {M : Type 1} → statement M
+give-spec =
+    tie.close
+    (tie.spec
+    next-at-requires
+    size-at-requires
+    sub-over
+    split-requires
+    cast-of
+    of-requires
+    set-rover-requires
+    cast-result
+    add-result
+    whole-requires
+    cast-of-2
+    of-requires-2
+    set-rover-requires-2
+    same-length
+    returns
+    same-length-2
+    returns-2)

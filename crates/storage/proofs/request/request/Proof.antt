@@ -1,0 +1,43 @@
+use mathlib.Core.Path.{sym, _∙_}
+use native.Mathlib.Omega.{arith}
+use Rattle.storage.proofs.Requests.{find-room, request-none, request-some, found-none, found-some}
+use borrow.Author.Needs.{needs}
+use Rattle.storage.proofs.request.request.Statement.{statement}
+use Rattle.storage.proofs.request.request.Tie as tie
+
+find-requires : tie.Need-find-requires
+find-requires c κs = search needs
+
+same-length : tie.Need-same-length
+same-length c = search needs
+
+returns : tie.Need-returns
+returns c = (found-none _ _ (cc), sym (request-none _ _ (cc)))
+
+cast-give : tie.Need-cast-give
+cast-give c = omega (arith, find-room _ _ _ (c .before .before .find .ensures) (c .before .if1 .left))
+
+give-requires : tie.Need-give-requires
+give-requires c κs = find-room _ _ _ (c .before .before .find .ensures) (c .before .if1 .left)
+
+of-requires : tie.Need-of-requires
+of-requires c κs = search needs
+
+same-length-2 : tie.Need-same-length-2
+same-length-2 c = search needs
+
+returns-2 : tie.Need-returns-2
+returns-2 c = (found-some _ _ _ (omega arith) (cc), (cc) ∙ sym (request-some _ _ (omega arith)))
+
+pub request-spec : {M : Type 1} → statement M
+request-spec =
+    tie.close
+    (tie.spec
+    find-requires
+    same-length
+    returns
+    cast-give
+    give-requires
+    of-requires
+    same-length-2
+    returns-2)

@@ -1,0 +1,62 @@
+use Rattle.storage.specs.Request.{split}
+use borrow.Author.Needs.{needs}
+use Rattle.storage.proofs.request.split.Statement.{statement}
+use Rattle.storage.proofs.request.split.Tie as tie
+
+add-a : tie.Need-add-a
+add-a c = search needs
+
+add-put : tie.Need-add-put
+add-put c = search needs
+
+put-requires : tie.Need-put-requires
+put-requires c κs = search needs
+
+cast-put : tie.Need-cast-put
+cast-put c = search needs
+
+sub-put : tie.Need-sub-put
+sub-put c = search needs
+
+put-requires-2 : tie.Need-put-requires-2
+put-requires-2 c κs = search needs
+
+cast-put-2 : tie.Need-cast-put-2
+cast-put-2 c = search needs
+
+add-put-2 : tie.Need-add-put-2
+add-put-2 c = search needs
+
+put-requires-3 : tie.Need-put-requires-3
+put-requires-3 c κs = search needs
+
+add-clear-prev-free : tie.Need-add-clear-prev-free
+add-clear-prev-free c = search needs
+
+clear-prev-free-requires : tie.Need-clear-prev-free-requires
+clear-prev-free-requires c κs = search needs
+
+same-length : tie.Need-same-length
+same-length c = search needs
+
+returns : tie.Need-returns
+unfolding split
+returns c = cc
+
+pub split-spec : {M : Type 1} → statement M
+split-spec =
+    tie.close
+    (tie.spec
+    add-a
+    add-put
+    put-requires
+    cast-put
+    sub-put
+    put-requires-2
+    cast-put-2
+    add-put-2
+    put-requires-3
+    add-clear-prev-free
+    clear-prev-free-requires
+    same-length
+    returns)

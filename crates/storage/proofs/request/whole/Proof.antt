@@ -1,0 +1,46 @@
+use Rattle.storage.specs.Request.{whole}
+use borrow.Author.Needs.{needs}
+use Rattle.storage.proofs.request.whole.Statement.{statement}
+use Rattle.storage.proofs.request.whole.Tie as tie
+
+unlink-requires : tie.Need-unlink-requires
+unlink-requires c κs = search needs
+
+mul-put : tie.Need-mul-put
+mul-put c = search needs
+
+add-put : tie.Need-add-put
+add-put c = search needs
+
+put-requires : tie.Need-put-requires
+put-requires c κs = search needs
+
+add-clear-prev-free : tie.Need-add-clear-prev-free
+add-clear-prev-free c = search needs
+
+add-clear-prev-free-2 : tie.Need-add-clear-prev-free-2
+add-clear-prev-free-2 c = search needs
+
+clear-prev-free-requires : tie.Need-clear-prev-free-requires
+clear-prev-free-requires c κs = search needs
+
+same-length : tie.Need-same-length
+same-length c = search needs
+
+returns : tie.Need-returns
+unfolding whole
+returns c = cc
+
+pub whole-spec : {M : Type 1} → statement M
+whole-spec =
+    tie.close
+    (tie.spec
+    unlink-requires
+    mul-put
+    add-put
+    put-requires
+    add-clear-prev-free
+    add-clear-prev-free-2
+    clear-prev-free-requires
+    same-length
+    returns)

@@ -1,0 +1,28 @@
+use Rattle.storage.specs.Ring.{hook}
+use borrow.Author.Needs.{needs}
+use Rattle.storage.proofs.ring.hook.Statement.{statement}
+use Rattle.storage.proofs.ring.hook.Tie as tie
+
+add-put : tie.Need-add-put
+add-put c = search needs
+
+put-requires : tie.Need-put-requires
+put-requires c κs = search needs
+
+set-next-requires : tie.Need-set-next-requires
+set-next-requires c κs = search needs
+
+set-last-requires : tie.Need-set-last-requires
+set-last-requires c κs = search needs
+
+same-length : tie.Need-same-length
+same-length c = search needs
+
+returns : tie.Need-returns
+unfolding hook
+returns c = cc
+
+pub hook-spec : {M : Type 1} → statement M
+hook-spec =
+    tie.close
+    (tie.spec add-put put-requires set-next-requires set-last-requires same-length returns)

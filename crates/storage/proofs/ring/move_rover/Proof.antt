@@ -1,0 +1,43 @@
+use native.Mathlib.Omega.{arith}
+use mathlib.Core.Path.{sym, _∙_}
+use Rattle.storage.proofs.Releases.{moveRover-on, moveRover-off}
+use borrow.Author.Needs.{needs}
+use Rattle.storage.proofs.ring.move_rover.Statement.{statement}
+use Rattle.storage.proofs.ring.move_rover.Tie as tie
+
+rover-requires : tie.Need-rover-requires
+rover-requires c κs = search needs
+
+number-requires : tie.Need-number-requires
+number-requires c κs = search needs
+
+of-requires : tie.Need-of-requires
+of-requires c κs = search needs
+
+set-rover-requires : tie.Need-set-rover-requires
+set-rover-requires c κs = search needs
+
+same-length : tie.Need-same-length
+same-length c = search needs
+
+returns : tie.Need-returns
+returns c = (cc) ∙ sym (moveRover-on _ _ _ (cc))
+
+same-length-2 : tie.Need-same-length-2
+same-length-2 c = search needs
+
+returns-2 : tie.Need-returns-2
+returns-2 c = sym (moveRover-off _ _ _ (omega arith))
+
+pub move-rover-spec : {M : Type 1} → statement M
+move-rover-spec =
+    tie.close
+    (tie.spec
+    rover-requires
+    number-requires
+    of-requires
+    set-rover-requires
+    same-length
+    returns
+    same-length-2
+    returns-2)

@@ -1,0 +1,42 @@
+use Rattle.storage.specs.Ring.{unlink}
+use borrow.Author.Needs.{needs}
+use Rattle.storage.proofs.ring.unlink.Statement.{statement}
+use Rattle.storage.proofs.ring.unlink.Tie as tie
+
+next-at-requires : tie.Need-next-at-requires
+next-at-requires c κs = search needs
+
+last-at-requires : tie.Need-last-at-requires
+last-at-requires c κs = search needs
+
+cast-set-next : tie.Need-cast-set-next
+cast-set-next c = search needs
+
+set-next-requires : tie.Need-set-next-requires
+set-next-requires c κs = search needs
+
+cast-set-last : tie.Need-cast-set-last
+cast-set-last c = search needs
+
+set-last-requires : tie.Need-set-last-requires
+set-last-requires c κs = search needs
+
+same-length : tie.Need-same-length
+same-length c = search needs
+
+returns : tie.Need-returns
+unfolding unlink
+returns c = cc
+
+pub unlink-spec : {M : Type 1} → statement M
+unlink-spec =
+    tie.close
+    (tie.spec
+    next-at-requires
+    last-at-requires
+    cast-set-next
+    set-next-requires
+    cast-set-last
+    set-last-requires
+    same-length
+    returns)

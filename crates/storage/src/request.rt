@@ -1,0 +1,93 @@
+// Requests: a free block is found along the ring and given, its high end or all of it.
+ghost use mathlib.Core.Path.{_≡_};
+ghost use Prim.Native.Nat.{_≤_, _<_};
+ghost use Rattle.segment.specs.Blocks.{sizeAt};
+ghost use Rattle.storage.specs.Request as requests;
+ghost use Rattle.storage.specs.Found.{found};
+use super::ring::clear_prev_free;
+use super::ring::unlink;
+use descriptor::address::SegmentAddress;
+use segment::blocks::next_at;
+use segment::blocks::size_at;
+use segment::put;
+use segment::state::rover;
+use segment::state::set_rover;
+
+// What a request gives: a block, or the news that no free block is long enough.
+pub enum Found {
+    At(SegmentAddress),
+    Full,
+}
+
+// A block of `size` words.
+pub fn request(seg: &mut [u32], size: usize) -> Found
+    ensures { λ r. ⌜ r ≡ found (requests.requestAt (now (seg .entry)) size) ⌝ }
+    ensures { λ _. ⌜ now (seg .exit) ≡ requests.request (now (seg .entry)) size ⌝ }
+{
+    let f = find(seg, size);
+    if f == 0 {
+        return Found::Full;
+    }
+    Found::At(SegmentAddress::of(give(seg, f, size as u16)))
+}
+
+// The first free block with room, from ROVER along NEXT; 0 where there is none. Each block is looked at once.
+fn find(seg: &[u32], size: usize) -> u16
+    ensures { λ r. ⌜ r ≡ requests.find (now (seg .entry)) size ⌝ }
+{
+    let stop = rover(seg).number() as u16;
+    let mut at = stop;
+    let mut left = seg.len();
+    while 0 < left {
+        if size <= size_at(seg, at as u32) as usize {
+            return at;
+        }
+        let next = next_at(seg, at as u32);
+        if next == stop {
+            return 0;
+        }
+        at = next;
+        left -= 1;
+    }
+    0
+}
+
+// The free block at f serves the request: where the block given starts.
+fn give(seg: &mut [u32], f: u16, size: u16) -> u32
+    requires { ⌜ size ≤ sizeAt (now seg) f ⌝ }
+    ensures { λ r. ⌜ r ≡ requests.given (now (seg .entry)) f size ⌝ }
+    ensures { λ _. ⌜ now (seg .exit) ≡ requests.give (now (seg .entry)) f size ⌝ }
+{
+    let next = next_at(seg, f as u32);
+    let over = size_at(seg, f as u32) - size;
+    if 3 <= over {
+        split(seg, f, over, size);
+        set_rover(seg, SegmentAddress::of(next as u32));
+        f as u32 + over as u32
+    } else {
+        whole(seg, f, over, size);
+        set_rover(seg, SegmentAddress::of(next as u32));
+        f as u32
+    }
+}
+
+// The free block at f shrinks to `rest` words, and its high end is given.
+fn split(seg: &mut [u32], f: u16, rest: u16, size: u16)
+    requires { ⌜ 0 < rest ⌝ }
+    ensures { λ _. ⌜ now (seg .exit) ≡ requests.split (now (seg .entry)) f rest size ⌝ }
+{
+    let a = f as u32 + rest as u32;
+    put(seg, f as usize, 0x8000_0000 + rest as u32);
+    put(seg, a as usize - 1, rest as u32);
+    put(seg, a as usize, 0x4000_0000 + size as u32);
+    clear_prev_free(seg, a + size as u32);
+}
+
+// The free block at f leaves the ring and is given whole, with `slop` words over.
+fn whole(seg: &mut [u32], f: u16, slop: u16, size: u16)
+    ensures { λ _. ⌜ now (seg .exit) ≡ requests.whole (now (seg .entry)) f slop size ⌝ }
+{
+    unlink(seg, f as u32);
+    put(seg, f as usize, slop as u32 * 0x1_0000 + size as u32);
+    clear_prev_free(seg, f as u32 + size as u32 + slop as u32);
+}

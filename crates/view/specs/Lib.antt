@@ -1,0 +1,3 @@
+-- What a data segment is seen as.
+pub mod Machine
+pub mod View

@@ -1,0 +1,1 @@
+// Definitions only: what a segment is seen as. They stand in specs/.
