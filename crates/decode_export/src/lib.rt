@@ -37,7 +37,7 @@ pub extern "C" fn crms_walk(code: &[u8]) -> u64 {
 // Another number for another instruction.
 fn weight(i: Instruction) -> u64 {
     match i {
-        Instruction::Load(a) => 1000 + address_weight(a),
+        Instruction::Load(a) => 1000 + address_weight(a) as u64,
         Instruction::ShortConstant {
             negative,
             magnitude,
@@ -48,11 +48,11 @@ fn weight(i: Instruction) -> u64 {
             20000 + magnitude as u64
         }
         Instruction::Scalar(o) => operator_weight(o),
-        Instruction::Memory(o, a) => 100 * memory_weight(o) + address_weight(a),
+        Instruction::Memory(o, a) => 100 * memory_weight(o) as u64 + address_weight(a) as u64,
         Instruction::Stack(o) => stack_weight(o),
         Instruction::Array(o) => array_weight(o),
         Instruction::Control(o) => control_weight(o),
-        Instruction::Jump(o, to) => jump_weight(o) + to.number() as u64,
+        Instruction::Jump(o, to) => jump_weight(o) as u64 + to.number() as u64,
         Instruction::ConstantScalar(w) => w as u64,
         Instruction::ConstantVector { count, first } => count as u64 + first.number() as u64,
         Instruction::Call {
@@ -69,10 +69,10 @@ fn weight(i: Instruction) -> u64 {
     }
 }
 
-fn address_weight(a: Address) -> u64 {
+fn address_weight(a: Address) -> u32 {
     match a {
-        Address::Local(below) => below as u64,
-        Address::Global(at) => 10000 + at.number() as u64,
+        Address::Local(below) => below,
+        Address::Global(at) => at.number(),
     }
 }
 
@@ -109,9 +109,9 @@ fn dyadic_weight(o: Dyadic) -> u64 {
     }
 }
 
-fn memory_weight(o: MemoryOperation) -> u64 {
+fn memory_weight(o: MemoryOperation) -> u8 {
     match o {
-        MemoryOperation::AssignIndexed(rank) => rank as u64,
+        MemoryOperation::AssignIndexed(rank) => rank,
         MemoryOperation::Assign => 16,
         MemoryOperation::AssignNoResult => 17,
         MemoryOperation::Reference => 18,
@@ -149,7 +149,7 @@ fn control_weight(o: ControlOperation) -> u64 {
     }
 }
 
-fn jump_weight(o: Jump) -> u64 {
+fn jump_weight(o: Jump) -> u32 {
     match o {
         Jump::Go => 40000,
         Jump::GoTrue => 41000,
