@@ -1,5 +1,5 @@
 //! Nanoseconds for an element of the loops of the crate `elements`, beside plain Rust that makes the same checks and must
-//! give the same words. Run by bench/elements/run; no test depends on the times.
+//! give the same words. Run by bench/run-elements.
 use std::hint::black_box;
 use std::time::Instant;
 
@@ -149,11 +149,11 @@ fn proved_cycle(from: &[u32], to: &mut [u32]) {
     unsafe { elements_cycle(from.as_ptr(), from.len(), to.as_mut_ptr(), to.len()) }
 }
 
-/// The best of many rounds, in nanoseconds for an element.
+/// The best of many short rounds, in nanoseconds for an element.
 fn time(n: usize, mut work: impl FnMut()) -> f64 {
-    let turns = (200_000 / n).max(5);
+    let turns = (20_000 / n).max(2);
     let mut best = f64::MAX;
-    for _ in 0..15 {
+    for _ in 0..100 {
         let start = Instant::now();
         for _ in 0..turns {
             work();

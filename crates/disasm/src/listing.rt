@@ -1,5 +1,5 @@
 // The listing of one procedure segment.
-ghost use Prim.Native.Nat.{_≤_, _<_};
+ghost use Prim.Native.Nat.{_+_, _^_, _<_};
 ghost use lib.ListN.{length};
 use crate::text::array_name;
 use crate::text::control_name;
@@ -86,7 +86,35 @@ fn function(p: &[u8], k: u16) {
     field(b"NLOCALS", h.nlocals);
     field(b"NCODE", h.ncode);
     say(b"\n");
+    line_table(p, block);
     instructions(p, block);
+}
+
+// The line entries, where there are any.
+fn line_table(p: &[u8], block: Block) {
+    if block.header.nlines == 0 {
+        return;
+    }
+    say(b"lines");
+    line_entries(p, block);
+    say(b"\n");
+}
+
+fn line_entries(p: &[u8], block: Block) {
+    let last = block.header.nlines as u32;
+    let mut i: u32 = 0;
+    while i < last {
+        i += 1;
+        line_entry(p, block, i);
+    }
+}
+
+fn line_entry(p: &[u8], block: Block, i: u32) {
+    let Line::At(place) = block.line(p, i) else {
+        return;
+    };
+    say(b" ");
+    number(place.number() as u64);
 }
 
 // Instruction after instruction; a byte that starts none is passed over.
@@ -123,37 +151,45 @@ fn line(p: &[u8], block: Block, i: u32, at: u32) {
 
 // One instruction, and the place after it, which is a later one.
 fn instruction(code: &[u8], at: u32) -> u32
-    requires { ⌜ (at < 262148) × (length (now code) ≤ 262148) ⌝ }
+    requires { ⌜ (at + 1 < 2 ^ 32) × (length (now code) < 2 ^ 32) ⌝ }
     ensures { λ r. ⌜ at < r ⌝ }
 {
     match instruction_at(code, CodeAddress::of(at)) {
         Decoded::Trap(class, n) => {
-            dump(code, at as usize, at as usize + 1);
-            say(b"trap (");
-            number(class as u64);
-            say(b",");
-            number(n as u64);
-            say(b")\n");
+            trapped(code, at, class, n);
             at + 1
         }
         Decoded::Instruction(i, next) => {
-            dump(code, at as usize, next.number() as usize);
-            name(code, byte_at(code, at as usize), i);
-            say(b"\n");
+            decoded(code, at, next.number(), i);
             next.number()
         }
     }
+}
+
+fn trapped(code: &[u8], at: u32, class: u8, n: u8) {
+    dump(code, at as usize, at as usize + 1);
+    say(b"trap (");
+    number(class as u64);
+    say(b",");
+    number(n as u64);
+    say(b")\n");
+}
+
+fn decoded(code: &[u8], at: u32, next: u32, i: Instruction) {
+    dump(code, at as usize, next as usize);
+    name(code, byte_at(code, at as usize), i);
+    say(b"\n");
 }
 
 // The place and the first five bytes.
 fn dump(code: &[u8], from: usize, to: usize) {
     number_right(from as u64);
     say(b"  ");
-    let mut k: usize = 0;
-    while k < 5 {
-        byte_column(code, from, to, k);
-        k += 1;
-    }
+    byte_column(code, from, to, 0);
+    byte_column(code, from, to, 1);
+    byte_column(code, from, to, 2);
+    byte_column(code, from, to, 3);
+    byte_column(code, from, to, 4);
     say(b" ");
 }
 
@@ -239,9 +275,15 @@ fn vector(code: &[u8], count: u8, words: CodeAddress) {
     number(count as u64);
     say(b" from ");
     number(words.number() as u64);
+    elements(code, count, words.number() as u64);
+}
+
+fn elements(code: &[u8], count: u8, from: u64)
+    requires { ⌜ from < 2 ^ 32 ⌝ }
+{
     let mut j: u8 = 0;
     while j < count {
-        word(code, words.number() as u64 + 4 * j as u64);
+        word(code, from + 4 * j as u64);
         j += 1;
     }
 }

@@ -34,12 +34,12 @@ fn list_argument(k: usize) {
 
 // A file of no length that a procedure segment has is said to be so before anything is read from it.
 fn list_bytes(p: &[u8]) {
-    number(p.len() as u64);
-    say(b" bytes");
     if 32768 < p.len() {
-        say(b": refused 11, longer than 32768 bytes\n");
+        say(b"refused 11, longer than 32768 bytes\n");
         return;
     }
+    number(p.len() as u64);
+    say(b" bytes");
     if p.len() % 4 != 0 {
         say(b": refused 11, not whole words\n");
         return;

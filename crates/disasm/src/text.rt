@@ -15,11 +15,11 @@ pub fn say(words: &[u8]) {
 }
 
 pub fn number(n: u64) {
-    io::number::print_decimal(STDOUT_FILENO, n);
+    io::print_decimal(STDOUT_FILENO, n);
 }
 
 pub fn hex(n: u64, width: usize) {
-    io::number::print_hex(STDOUT_FILENO, n, width);
+    io::print_hex(STDOUT_FILENO, n, width);
 }
 
 // A number of at most five digits, set to the right.

@@ -19,3 +19,4 @@ pub mod Lists
 pub mod Others
 pub mod Seen
 pub mod Theorems
+pub mod Plans

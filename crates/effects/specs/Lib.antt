@@ -6,3 +6,4 @@ pub mod Sound
 pub mod Fits
 pub mod Alike
 pub mod Theorems
+pub mod Plans

@@ -94,7 +94,8 @@ enter none n f m =
       flags = m .flags;
       temporaries = [];
       frames = record { function = f / 2 ^ 16; pctr = f % 2 ^ 16; cells = replicate n none ++ m .temporaries } ∷ m .frames;
-      globals = m .globals }
+      globals = m .globals;
+    }
 
 abbrev pub currentCells : {A : Type 0} → List (Frame A) → List A
 currentCells [] = []
@@ -114,7 +115,8 @@ leave none n result m =
       flags = m .flags;
       temporaries = pushIf result (getD (currentCells (m .frames)) 0 none) (drop n (currentCells (m .frames)));
       frames = older (m .frames);
-      globals = m .globals }
+      globals = m .globals;
+    }
 
 abbrev pub jumpFrames : {A : Type 0} → ℕ → List (Frame A) → List (Frame A)
 jumpFrames place [] = []

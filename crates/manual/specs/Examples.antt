@@ -68,7 +68,8 @@ machine temporaries =
       flags = 1;
       temporaries = temporaries;
       frames = record { function = 1; pctr = 8; cells = number 7 ∷ undefined ∷ indirect (Global (segment 8)) ∷ [] } ∷ record { function = 1; pctr = 8; cells = [] } ∷ [];
-      globals = vector ∷ undefined ∷ [] }
+      globals = vector ∷ undefined ∷ [];
+    }
 
 abbrev plan : List Cell → Instruction → Plan
 plan temporaries i = planOf running (seenOf 20 (machine temporaries)) i 9

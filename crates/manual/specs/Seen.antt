@@ -82,4 +82,5 @@ seenOf words m =
       local = λ variables v. localAt read (depthOfFrames (m .frames) - 2) variables v;
       global = λ g. globalAt read (8 + length (m .globals)) g;
       bottom = noOlder (m .frames);
-      result = λ has. cond has (getD (currentCells (m .frames)) 0 undefined) undefined }
+      result = λ has. cond has (getD (currentCells (m .frames)) 0 undefined) undefined;
+    }

@@ -130,27 +130,28 @@ module _ (s n t m e : ℕ) (l : 2 ^ 22 ≤ n) (a : 0 < m) (b : m * 4 < 2 ^ e) wh
   power : 2 ^ e * 2 ^ 147 * 1 ≡ 2 ^ (e + 147) * 1
   power = ap (λ (y : ℕ). y * 1) (sym (pow-add 2 e 147))
 
-  pub far-like : s ≡ t → rounded s ((n * 8 + 1) * 2 ^ (e + 147)) (2 ^ 150) ≡ plus true s (n * 2 ^ e) t m
-  far-like q =
+  -- x is three more digits of n, the last of them sticky
+  pub far-like : s ≡ t → (x : ℕ) → x ≡ n * 8 + 1 → rounded s (x * 2 ^ (e + 147)) (2 ^ 150) ≡ plus true s (n * 2 ^ e) t m
+  far-like q x f =
       sym (plus-by s (n * 2 ^ e) t m s (n * 2 ^ e + m) (like s (n * 2 ^ e) t m q)
       ∙ rounded-sticky s (n * 2 ^ e + m) 1 (4 * n) (e + 147) (lit< tt) (omega arith)
       (subst (λ (y : ℕ). 2 * (4 * n) * y < (n * 2 ^ e + m) * 2 ^ 150) power (like-lo n (2 ^ e) m (2 ^ 147) a b (pow-pos 147)))
       (subst (λ (y : ℕ). (n * 2 ^ e + m) * 2 ^ 150 < (2 * (4 * n) + 2) * y) power (like-hi n (2 ^ e) m (2 ^ 147) a b (pow-pos 147)))
-      ∙ ap (λ (y : ℕ). rounded s (y * 2 ^ (e + 147)) (2 ^ 150)) (let z : 2 * (4 * n) + 1 ≡ n * 8 + 1 = omega arith in z))
+      ∙ ap (λ (y : ℕ). rounded s (y * 2 ^ (e + 147)) (2 ^ 150)) (let z : 2 * (4 * n) + 1 ≡ x = omega arith in z))
 
   -- m is less than the other
   below : m ≤ n * 2 ^ e
   below = let k = mul-le-mul-right {m = 1} {n = n} (2 ^ e) (omega arith) in omega arith
 
-  pub far-unlike : (s ≡ t → ⊥) → rounded s ((n * 8 - 1) * 2 ^ (e + 147)) (2 ^ 150) ≡ plus true s (n * 2 ^ e) t m
-  far-unlike q =
+  pub far-unlike : (s ≡ t → ⊥) → (x : ℕ) → x ≡ n * 8 - 1 → rounded s (x * 2 ^ (e + 147)) (2 ^ 150) ≡ plus true s (n * 2 ^ e) t m
+  far-unlike q x f =
       let i : 4 * n - 1 + 1 ≡ 4 * n = omega arith in
       let j : n * 2 ^ e - m + m ≡ n * 2 ^ e = sub-add-cancel below in
       sym (plus-by s (n * 2 ^ e) t m s (n * 2 ^ e - m) (more s (n * 2 ^ e) t m q below)
       ∙ rounded-sticky s (n * 2 ^ e - m) 1 (4 * n - 1) (e + 147) (lit< tt) (omega arith)
       (subst (λ (y : ℕ). 2 * (4 * n - 1) * y < (n * 2 ^ e - m) * 2 ^ 150) power (unlike-lo n (2 ^ e) m (2 ^ 147) a b (pow-pos 147) (4 * n - 1) (n * 2 ^ e - m) i j))
       (subst (λ (y : ℕ). (n * 2 ^ e - m) * 2 ^ 150 < (2 * (4 * n - 1) + 2) * y) power (unlike-hi n (2 ^ e) m (2 ^ 147) a b (pow-pos 147) (4 * n - 1) (n * 2 ^ e - m) i j))
-      ∙ ap (λ (y : ℕ). rounded s (y * 2 ^ (e + 147)) (2 ^ 150)) (let z : 2 * (4 * n - 1) + 1 ≡ n * 8 - 1 = omega arith in z))
+      ∙ ap (λ (y : ℕ). rounded s (y * 2 ^ (e + 147)) (2 ^ 150)) (let z : 2 * (4 * n - 1) + 1 ≡ x = omega arith in z))
 
 -- ---- aligning: g * 2 ^ f as a multiple of 2 ^ e, or g * 2 ^ e far below 2 ^ f
 

@@ -30,6 +30,10 @@ closest-cases P a b l e g = go (compare (a % b * 2) b) (leb→le (a % b * 2) b) 
     go Ordering·eq h k q n = e (q tt)
     go Ordering·gt h k q n = g (k tt)
 
+-- a number is `closest` if it is that in each of the three cases
+pub closest-is : (a b x : ℕ) → (a % b * 2 < b → x ≡ a / b) → (a % b * 2 ≡ b → x ≡ a / b + a / b % 2) → (b < a % b * 2 → x ≡ suc (a / b)) → x ≡ closest a b
+closest-is a b x l e g = closest-cases (λ (m : ℕ). x ≡ m) a b l e g
+
 -- ---- `rounded`
 
 pub rounded-none : (s den : ℕ) → rounded s 0 den ≡ Word 0

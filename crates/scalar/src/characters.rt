@@ -4,13 +4,12 @@ ghost use Rattle.scalar.specs.Operators as S;
 use crate::Answer;
 use crate::Whole;
 use crate::reading;
-use crate::words;
 use descriptor::Descriptor;
 
 pub fn test_number(a: u32) -> Answer
     ensures { λ r. ⌜ r ≡ S.testNumber a ⌝ }
 {
-    if words::is_character(a) {
+    if reading::is_character(a) {
         return Answer::Word(0);
     }
     Answer::Word(1)

@@ -7,6 +7,7 @@ ghost use Rattle.descriptor.specs.Kinds.{bit};
 ghost use Rattle.scalar.specs.Value.{code};
 ghost use Rattle.scalar.specs.Operators as S;
 use crate::Answer;
+use crate::reading;
 use crate::sums;
 use crate::words;
 
@@ -28,10 +29,10 @@ pub fn equal(a: u32, b: u32) -> Answer
     if words::both_small(a, b) {
         return if_zero(sums::integer_difference(a, b));
     }
-    if words::is_character(a) {
+    if reading::is_character(a) {
         return same_character(a, b);
     }
-    if words::is_character(b) {
+    if reading::is_character(b) {
         return Answer::Word(0);
     }
     if_zero(comparison(a, b))
@@ -41,7 +42,7 @@ pub fn equal(a: u32, b: u32) -> Answer
 fn same_character(a: u32, b: u32) -> Answer
     ensures { λ r. ⌜ r ≡ Answer.Word (bit (isCharacter b && eqb (code a) (code b))) ⌝ }
 {
-    if words::is_character(b) {
+    if reading::is_character(b) {
         if a % 0x100 == b % 0x100 {
             return Answer::Word(1);
         }

@@ -1,16 +1,22 @@
-// How a scalar is read where a whole number, or zero or one, is wanted.
+// How a scalar is read: as a character, as a whole number, as zero or one.
 ghost use mathlib.Core.Path.{_≡_};
 ghost use Prim.Native.Nat.{_*_, _^_, _≤_, _<_};
+ghost use Rattle.descriptor.specs.Fields.{isCharacter};
 ghost use Rattle.descriptor.specs.Kinds.{bit};
 ghost use Rattle.scalar.specs.Reading as S;
 use crate::Truth;
 use crate::Whole;
-use crate::words;
+
+pub fn is_character(w: u32) -> bool
+    ensures { λ r. ⌜ r ≡ isCharacter w ⌝ }
+{
+    w / 0x100_0000 % 0x80 == 1
+}
 
 pub fn whole(w: u32) -> Whole
     ensures { λ r. ⌜ r ≡ S.wholeOf w ⌝ }
 {
-    if words::is_character(w) {
+    if is_character(w) {
         return Whole::Character;
     }
     let negative = w / 0x8000_0000 == 1;
@@ -59,7 +65,7 @@ fn whole_float(negative: bool, sig: u32, exp: u32) -> Whole
 pub fn truth(w: u32) -> Truth
     ensures { λ r. ⌜ r ≡ S.truthOf w ⌝ }
 {
-    if words::is_character(w) {
+    if is_character(w) {
         return Truth::Character;
     }
     if w / 0x4000_0000 % 2 == 1 {

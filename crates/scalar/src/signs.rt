@@ -3,12 +3,12 @@ ghost use mathlib.Core.Path.{_≡_};
 ghost use Prim.Native.Nat.{_<_};
 ghost use Rattle.scalar.specs.Operators as S;
 use crate::Answer;
-use crate::words;
+use crate::reading;
 
 pub fn identity(a: u32) -> Answer
     ensures { λ r. ⌜ r ≡ S.identity a ⌝ }
 {
-    if words::is_character(a) {
+    if reading::is_character(a) {
         return Answer::Trap(7, 0);
     }
     Answer::Word(a)
@@ -17,16 +17,19 @@ pub fn identity(a: u32) -> Answer
 pub fn negative(a: u32) -> Answer
     ensures { λ r. ⌜ r ≡ S.negative a ⌝ }
 {
-    if words::is_character(a) {
+    if reading::is_character(a) {
         return Answer::Trap(7, 0);
     }
-    with_sign(1 - a / 0x8000_0000, a)
+    if a / 0x8000_0000 == 0 {
+        return with_sign(1, a);
+    }
+    with_sign(0, a)
 }
 
 pub fn magnitude(a: u32) -> Answer
     ensures { λ r. ⌜ r ≡ S.magnitudeOf a ⌝ }
 {
-    if words::is_character(a) {
+    if reading::is_character(a) {
         return Answer::Trap(7, 0);
     }
     with_sign(0, a)

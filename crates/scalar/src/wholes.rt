@@ -3,13 +3,14 @@ ghost use mathlib.Core.Path.{_≡_};
 ghost use Prim.Native.Nat.{_*_, _^_, _<_};
 ghost use Rattle.scalar.specs.Operators as S;
 use crate::Answer;
+use crate::reading;
 use crate::results;
 use crate::words;
 
 pub fn floor(a: u32) -> Answer
     ensures { λ r. ⌜ r ≡ S.floor a ⌝ }
 {
-    if words::is_character(a) {
+    if reading::is_character(a) {
         return Answer::Trap(7, 0);
     }
     whole_near((a / 0x8000_0000) as u64, a)
@@ -18,7 +19,7 @@ pub fn floor(a: u32) -> Answer
 pub fn ceiling(a: u32) -> Answer
     ensures { λ r. ⌜ r ≡ S.ceiling a ⌝ }
 {
-    if words::is_character(a) {
+    if reading::is_character(a) {
         return Answer::Trap(7, 0);
     }
     whole_near((1 - a / 0x8000_0000) as u64, a)

@@ -1,7 +1,7 @@
-// What the bits of a word say: whether it is small or a character, and a number's magnitude.
+// What the bits of operands say: whether both are small, whether one is a character, and a number's magnitude.
 ghost use mathlib.Core.Path.{_≡_};
-ghost use Rattle.descriptor.specs.Fields.{isCharacter};
 ghost use Rattle.scalar.specs.Parts.{Unpacked, bothSmall, oneCharacter};
+use crate::reading;
 
 // A magnitude of sig * 2^exp units of 2^-150.
 pub struct Parts {
@@ -16,16 +16,10 @@ pub fn both_small(a: u32, b: u32) -> bool
     a / 0x80_0000 % 0x100 == 0 && b / 0x80_0000 % 0x100 == 0
 }
 
-pub fn is_character(w: u32) -> bool
-    ensures { λ r. ⌜ r ≡ isCharacter w ⌝ }
-{
-    w / 0x100_0000 % 0x80 == 1
-}
-
 pub fn one_character(a: u32, b: u32) -> bool
     ensures { λ r. ⌜ r ≡ oneCharacter a b ⌝ }
 {
-    is_character(a) || is_character(b)
+    reading::is_character(a) || reading::is_character(b)
 }
 
 // The magnitude of a number.

@@ -28,7 +28,8 @@ words s =
       flags = flags s;
       temporaries = downward s (sbase s + lbase s + 2) (ltop s - (lbase s + 1));
       frames = framesFrom (suc (lbase s)) s (lbase s);
-      globals = part s 8 (blockptr s - 8) }
+      globals = part s 8 (blockptr s - 8);
+    }
 
 -- The words that own arrays: those of all cells.
 abbrev pub owners : List ℕ → List ℕ

@@ -11,7 +11,7 @@ use Rattle.descriptor.proofs.unsigned_kind.Reads as unsigned-kind-reads
 returns : tie.Need-returns
 unfolding kindOf integerKind
 -- c .if1 .taken : Path'._≡_ {A = Nat.ℕ} (Row.get 7 (T9 .locals) (m8 (before· .args))) 1
--- c .before .args : 
+-- c .before .args :
 returns c = simp (eq-eqb _ _ (c .if1 .taken))
 
 -- src/lib.rt:133:17
@@ -20,7 +20,7 @@ unfolding kindOf integerKind
 -- c .if3 .taken : Nat._<_ 8388607 (Row.get 5 (T32 .locals) (m29 (before· .before)))
 -- c .before .if2 .taken : Path'._≡_ {A = Nat.ℕ} (Row.get 4 (T29 .locals) (m27 (before· .before))) 0
 -- c .before .before .if1 .left : Path'._≡_ {A = Nat.ℕ} (Row.get 7 (T9 .locals) (m8 (before· .args))) 1 → ⊥
--- c .before .before .before .args : 
+-- c .before .before .before .args :
 returns-2 c = simp (ne-eqb _ _ (c .before .before .if1 .left), eq-eqb _ _ (c .before .if2 .taken), lt-ltb _ _ (c .if3 .taken))
 
 -- src/lib.rt:136:17
@@ -30,7 +30,7 @@ unfolding kindOf integerKind
 -- c .before .if3 .left : Nat._≤_ (Row.get 5 (T32 .locals) (m29 (before· .before))) 8388607
 -- c .before .before .if2 .taken : Path'._≡_ {A = Nat.ℕ} (Row.get 4 (T29 .locals) (m27 (before· .before))) 0
 -- c .before .before .before .if1 .left : Path'._≡_ {A = Nat.ℕ} (Row.get 7 (T9 .locals) (m8 (before· .args))) 1 → ⊥
--- c .before .before .before .before .args : 
+-- c .before .before .before .before .args :
 returns-3 c = simp (ne-eqb _ _ (c .before .before .before .if1 .left), eq-eqb _ _ (c .before .before .if2 .taken), le-ltb _ _ (c .before .if3 .left), eq-eqb _ _ (c .if4 .taken))
 
 -- src/lib.rt:138:13
@@ -40,7 +40,7 @@ unfolding kindOf integerKind
 -- c .before .if3 .left : Nat._≤_ (Row.get 5 (T32 .locals) (m29 (before· .before))) 8388607
 -- c .before .before .if2 .taken : Path'._≡_ {A = Nat.ℕ} (Row.get 4 (T29 .locals) (m27 (before· .before))) 0
 -- c .before .before .before .if1 .left : Path'._≡_ {A = Nat.ℕ} (Row.get 7 (T9 .locals) (m8 (before· .args))) 1 → ⊥
--- c .before .before .before .before .args : 
+-- c .before .before .before .before .args :
 returns-4 c = simp (ne-eqb _ _ (c .before .before .before .if1 .left), eq-eqb _ _ (c .before .before .if2 .taken), le-ltb _ _ (c .before .if3 .left), ne-eqb _ _ (c .if4 .left))
 
 -- src/lib.rt:144:13
@@ -54,7 +54,7 @@ unfolding kindOf integerKind
 -- c .before .if5 .taken : Path'._≡_ {A = Nat.ℕ} (Row.get 7 (T59 .locals) (m54 (before· .before))) 0
 -- c .before .before .if2 .left : Path'._≡_ {A = Nat.ℕ} (Row.get 4 (T29 .locals) (m27 (before· .before))) 0 → ⊥
 -- c .before .before .before .if1 .left : Path'._≡_ {A = Nat.ℕ} (Row.get 7 (T9 .locals) (m8 (before· .args))) 1 → ⊥
--- c .before .before .before .before .args : 
+-- c .before .before .before .before .args :
 returns-5 c = simp (ne-eqb _ _ (c .before .before .before .if1 .left), ne-eqb _ _ (c .before .before .if2 .left), eq-eqb _ _ (c .before .if5 .taken), ← c .unsigned-kind .ensures)
 
 -- src/lib.rt:117:5
@@ -63,7 +63,7 @@ unfolding kindOf integerKind
 -- c .if5 .left : Path'._≡_ {A = Nat.ℕ} (Row.get 7 (T59 .locals) (m54 (before· .before))) 0 → ⊥
 -- c .before .if2 .left : Path'._≡_ {A = Nat.ℕ} (Row.get 4 (T29 .locals) (m27 (before· .before))) 0 → ⊥
 -- c .before .before .if1 .left : Path'._≡_ {A = Nat.ℕ} (Row.get 7 (T9 .locals) (m8 (before· .args))) 1 → ⊥
--- c .before .before .before .args : 
+-- c .before .before .before .args :
 returns-6 c = simp (ne-eqb _ _ (c .before .before .if1 .left), ne-eqb _ _ (c .before .if2 .left), ne-eqb _ _ (c .if5 .left))
 
 pub kind-spec : {M : Type 1} → statement M

@@ -1,7 +1,6 @@
-use Prim.Native.Nat.{ℕ, _+_, _-_, _/_, _%_, _^_}
-use mathlib.Core.Path.{_≡_}
+use Prim.Native.Nat.{_-_, _^_}
 use native.Mathlib.Omega.{arith}
-use Rattle.scalar.proofs.Rounding.{closest-cases}
+use Rattle.scalar.proofs.Rounding.{closest-is}
 use borrow.Author.Needs.{needs}
 use Rattle.scalar.proofs.results.nearest.Statement.{statement}
 use Rattle.scalar.proofs.results.nearest.Tie as tie
@@ -16,9 +15,7 @@ add-result-3 : tie.Need-add-result-3
 add-result-3 c = search needs
 
 returns : tie.Need-returns
-returns c =
-    let n = c .args .n in
-    closest-cases (λ (m : ℕ). n / 2 ^ 41 + (n % 2 ^ 41 + 0xff_ffff_ffff + n / 2 ^ 41 % 2) / 2 ^ 41 ≡ m) n (2 ^ 41) (λ h. omega arith) (λ h. omega arith) (λ h. omega arith)
+returns c = closest-is (c .args .n) (2 ^ 41) _ (λ h. omega arith) (λ h. omega arith) (λ h. omega arith)
 
 pub nearest-spec : {M : Type 1} → statement M
 nearest-spec = tie.close (tie.spec add-result add-result-2 add-result-3 returns)

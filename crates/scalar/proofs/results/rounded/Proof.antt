@@ -15,7 +15,7 @@ add-if2 : tie.Need-add-if2
 add-if2 c = let z = top-zeros-lt 0 (c .before .args .q) 0 (pos-of-ne-zero (c .if1 .left)) (c .before .fits .q .fits) in omega arith
 
 returns-2 : tie.Need-returns-2
-returns-2 c = sym (shifted-under (c .before .before .args .s) (c .before .before .args .q) (c .before .before .args .e) (pos-of-ne-zero (c .before .if1 .left)) (c .before .before .fits .q .fits) (c .if2 .taken))
+returns-2 c = sym (shifted-under (c .before .before .args .s) (c .before .before .args .q) (c .before .before .args .e) (pos-of-ne-zero (c .before .if1 .left)) (c .before .before .fits .q .fits) (omega arith))
 
 add-x : tie.Need-add-x
 add-x c = search needs
@@ -57,10 +57,10 @@ add-t17 : tie.Need-add-t17
 add-t17 c = search needs
 
 returns-3 : tie.Need-returns-3
-returns-3 c = returned (c .before .before .before .before .args .s) (c .before .before .before .before .args .q) (c .before .before .before .before .args .e) (pos-of-ne-zero (c .before .before .before .if1 .left)) (c .before .before .before .before .fits .q .fits) (c .before .nearest .result) (c .before .nearest .ensures) (c .before .before .if2 .left) (c .if3 .taken)
+returns-3 c = returned (c .before .before .before .before .args .s) (c .before .before .before .before .args .q) (c .before .before .before .before .args .e) (pos-of-ne-zero (c .before .before .before .if1 .left)) (c .before .before .before .before .fits .q .fits) (c .before .nearest .result) (c .before .nearest .ensures) (omega (arith, c .before .before .if2 .left)) (c .if3 .taken)
 
 returns-4 : tie.Need-returns-4
-returns-4 c = returned-over (c .before .before .before .before .args .s) (c .before .before .before .before .args .q) (c .before .before .before .before .args .e) (pos-of-ne-zero (c .before .before .before .if1 .left)) (c .before .before .before .before .fits .q .fits) (c .before .nearest .result) (c .before .nearest .ensures) (c .before .before .if2 .left) (c .if3 .left)
+returns-4 c = returned-over (c .before .before .before .before .args .s) (c .before .before .before .before .args .q) (c .before .before .before .before .args .e) (pos-of-ne-zero (c .before .before .before .if1 .left)) (c .before .before .before .before .fits .q .fits) (c .before .nearest .result) (c .before .nearest .ensures) (omega (arith, c .before .before .if2 .left)) (c .if3 .left)
 
 pub rounded-spec : {M : Type 1} → statement M
 rounded-spec =

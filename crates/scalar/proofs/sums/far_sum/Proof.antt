@@ -1,3 +1,4 @@
+use native.Mathlib.Omega.{arith}
 use Prim.Native.Nat.{_-_}
 use mathlib.Core.Path.{_∙_}
 use Rattle.scalar.specs.Results.{rounded}
@@ -31,10 +32,10 @@ rounded-requires-2 : tie.Need-rounded-requires-2
 rounded-requires-2 c κs = search needs
 
 returns : tie.Need-returns
-returns c = let x = c .before .before in λ m a b. c .rounded .ensures ∙ far-like (x .args .s) (x .args .n) (x .args .t) m (x .args .e) (x .pre .1) a b (c .before .if1 .taken)
+returns c = let x = c .before .before in λ m a b. c .rounded .ensures ∙ far-like (x .args .s) (x .args .n) (x .args .t) m (x .args .e) (x .pre .1) a b (c .before .if1 .taken) _ (omega arith)
 
 returns-2 : tie.Need-returns-2
-returns-2 c = let x = c .before .before in λ m a b. c .rounded2 .ensures ∙ far-unlike (x .args .s) (x .args .n) (x .args .t) m (x .args .e) (x .pre .1) a b (c .before .if1 .left)
+returns-2 c = let x = c .before .before in λ m a b. c .rounded2 .ensures ∙ far-unlike (x .args .s) (x .args .n) (x .args .t) m (x .args .e) (x .pre .1) a b (c .before .if1 .left) _ (omega arith)
 
 pub far-sum-spec : {M : Type 1} → statement M
 far-sum-spec =

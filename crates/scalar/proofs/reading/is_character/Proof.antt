@@ -1,7 +1,7 @@
 use Prim.Native.Nat.{_-_}
 use Rattle.scalar.proofs.Operands.{character-bits}
-use Rattle.scalar.proofs.words.is_character.Statement.{statement}
-use Rattle.scalar.proofs.words.is_character.Tie as tie
+use Rattle.scalar.proofs.reading.is_character.Statement.{statement}
+use Rattle.scalar.proofs.reading.is_character.Tie as tie
 
 returns : tie.Need-returns
 returns c = character-bits (c .args .w)

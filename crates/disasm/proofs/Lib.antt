@@ -1,0 +1,2 @@
+-- What the listing's loops rest on.
+pub mod Later
