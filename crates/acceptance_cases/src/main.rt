@@ -35,7 +35,8 @@ fn obey(line: &[u8], seg: &mut [u32], regular: &mut [u8], alternate: &mut [u8])
 {
     let index = number(&line[2..6]) as usize;
     let value = number(&line[7..15]);
-    match line[0] {
+    let letter = line[0];
+    match letter {
         b's' => segment::put(seg, index, value),
         b'r' => put_word(regular, index, value),
         b'a' => put_word(alternate, index, value),
