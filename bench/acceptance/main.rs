@@ -247,7 +247,7 @@ fn procedures() -> Vec<u8> {
     words.iter().flat_map(|w| w.to_be_bytes()).collect()
 }
 
-/// A whole segment with so many arrays of a few elements, a free block after each eighth, every array pointed to by a global
+/// A whole segment with so many arrays of a few elements of one kind, a free block after each eighth, every array pointed to by a global
 /// and some by stack cells too, and a chain of frames.
 fn segment(words: usize, count: usize, frames: usize, random: &mut Random) -> Vec<u32> {
     let mut s = vec![0u32; words];
@@ -266,9 +266,8 @@ fn segment(words: usize, count: usize, frames: usize, random: &mut Random) -> Ve
         s[a] = (before as u32) << 30 | (slop as u32) << 16 | (3 + elements) as u32;
         s[a + 1] = 1 << 16 | 1;
         s[a + 2] = elements as u32;
-        for e in 0..elements {
-            s[a + 3 + e] = [7, 0x6000_0000, 0x0100_0041, 0x8000_0009][random.below(4)];
-        }
+        let element = [7, 0x6000_0000, 0x0100_0041, 0x8000_0009][random.below(4)];
+        s[a + 3..a + 3 + elements].fill(element);
         s[8 + i] = 0x0200_0000 | a as u32;
         starts.push(a);
         a += 3 + elements + slop;

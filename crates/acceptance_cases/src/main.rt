@@ -35,7 +35,8 @@ fn obey(line: &[u8], seg: &mut [u32], regular: &mut [u8], alternate: &mut [u8])
 {
     let index = number(&line[2..6]) as usize;
     let value = number(&line[7..15]);
-    match line[0] {
+    let letter = line[0];
+    match letter {
         b's' => segment::put(seg, index, value),
         b'r' => put_word(regular, index, value),
         b'a' => put_word(alternate, index, value),
@@ -56,7 +57,11 @@ fn judge(name: &[u8], seg: &[u32], regular: &[u8], alternate: &[u8], words: usiz
     if alternate.len() < others {
         return;
     }
-    let answer = acceptance::judge(&seg[..words], &regular[..bytes], &alternate[..others]);
+    let answer = acceptance::judge(
+        &seg[0..words],
+        &regular[0..bytes],
+        &alternate[0..others],
+    );
     io::print_decimal(STDOUT_FILENO, table_number(answer));
     io::write_all(STDOUT_FILENO, b" ");
     io::write_all(STDOUT_FILENO, name);

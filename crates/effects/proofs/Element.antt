@@ -1,13 +1,13 @@
 -- An element of a variable's array written anew: first the variable gets an array of its own.
 use Prim.Native.Nat.{ℕ, _+_, _-_, _%_, _^_, _<_, _≤_}
 use mathlib.Core.Path.{_≡_, refl, sym, _∙_, ap}
-use mathlib.Core.Bool.{true, cond}
+use mathlib.Core.Bool.{Bool, true, false, cond}
 use mathlib.Core.List.{List}
 use mathlib.Core.Logic.{_≢_, _⊎_, inl, inr, ⊎-elim}
 use native.Mathlib.Omega.{arith}
 use lib.ListN.{getD, set, length}
 use lib.Dec.{leb}
-use borrow.Author.Tests.{le-leb, lt-leb}
+use borrow.Author.Tests.{leb-true, leb-false}
 use Rattle.descriptor.specs.declared.Target.{Target}
 use Rattle.descriptor.specs.declared.Target.the-variants.{Local, Global}
 use Rattle.descriptor.specs.Fields.{arrayWord}
@@ -112,6 +112,15 @@ record Lone (s s′ : List ℕ) (t : Target) (x : ℕ) : Type 0 where
   alone : countAt s′ y ≡ 1
   shape : shapeAt s′ y ≡ shapeAt s x
   elements : elementsAt s′ y ≡ elementsAt s x
+
+-- by the two ways of a test on a count
+lone-ways : (s : List ℕ) (t : Target) (x limit n : ℕ) (p q : List ℕ) → (limit ≤ n → Lone s p t x) → (n < limit → Lone s q t x)
+    → Lone s (cond (leb limit n) p q) t x
+lone-ways s t x limit n p q f g = go (leb limit n) (leb-true limit n) (leb-false limit n)
+  where
+    go : (b : Bool) → (b ≡ true → limit ≤ n) → (b ≡ false → n < limit) → Lone s (cond b p q) t x
+    go true k l = f (k refl)
+    go false k l = g (l refl)
 
 shape-of : (a b c d : List ℕ) → value a b ≡ value c d → a ≡ c
 shape-of a b c d e = cc
@@ -255,13 +264,11 @@ module _ (s : List ℕ) (g : Sound s) (t : Target) (at : IsVariable s t) (x : �
   unfolding unshare
   lone h =
       let e : arrayWord x % 2 ^ 16 ≡ x = omega arith in
-      rw (is, e) (go h (order 2 (countAt s x)))
+      rw (is, e)
+      (lone-ways s t x _ _ _ _ copy lone-here)
     where
-      go : (countAt s x < 2) ⊎ (placeAt s (shapeAt s x) (elementsAt s x) ≢ 0) → (2 ≤ countAt s x) ⊎ (countAt s x < 2)
-          → Lone s (cond (leb 2 (countAt s x)) (storeAt s (addressOf s t) (manual.made (shapeAt s x) (elementsAt s x))) s) t x
-      go h (inr l) = rw (lt-leb 2 (countAt s x) l) (lone-here l)
-      go (inl l) (inl k) = absurd (omega arith)
-      go (inr f) (inl k) = rw (le-leb 2 (countAt s x) k) (lone-copy f)
+      copy : 2 ≤ countAt s x → Lone s (storeAt s (addressOf s t) (manual.made (shapeAt s x) (elementsAt s x))) t x
+      copy k = ⊎-elim (λ l. absurd (omega (arith, l))) lone-copy h
 
   -- the element is written in the variable's value and in no other, and that value is pushed
   module _ (k v n : ℕ) (in-range : k < product (shapeAt s x)) (ok : isScalar v ≡ true)

@@ -1,13 +1,15 @@
 // An operator of two operands on every pair of elements; a one-element operand is repeated.
 ghost use mathlib.Core.Path.{_≡_};
-ghost use Prim.Native.Nat.{ℕ, _≤_, _<_};
-ghost use lib.ListN.{length, getD, take};
+ghost use Prim.Native.Nat.{_≤_};
+ghost use lib.ListN.{length, take};
 ghost use Rattle.scalar.specs.Operators.{dyadicOf};
 ghost use Rattle.manual.specs.Values as values;
 ghost use Rattle.elements.specs.Answers.{finished, Paired};
 ghost use Rattle.elements.specs.Parts.{Operands};
 use crate::Finished;
 use crate::integers;
+use crate::operands::extent;
+use crate::operands::pick;
 use operator::Dyadic;
 use scalar::Answer;
 
@@ -21,13 +23,6 @@ pub fn dyadic(operator: Dyadic, a: &[u32], b: &[u32], out: &mut [u32]) -> Finish
         return Finished::Done;
     }
     exact(operator, a, b, n, out)
-}
-
-// The number of results.
-fn extent(a: &[u32], b: &[u32]) -> usize
-    ensures { λ r. ⌜ r ≡ values.extent (now (a .entry)) (now (b .entry)) ⌝ }
-{
-    if a.len() == 1 { b.len() } else { a.len() }
 }
 
 // At the first trap the words of `out` so far are left.
@@ -49,12 +44,4 @@ fn exact(operator: Dyadic, a: &[u32], b: &[u32], n: usize, out: &mut [u32]) -> F
         i += 1;
     }
     Finished::Done
-}
-
-// Element i of an operand: of a one-element operand always that one.
-pub fn pick(a: &[u32], i: usize) -> u32
-    requires { ⌜ ((length (now a) ≡ 1 → ⊥) → i < length (now a)) ⌝ }
-    ensures { λ r. ⌜ ((n : ℕ) → i < n → r ≡ getD (values.spread n (now (a .entry))) i 0) ⌝ }
-{
-    if a.len() == 1 { a[0] } else { a[i] }
 }

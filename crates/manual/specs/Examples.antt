@@ -12,7 +12,7 @@ use Rattle.operator.specs.declared.Dyadic.the-variants as D
 use Rattle.operator.specs.declared.Operator.the-variants as O
 use Rattle.scalar.specs.Value.{units}
 use Rattle.scalar.specs.Results.{integer, float, rounded, result}
-use Rattle.scalar.specs.Reading.{wholeUnits, wholeOf, truthOf}
+use Rattle.scalar.specs.Reading.{wholeUnits, wholeOf, truthUnits, truthOf}
 use Rattle.scalar.specs.Operators as S
 use Rattle.procedure.specs.declared.header.Header.{Header}
 use Rattle.procedure.specs.declared.header.Block.{Block}
@@ -163,15 +163,15 @@ unfolding planOf seenOf loads.load loads.referTo loads.testDefined loads.pushUnd
 pushing = record { local = refl; byReference = refl; noValue = refl; outside = refl; global = refl; noGlobal = refl; shortConstant = refl; constantScalar = refl; constantArray = refl; constantVector = refl; undefinedPushed = refl; getOrigin = refl; referred = refl; notDefined = refl; defined = refl }
 
 pub making : Making
-unfolding planOf seenOf scalars.monadic scalars.dyadic scalars.shape scalars.ravel scalars.reshape scalars.catenate scalars.indexGenerator scalars.index values.each values.monadic values.dyadic values.conform values.pairwise values.catenate values.upFrom values.indexGenerator values.cycle values.reshape values.place S.identity S.negative S.floor S.magnitudeOf S.notOf S.sumSign S.sumSize S.plus S.minus S.sum S.difference units integer float rounded result wholeUnits wholeOf truthOf size
+unfolding planOf seenOf scalars.monadic scalars.dyadic scalars.shape scalars.ravel scalars.reshape scalars.catenate scalars.indexGenerator scalars.index values.each values.monadic values.dyadic values.conform values.pairwise values.catenate values.upFrom values.indexGenerator values.cycle values.reshape values.place S.identity S.negative S.floor S.magnitudeOf S.notOf S.sumSign S.sumSize S.plus S.minus S.sum S.difference units integer float rounded result wholeUnits wholeOf truthUnits truthOf size
 making = record { negative = refl; identity = refl; typed = refl; missing = refl; unknown = refl; difference = refl; extended = refl; ranks = refl; lengths = refl; firstTrap = refl; empty = refl; shape = refl; shapeOfScalar = refl; ravel = refl; reshape = refl; noLengths = refl; nothingToTake = refl; catenate = refl; indexGenerator = refl; index = refl; subscripts = refl; noSubscript = refl; outOfRange = refl }
 
 pub writing : Writing
-unfolding planOf seenOf memory.assign memory.assignNoResult memory.assignIndexed memory.eat memory.interchange scalars.setOrigin values.place units wholeUnits wholeOf truthOf
+unfolding planOf seenOf memory.assign memory.assignNoResult memory.assignIndexed memory.eat memory.interchange scalars.setOrigin values.place units wholeUnits wholeOf truthUnits truthOf
 writing = record { assign = refl; assignNoResult = refl; assignUndefined = refl; assignIndexed = refl; intoNothing = refl; intoScalar = refl; eat = refl; interchange = refl; setOrigin = refl }
 
 pub going : Going
-unfolding planOf seenOf control.go control.goIf control.return control.branch control.call control.breakpoint control.attention memory.noOperation lineOf headerAt wordAt halfAt units wholeUnits wholeOf truthOf
+unfolding planOf seenOf control.go control.goIf control.return control.branch control.call control.breakpoint control.attention memory.noOperation lineOf headerAt wordAt halfAt units wholeUnits wholeOf truthUnits truthOf
 going = record { go = refl; goOutside = refl; goTrue = refl; goFalse = refl; branch = refl; branchNowhere = refl; branchOut = refl; branchBelow = refl; branchHalf = refl; branchLeftover = refl; return = refl; returnLeftover = refl; call = refl; arguments = refl; noOperation = refl; breakpoint = refl; attention = refl }
 
 pub story : Story

@@ -1,7 +1,7 @@
 use Prim.Native.Nat.{_-_}
 use borrow.Author.Tests.{eq-eqb, ne-eqb}
-use Rattle.elements.proofs.dyadic.extent.Statement.{statement}
-use Rattle.elements.proofs.dyadic.extent.Tie as tie
+use Rattle.elements.proofs.operands.extent.Statement.{statement}
+use Rattle.elements.proofs.operands.extent.Tie as tie
 
 returns : tie.Need-returns
 returns c = simp (eq-eqb _ _ (c .if1 .taken))

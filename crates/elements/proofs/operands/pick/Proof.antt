@@ -3,8 +3,8 @@ use native.Mathlib.Omega.{arith}
 use borrow.Author.Needs.{needs}
 use Rattle.elements.proofs.Collecting.{spread-one, spread-all}
 use borrow.Author.Needs.{needs}
-use Rattle.elements.proofs.dyadic.pick.Statement.{statement}
-use Rattle.elements.proofs.dyadic.pick.Tie as tie
+use Rattle.elements.proofs.operands.pick.Statement.{statement}
+use Rattle.elements.proofs.operands.pick.Tie as tie
 
 shared-slice-read-result : tie.Need-shared-slice-read-result
 shared-slice-read-result c = search needs
