@@ -57,11 +57,7 @@ fn judge(name: &[u8], seg: &[u32], regular: &[u8], alternate: &[u8], words: usiz
     if alternate.len() < others {
         return;
     }
-    let answer = acceptance::judge(
-        &seg[0..words],
-        &regular[0..bytes],
-        &alternate[0..others],
-    );
+    let answer = acceptance::judge(&seg[0..words], &regular[0..bytes], &alternate[0..others]);
     io::print_decimal(STDOUT_FILENO, table_number(answer));
     io::write_all(STDOUT_FILENO, b" ");
     io::write_all(STDOUT_FILENO, name);
