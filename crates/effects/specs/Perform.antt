@@ -1,10 +1,10 @@
 -- Each effect on the words of a segment, in document 01's order: "Results are placed before operands are released, first operand
 -- first; RETURN releases its cells from the highest address down. Cells popped, free interiors and slop keep their words."
 -- Decisions 28–31 and 37 of docs/DECISIONS.md settle the rest, so that every word is determined. Assumes nothing.
-use Prim.Native.Nat.{ℕ, zero, suc, _+_, _-_, _*_, _^_}
+use Prim.Native.Nat.{ℕ, zero, suc, _+_, _-_, _*_, _%_, _^_}
 use mathlib.Core.Bool.{Bool, true, false, cond, _||_}
 use mathlib.Core.List.{List, [], _∷_, _++_}
-use lib.Dec.{leb, eqb}
+use lib.Dec.{leb, ltb, eqb}
 use lib.ListN.{getD, set, length, replicate}
 use lib.Seq.{sets}
 use Rattle.descriptor.specs.declared.Target.{Target}
@@ -86,7 +86,7 @@ perform s (stores t source) = store s t source
 perform s (storesElement t place w n) = storeElement s t place w n
 perform s (enters n f) = enter s n f
 perform s (leaves n result) = cond result (leaveWith s n) (leaveWithout s n)
-perform s (jumps place) = setPctr s place
+perform s (jumps place) = setPctr s (place % 2 ^ 16)
 perform s (setsOrigin v) = setIorg s v
 
 abbrev pub performs : List ℕ → List Effect → List ℕ
@@ -118,9 +118,12 @@ wanted s (leaves n result) = 0
 wanted s (jumps place) = 0
 wanted s (setsOrigin v) = 0
 
--- No free block is long enough.
+-- No free block is long enough: the search finds none, or more is asked for than the longest segment has.
+abbrev pub noneFor : List ℕ → ℕ → Bool
+noneFor s size = ltb 16384 size || eqb (requestAt s size) 0
+
 abbrev pub isFull : List ℕ → Effect → Bool
-isFull s e = cond (eqb (wanted s e) 0) false (eqb (requestAt s (wanted s e)) 0)
+isFull s e = cond (eqb (wanted s e) 0) false (noneFor s (wanted s e))
 
 abbrev pub anyFull : List ℕ → List Effect → Bool
 anyFull s [] = false

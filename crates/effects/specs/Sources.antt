@@ -1,6 +1,6 @@
 -- Results on words: where a variable stands, the word of a result, and the segment after it was placed or its count raised.
 -- Document 01: "variable loads, ASSIGN and RETURN share the old one", every other array is a new block. Assumes nothing.
-use Prim.Native.Nat.{ℕ, _+_, _-_}
+use Prim.Native.Nat.{ℕ, _+_, _-_, _%_, _^_}
 use mathlib.Core.List.{List}
 use lib.ListN.{getD}
 use Rattle.descriptor.specs.declared.Target.{Target}
@@ -22,9 +22,10 @@ heldAt s t = getD s (addressOf s t) 0
 abbrev pub operandAt : List ℕ → ℕ → ℕ
 operandAt s i = getD s (sbase s + ltop s - i) 0
 
+-- An indirect word has sixteen bits for the address.
 abbrev pub referenceWord : Target → ℕ
-referenceWord (Global g) = globalWord (g .0)
-referenceWord (Local a) = localWord (a .0)
+referenceWord (Global g) = globalWord (g .0 % 2 ^ 16)
+referenceWord (Local a) = localWord (a .0 % 2 ^ 16)
 
 -- The word that a source gives, and the segment once it is placed, or shared where it was there already.
 abbrev pub wordOf : List ℕ → Source → ℕ

@@ -1,9 +1,9 @@
 -- A step on words: fetch, plan, do, and then the step and trace traps. Document 01, "Meanings fixed here": fetch traps first;
 -- (1,2) last; "(2,1) and (2,2) come after a finished, counted instruction; both due: (2,2). Call trace goes by FCNCTRC and the
 -- called header, return trace by FCNRTRC"; decision 16 for (2,3). Assumes nothing.
-use Prim.Native.Nat.{ℕ, _/_, _%_, _^_}
+use Prim.Native.Nat.{ℕ}
 use mathlib.Core.Bool.{Bool, true, false, cond, _&&_}
-use mathlib.Core.List.{List, [], _∷_}
+use mathlib.Core.List.{List}
 use lib.Dec.{eqb}
 use Rattle.procedure.specs.declared.header.Header.{Header}
 use Rattle.procedure.specs.declared.directory.Function.{Function}
@@ -11,11 +11,11 @@ use Rattle.procedure.specs.declared.directory.Function.the-variants as F
 use Rattle.procedure.specs.Directory.{selected, functionOf, headerOfFunction}
 use Rattle.segment.specs.State.{lbase, flags, fcnctrc, fcnrtrc, stepFlag, setTrap}
 use Rattle.segment.specs.Stack.{codeWordAt, alternate, functionNumber, pctr}
-use Rattle.manual.specs.OrTrap.{OrTrap, gives, trap}
-use Rattle.manual.specs.Effects.{Effect, replaces, discards, swaps, stores, storesElement, enters, leaves, jumps, setsOrigin, Plan}
 use Rattle.manual.specs.Instructions.{Running, headerOf, planAt}
-use Rattle.effects.specs.Perform.{performs, anyFull}
 use Rattle.effects.specs.Seen.{seen}
+use Rattle.perform.specs.declared.Outcome.{Outcome}
+use Rattle.perform.specs.declared.Outcome.the-variants as O
+use Rattle.perform.specs.Carried.{Carried, carry}
 use Rattle.machine.specs.declared.Stepped.{Stepped}
 use Rattle.machine.specs.declared.Stepped.the-variants.{Finished, Traced, Trapped}
 
@@ -27,30 +27,30 @@ pub record Result : Type 0 where
 abbrev pub after : Stepped → List ℕ → Result
 after answer s = record { answer = answer; words = s }
 
--- ---- traces
+-- ---- the current frame
 
--- The trace that an effect makes due, of a function with header h: 2 for a call, 3 for a return, 0 for none.
-abbrev pub calledHeader : Running → ℕ → Header
-calledHeader f w = headerOfFunction (selected (eqb (alternate w) 1) (f .regular) (f .alternate)) (functionNumber w)
+abbrev pub selectorOf : List ℕ → Bool
+selectorOf s = eqb (alternate (codeWordAt s (lbase s))) 1
 
-abbrev pub traceOf : Running → ℕ → Effect → ℕ
-traceOf f flags (enters n w) = cond (eqb (fcnctrc flags) 1 && calledHeader f w .calltrace) 2 0
-traceOf f flags (leaves n result) = cond (eqb (fcnrtrc flags) 1 && headerOf f .rtntrace) 3 0
-traceOf f flags (replaces n source) = 0
-traceOf f flags (discards n) = 0
-traceOf f flags swaps = 0
-traceOf f flags (stores t source) = 0
-traceOf f flags (storesElement t place w n) = 0
-traceOf f flags (jumps place) = 0
-traceOf f flags (setsOrigin v) = 0
+abbrev pub numberOf : List ℕ → ℕ
+numberOf s = functionNumber (codeWordAt s (lbase s))
 
-abbrev pub tracesOf : Running → ℕ → List Effect → ℕ
-tracesOf f flags [] = 0
-tracesOf f flags (e ∷ es) = let others = tracesOf f flags es in cond (eqb (traceOf f flags e) 0) others (traceOf f flags e)
+-- The header of its function.
+unfoldable pub currentHeader : List ℕ → List ℕ → List ℕ → Header
+currentHeader regular other s = headerOfFunction (selected (selectorOf s) regular other) (numberOf s)
 
--- The number of the class 2 trap that is due: a trace goes before the step trap.
-abbrev pub dueOf : Running → ℕ → List Effect → ℕ
-dueOf f flags es = cond (eqb (tracesOf f flags es) 0) (stepFlag flags) (tracesOf f flags es)
+-- ---- what is due after a finished instruction
+
+-- The number of the class 2 trap, 0 for none: a trace, where its flag and the header's bit are set, or else the step trap.
+abbrev pub dueOr : Bool → Bool → ℕ → List ℕ → ℕ
+dueOr flag bit trace s = cond (flag && bit) trace (stepFlag (flags s))
+
+-- In `s` the instruction is done: of a call the current frame is the called one. `rtntrace` is the left function's.
+abbrev pub due : List ℕ → List ℕ → Bool → Outcome → List ℕ → ℕ
+due regular other rtntrace O.Finished s = stepFlag (flags s)
+due regular other rtntrace O.Entered s = dueOr (eqb (fcnctrc (flags s)) 1) (currentHeader regular other s .calltrace) 2 s
+due regular other rtntrace O.Left s = dueOr (eqb (fcnrtrc (flags s)) 1) rtntrace 3 s
+due regular other rtntrace (O.Trapped class number) s = 0
 
 -- ---- the step
 
@@ -62,22 +62,24 @@ trapped s class number = after (Trapped class number) (setTrap s class number)
 abbrev pub finished : ℕ → List ℕ → Result
 finished due s = cond (eqb due 0) (after Finished s) (after (Traced 2 due) (setTrap s 2 due))
 
-abbrev pub carried : Running → List ℕ → Plan → Result
-carried f s (trap class number) = trapped s class number
-carried f s (gives es) = cond (anyFull s es) (trapped s 1 2) (finished (dueOf f (flags s) es) (performs s es))
+abbrev pub settled : List ℕ → List ℕ → Bool → Outcome → List ℕ → Result
+settled regular other rtntrace (O.Trapped class number) s = trapped s class number
+settled regular other rtntrace O.Finished s = finished (due regular other rtntrace O.Finished s) s
+settled regular other rtntrace O.Entered s = finished (due regular other rtntrace O.Entered s) s
+settled regular other rtntrace O.Left s = finished (due regular other rtntrace O.Left s) s
 
-abbrev pub stepIn : Running → List ℕ → Result
-stepIn f s = carried f s (planAt f (seen s) (pctr (codeWordAt s (lbase s))))
+abbrev pub settle : List ℕ → List ℕ → Bool → Carried → Result
+settle regular other rtntrace c = settled regular other rtntrace (c .outcome) (c .words)
+
+unfoldable pub stepIn : Running → List ℕ → Result
+stepIn f s =
+    settle (f .regular) (f .alternate) (headerOf f .rtntrace)
+    (carry s (planAt f (seen s) (pctr (codeWordAt s (lbase s)))))
 
 -- The function of the current frame; one outside its bounds is (3,1).
 abbrev pub stepFound : List ℕ → List ℕ → List ℕ → Bool → Function → Result
 stepFound regular other s selector (F.At block) = stepIn (record { regular = regular; alternate = other; selector = selector; block = block }) s
 stepFound regular other s selector F.Absent = trapped s 3 1
 
-abbrev pub selectorOf : List ℕ → Bool
-selectorOf s = eqb (alternate (codeWordAt s (lbase s))) 1
-
 unfoldable pub stepOf : List ℕ → List ℕ → List ℕ → Result
-stepOf regular other s =
-    stepFound regular other s (selectorOf s)
-    (functionOf (selected (selectorOf s) regular other) (functionNumber (codeWordAt s (lbase s))))
+stepOf regular other s = stepFound regular other s (selectorOf s) (functionOf (selected (selectorOf s) regular other) (numberOf s))

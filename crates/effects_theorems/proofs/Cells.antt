@@ -1,0 +1,57 @@
+-- What the words that no array has are seen as.
+use Prim.Native.Nat.{ℕ, _/_, _^_, _<_}
+use mathlib.Core.Path.{_≡_, refl, sym, _∙_, ap}
+use mathlib.Core.Bool.{true, false}
+use mathlib.Core.List.{List, [], _∷_}
+use mathlib.Core.Logic.{⊎-elim}
+use native.Mathlib.Omega.{arith}
+use borrow.Author.Tests.{ne-eqb}
+use Rattle.descriptor.specs.declared.Target.{Target}
+use Rattle.descriptor.specs.declared.Target.the-variants.{Local, Global}
+use Rattle.descriptor.specs.declared.Kind.{Kind}
+use Rattle.descriptor.specs.declared.Kind.the-variants as K
+use Rattle.descriptor.specs.Fields.{isArray, address, undefinedWord}
+use Rattle.descriptor.specs.Kinds.{segment, kindOf, scalarKind, isScalar}
+use Rattle.descriptor.specs.Inverse.{TargetFits}
+use Rattle.descriptor.proofs.Inverse.{inverse}
+use Rattle.segment.specs.Cells.{undefined, indirect, value, cell, cellOfKind}
+use Rattle.heap.proofs.Ways.{decide}
+use Rattle.owners.proofs.Cells.{array-of}
+use Rattle.effects.specs.Sources.{referenceWord}
+
+-- a scalar's word
+pub scalar-array : (w : ℕ) → isScalar w ≡ true → isArray w ≡ false
+unfolding isScalar
+scalar-array w h = ⊎-elim yes (λ e. e) (decide (isArray w))
+  where
+    yes : isArray w ≡ true → isArray w ≡ false
+    yes e =
+        let l : address w < 2 ^ 16 = omega arith in
+        let k : kindOf w ≡ K.Array (segment (address w)) = ap kindOf (array-of w e) ∙ inverse .readBack (K.Array (segment (address w))) l in
+        let z : scalarKind (kindOf w) ≡ false = rw k in
+        e ∙ sym h ∙ z
+
+kind-scalar : (s : List ℕ) (w : ℕ) (k : Kind) → scalarKind k ≡ true → cellOfKind s w k ≡ value [] (w ∷ [])
+kind-scalar s w (K.Scalar k) h = refl
+kind-scalar s w (K.Array a) h = cc
+kind-scalar s w (K.Indirect t) h = cc
+kind-scalar s w K.Undefined h = cc
+kind-scalar s w K.Invalid h = cc
+
+pub scalar-cell : (s : List ℕ) (w : ℕ) → isScalar w ≡ true → cell s w ≡ value [] (w ∷ [])
+unfolding cell isScalar
+scalar-cell s w h = kind-scalar s w (kindOf w) h
+
+pub undefined-cell : (s : List ℕ) → cell s undefinedWord ≡ undefined
+unfolding cell
+undefined-cell s = rw (inverse .readBack K.Undefined tt)
+
+-- an indirect word
+pub reference-array : (t : Target) → TargetFits t → isArray (referenceWord t) ≡ false
+reference-array (Local a) h = ne-eqb (referenceWord (Local a) / 2 ^ 16) 0x200 (omega arith)
+reference-array (Global g) h = ne-eqb (referenceWord (Global g) / 2 ^ 16) 0x200 (omega arith)
+
+pub reference-cell : (s : List ℕ) (t : Target) → TargetFits t → cell s (referenceWord t) ≡ indirect t
+unfolding cell
+reference-cell s (Local a) h = rw (inverse .readBack (K.Indirect (Local a)) h)
+reference-cell s (Global g) h = rw (inverse .readBack (K.Indirect (Global g)) h)

@@ -1,0 +1,145 @@
+-- Effects one after the other, and when storage is full for them.
+use Prim.Native.Nat.{ℕ, _<_, _≤_}
+use mathlib.Core.Path.{_≡_, refl, sym, _∙_, ap}
+use mathlib.Core.Bool.{Bool, true, false, cond, _||_}
+use mathlib.Core.Logic.{_↔_, _≢_, _⊎_, inl, inr, ⊎-elim}
+use mathlib.Core.List.{List, [], _∷_}
+use native.Mathlib.Omega.{arith}
+use lib.Dec.{eqb}
+use borrow.Author.Tests.{eqb-true, eqb-false, eq-eqb, ne-eqb, le-leb, lt-leb}
+use Rattle.segment.specs.Blocks.{countAt}
+use Rattle.storage.specs.Request.{requestAt}
+use Rattle.heap.specs.Words.{HasRoom}
+use Rattle.manual.specs.Effects.{Source, variable, operand, word, undefinedValue, reference, made, Effect, replaces, discards, swaps, stores, storesElement, enters, leaves, jumps, setsOrigin, performAll}
+use Rattle.heap.proofs.Counts.{order}
+use Rattle.heap.proofs.Ways.{decide}
+use Rattle.heap.proofs.Request.{request-theorem}
+use Rattle.effects.specs.Sources.{addressOf}
+use Rattle.effects.specs.Perform.{blockOf, perform, sourceNeed, wanted, isFull, anyFull}
+use Rattle.effects.specs.Sound.{Sound}
+use Rattle.effects.specs.Fits.{Available, Fits}
+use Rattle.effects_theorems.specs.Theorems.{Performed, AllFit, makes, asks, NoneAsks, OneRequest, PerformedAll, AsksInVain}
+use Rattle.effects_theorems.proofs.Element.{array-proper}
+use Rattle.effects_theorems.proofs.Effects.{x-is, x-small, perform-theorem}
+
+-- an effect that does not ask wants nothing
+source-plain : (source : Source) → makes source ≡ false → sourceNeed source ≡ 0
+source-plain (variable t) h = refl
+source-plain (operand i) h = refl
+source-plain (word w) h = refl
+source-plain undefinedValue h = refl
+source-plain (reference t) h = refl
+source-plain (made shape ravel) h = cc
+
+wants-nothing : (s : List ℕ) (e : Effect) → asks e ≡ false → wanted s e ≡ 0
+wants-nothing s (replaces n source) h = source-plain source h
+wants-nothing s (discards n) h = refl
+wants-nothing s swaps h = refl
+wants-nothing s (stores t source) h = source-plain source h
+wants-nothing s (storesElement t place w n) h = cc
+wants-nothing s (enters n f) h = refl
+wants-nothing s (leaves n result) h = refl
+wants-nothing s (jumps place) h = refl
+wants-nothing s (setsOrigin v) h = refl
+
+not-full : (s : List ℕ) (e : Effect) → wanted s e ≡ 0 → isFull s e ≡ false
+not-full s e h = rw (eq-eqb (wanted s e) 0 h)
+
+none-full : (s : List ℕ) (es : List Effect) → NoneAsks es → anyFull s es ≡ false
+none-full s [] h = refl
+none-full s (e ∷ es) h = rw (not-full s e (wants-nothing s e (h .0))) (none-full s es (h .1))
+
+none-in-vain : (s : List ℕ) (blocks : List _) (es : List Effect) → NoneAsks es → AsksInVain s blocks es → ⊥
+none-in-vain s blocks [] h k = k
+none-in-vain s blocks (e ∷ es) h (inl k) = k .0 (wants-nothing s e (h .0))
+none-in-vain s blocks (e ∷ es) h (inr k) = none-in-vain s blocks es (h .1) k
+
+-- one after the other
+after : {s : List ℕ} {e : Effect} {es : List Effect} → Performed s e → PerformedAll (perform s e) es → PerformedAll s (e ∷ es)
+after {s} {e} {es} p q = record { sound = q .sound; seen = q .seen ∙ ap (performAll es) (p .seen) }
+
+plain-performed : (s : List ℕ) → Sound s → (es : List Effect) → AllFit s es → NoneAsks es → PerformedAll s es
+plain-performed s g [] h k = record { sound = g; seen = refl }
+plain-performed s g (e ∷ es) h k =
+    let p = perform-theorem s g e (h .0) (not-full s e (wants-nothing s e (k .0))) in
+    after p (plain-performed (perform s e) (p .sound) es (h .1) (k .1))
+
+first-false : (a b : Bool) → (a || b) ≡ false → a ≡ false
+first-false true b h = h
+first-false false b h = refl
+
+pub performs-theorem : (s : List ℕ) → Sound s → (es : List Effect) → AllFit s es → OneRequest es → anyFull s es ≡ false → PerformedAll s es
+performs-theorem s g [] h k f = record { sound = g; seen = refl }
+performs-theorem s g (e ∷ es) h k f =
+    let p = perform-theorem s g e (h .0) (first-false (isFull s e) (anyFull s es) f) in
+    after p (plain-performed (perform s e) (p .sound) es (h .1) k)
+
+-- what is wanted is nothing, or a block
+source-size : (s : List ℕ) (source : Source) → Available s source → (sourceNeed source ≡ 0) ⊎ (3 ≤ sourceNeed source)
+source-size s (variable t) h = inl refl
+source-size s (operand i) h = inl refl
+source-size s (word w) h = inl refl
+source-size s undefinedValue h = inl refl
+source-size s (reference t) h = inl refl
+source-size s (made shape ravel) h = inr (omega (arith, h .rank))
+
+wanted-size : (s : List ℕ) → Sound s → (e : Effect) → Fits s e → (wanted s e ≡ 0) ⊎ (3 ≤ wanted s e)
+wanted-size s g (replaces n source) h = source-size s source (h .1)
+wanted-size s g (discards n) h = inl refl
+wanted-size s g swaps h = inl refl
+wanted-size s g (stores t source) h = source-size s source (h .1)
+wanted-size s g (storesElement t place w n) h = ⊎-elim many one (order 2 (countAt s (blockOf s (addressOf s t))))
+  where
+    many : 2 ≤ countAt s (blockOf s (addressOf s t)) → (wanted s (storesElement t place w n) ≡ 0) ⊎ (3 ≤ wanted s (storesElement t place w n))
+    many l =
+        let p = array-proper s g t (h .1 .there) (blockOf s (addressOf s t)) (x-is s g t place w n (h .1)) (x-small s g t place w n (h .1)) in
+        inr (rw (le-leb 2 (countAt s (blockOf s (addressOf s t))) l) (omega (arith, p .rank)))
+
+    one : countAt s (blockOf s (addressOf s t)) < 2 → (wanted s (storesElement t place w n) ≡ 0) ⊎ (3 ≤ wanted s (storesElement t place w n))
+    one l = inl (rw (lt-leb 2 (countAt s (blockOf s (addressOf s t))) l))
+wanted-size s g (enters n f) h = inl refl
+wanted-size s g (leaves n result) h = inl refl
+wanted-size s g (jumps place) h = inl refl
+wanted-size s g (setsOrigin v) h = inl refl
+
+never : {A : Type 0} → true ≡ false → A
+never e = let z : _≡_ {A = ℕ} 0 1 = ap (λ (b : Bool). cond {A = ℕ} b 0 1) e in absurd (omega arith)
+
+-- an effect is full exactly where it asks in vain
+module _ (s : List ℕ) (g : Sound s) (e : Effect) (h : Fits s e) where
+  full-vain : isFull s e ≡ true → (wanted s e ≢ 0) × (HasRoom (g .own .blocks) (wanted s e) → ⊥)
+  full-vain f = ⊎-elim none some (wanted-size s g e h)
+    where
+      none : wanted s e ≡ 0 → (wanted s e ≢ 0) × (HasRoom (g .own .blocks) (wanted s e) → ⊥)
+      none z = never (sym f ∙ not-full s e z)
+
+      some : 3 ≤ wanted s e → (wanted s e ≢ 0) × (HasRoom (g .own .blocks) (wanted s e) → ⊥)
+      some l =
+          let d : wanted s e ≢ 0 = omega arith in
+          let z : requestAt s (wanted s e) ≡ 0 = eqb-true (requestAt s (wanted s e)) 0 (rw (ne-eqb (wanted s e) 0 d) at f) in
+          (d, λ r. request-theorem (wanted s e) (g .own .heap) l .found .1 r z)
+
+  vain-full : wanted s e ≢ 0 → (HasRoom (g .own .blocks) (wanted s e) → ⊥) → isFull s e ≡ true
+  vain-full d v = ⊎-elim (λ z. absurd (d z)) some (wanted-size s g e h)
+    where
+      some : 3 ≤ wanted s e → isFull s e ≡ true
+      some l =
+          ⊎-elim (λ (q : eqb (requestAt s (wanted s e)) 0 ≡ true). rw (ne-eqb (wanted s e) 0 d) q)
+          (λ (q : eqb (requestAt s (wanted s e)) 0 ≡ false). absurd (v
+          (request-theorem (wanted s e) (g .own .heap) l .found .0 (eqb-false (requestAt s (wanted s e)) 0 q))))
+          (decide (eqb (requestAt s (wanted s e)) 0))
+
+or-cases : (a b : Bool) → (a || b) ≡ true → (a ≡ true) ⊎ (b ≡ true)
+or-cases true b h = inl refl
+or-cases false b h = inr h
+
+or-first : (a b : Bool) → a ≡ true → (a || b) ≡ true
+or-first true b h = refl
+or-first false b h = never (sym h)
+
+pub full-theorem : (s : List ℕ) (g : Sound s) (es : List Effect) → AllFit s es → OneRequest es → (anyFull s es ≡ true) ↔ AsksInVain s (g .own .blocks) es
+full-theorem s g [] h k = (λ f. never (sym f), λ f. absurd f)
+full-theorem s g (e ∷ es) h k = (
+  λ f. ⊎-elim (λ q. inl (full-vain s g e (h .0) q)) (λ q. never (sym q ∙ none-full s es k)) (or-cases (isFull s e) (anyFull s es) f),
+  λ f. ⊎-elim (λ q. or-first (isFull s e) (anyFull s es) (vain-full s g e (h .0) (q .0) (q .1))) (λ q. absurd (none-in-vain s (g .own .blocks) es k q)) f,
+)

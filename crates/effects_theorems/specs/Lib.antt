@@ -1,0 +1,3 @@
+-- What is proved of the effects of instructions on words.
+pub mod Theorems
+pub mod Plans

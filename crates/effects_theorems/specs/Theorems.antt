@@ -1,0 +1,99 @@
+-- What is proved of effects on words. Demand 2 of document 01 rests on it: what an instruction leaves is sound again, its view
+-- is the effect that the manual speaks of, every variable that is not stored to is seen as before, though arrays are shared,
+-- and (1,2) is given exactly where no free block is long enough. Proved in proofs/Theorems. Assumes nothing.
+use Prim.Native.Nat.{ℕ, _-_}
+use mathlib.Core.Path.{_≡_}
+use mathlib.Core.Bool.{Bool, true, false}
+use mathlib.Core.Logic.{_↔_, _≢_, _⊎_}
+use mathlib.Core.List.{List, [], _∷_}
+use lib.ListN.{length}
+use Rattle.descriptor.specs.declared.Target.{Target}
+use Rattle.segment.specs.State.{sbase}
+use Rattle.segment.specs.Cells.{undefined}
+use Rattle.storage.specs.Heap.{Block}
+use Rattle.view.specs.View.{view}
+use Rattle.heap.specs.Words.{HasRoom}
+use Rattle.manual.specs.Effects.{Source, variable, operand, word, undefinedValue, reference, made, Effect, replaces, discards, swaps, stores, storesElement, enters, leaves, jumps, setsOrigin, look, performOn, performAll}
+use Rattle.manual.specs.Seen.{seenOf}
+use Rattle.effects.specs.Perform.{perform, performs, wanted, isFull, anyFull}
+use Rattle.effects.specs.Seen.{seen}
+use Rattle.effects.specs.Alike.{seenBy, Runs}
+use Rattle.effects.specs.Sound.{Sound}
+use Rattle.effects.specs.Fits.{IsVariable, Fits}
+
+-- ---- one effect
+
+pub record Performed (s : List ℕ) (e : Effect) : Type 0 where
+  pub sound : Sound (perform s e)
+  pub seen : view (perform s e) ≡ performOn e (view s)
+
+-- The effect stores to that variable.
+abbrev pub StoresTo : Effect → Target → Type 0
+StoresTo (replaces n source) u = ⊥
+StoresTo (discards n) u = ⊥
+StoresTo swaps u = ⊥
+StoresTo (stores t source) u = u ≡ t
+StoresTo (storesElement t place w n) u = u ≡ t
+StoresTo (enters n f) u = ⊥
+StoresTo (leaves n result) u = ⊥
+StoresTo (jumps place) u = ⊥
+StoresTo (setsOrigin v) u = ⊥
+
+-- ---- effects one after the other
+
+-- Each fits the segment that those before it leave.
+abbrev pub AllFit : List ℕ → List Effect → Type 0
+AllFit s [] = Unit {0}
+AllFit s (e ∷ es) = Fits s e × AllFit (perform s e) es
+
+-- An effect that may ask for a block.
+abbrev pub makes : Source → Bool
+makes (variable t) = false
+makes (operand i) = false
+makes (word w) = false
+makes undefinedValue = false
+makes (reference t) = false
+makes (made shape ravel) = true
+
+abbrev pub asks : Effect → Bool
+asks (replaces n source) = makes source
+asks (discards n) = false
+asks swaps = false
+asks (stores t source) = makes source
+asks (storesElement t place w n) = true
+asks (enters n f) = false
+asks (leaves n result) = false
+asks (jumps place) = false
+asks (setsOrigin v) = false
+
+abbrev pub NoneAsks : List Effect → Type 0
+NoneAsks [] = Unit {0}
+NoneAsks (e ∷ es) = (asks e ≡ false) × NoneAsks es
+
+-- In every plan of the manual only the first effect may ask.
+abbrev pub OneRequest : List Effect → Type 0
+OneRequest [] = Unit {0}
+OneRequest (e ∷ es) = NoneAsks es
+
+pub record PerformedAll (s : List ℕ) (es : List Effect) : Type 0 where
+  pub sound : Sound (performs s es)
+  pub seen : view (performs s es) ≡ performAll es (view s)
+
+-- Some effect asks for a block, and no free block is long enough.
+abbrev pub AsksInVain : List ℕ → List Block → List Effect → Type 0
+AsksInVain s blocks [] = ⊥
+AsksInVain s blocks (e ∷ es) = ((wanted s e ≢ 0) × (HasRoom blocks (wanted s e) → ⊥)) ⊎ AsksInVain s blocks es
+
+-- ---- the theorems
+
+pub record EffectsTheorems : Type 0 where
+  pub performed : (s : List ℕ) → Sound s → (e : Effect) → Fits s e → isFull s e ≡ false → Performed s e
+  -- Every variable that stands before and after, and that is not stored to, is seen as before.
+  pub others : (s : List ℕ) → Sound s → (e : Effect) → Fits s e → isFull s e ≡ false → (t : Target) → IsVariable s t → IsVariable (perform s e) t
+      → (StoresTo e t → ⊥) → look undefined t (view (perform s e)) ≡ look undefined t (view s)
+  pub allPerformed : (s : List ℕ) → Sound s → (es : List Effect) → AllFit s es → OneRequest es → anyFull s es ≡ false → PerformedAll s es
+  -- (1,2) is given exactly where a block is asked for and none is long enough.
+  pub full : (s : List ℕ) (sound : Sound s) (es : List Effect) → AllFit s es → OneRequest es → (anyFull s es ≡ true) ↔ AsksInVain s (sound .own .blocks) es
+  -- What an instruction of the running function sees of the words is what it sees of the view.
+  pub alike : (s : List ℕ) → Sound s → (variables : ℕ) (result : Bool) → Runs s variables result
+      → seenBy variables result (seen s) ≡ seenBy variables result (seenOf (length s - sbase s) (view s))

@@ -1,0 +1,2 @@
+-- What instructions come to on words.
+pub mod Carried

@@ -1,0 +1,3 @@
+-- Operands and variables of instructions on words.
+pub mod Operands
+pub mod Variables

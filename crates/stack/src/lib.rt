@@ -1,0 +1,3 @@
+// The operands and variables of instructions, on a lent data segment.
+pub mod operands;
+pub mod variables;
