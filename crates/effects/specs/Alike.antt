@@ -9,7 +9,7 @@ use Rattle.descriptor.specs.declared.Target.{Target}
 use Rattle.segment.specs.Cells.{indirect, cell}
 use Rattle.view.specs.View.{words}
 use Rattle.manual.specs.Effects.{currentCells}
-use Rattle.manual.specs.Seen.{Seen}
+use Rattle.manual.specs.Seen.{Seen, Variable}
 use Rattle.effects.specs.Sources.{heldAt}
 use Rattle.effects.specs.Fits.{IsVariable}
 
@@ -33,3 +33,9 @@ pub record Runs (s : List ℕ) (variables : ℕ) (result : Bool) : Type 0 where
   pub cells : variables ≤ length (currentCells (words s .frames))
   pub some : result ≡ true → 1 ≤ variables
   pub targets : (t u : Target) → IsVariable s t → cell s (heldAt s t) ≡ indirect u → IsVariable s u
+
+-- A variable that an address leads to: it stands in the segment, and holds no indirect word.
+pub record Resolved (s : List ℕ) (x : Variable) : Type 0 where
+  pub there : IsVariable s (x .place)
+  pub holds : x .held ≡ cell s (heldAt s (x .place))
+  pub direct : (u : Target) → x .held ≡ indirect u → ⊥

@@ -68,5 +68,5 @@ Fits s (stores t source) = IsVariable s t × Available s source
 Fits s (storesElement t place w n) = CanReplace s n × HasElement s t place × (isScalar w ≡ true)
 Fits s (enters n f) = sbase s + ltop s + n + 2 < length s
 Fits s (leaves n result) = CanLeave s n result
-Fits s (jumps place) = place < 2 ^ 16
+Fits s (jumps place) = Unit {0}
 Fits s (setsOrigin v) = Unit {0}

@@ -5,3 +5,4 @@ pub mod Seen
 pub mod Sound
 pub mod Fits
 pub mod Alike
+pub mod Requests

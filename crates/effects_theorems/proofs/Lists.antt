@@ -18,7 +18,8 @@ use Rattle.effects.specs.Sources.{addressOf}
 use Rattle.effects.specs.Perform.{blockOf, perform, sourceNeed, wanted, isFull, anyFull}
 use Rattle.effects.specs.Sound.{Sound}
 use Rattle.effects.specs.Fits.{Available, Fits}
-use Rattle.effects_theorems.specs.Theorems.{Performed, AllFit, makes, asks, NoneAsks, OneRequest, PerformedAll, AsksInVain}
+use Rattle.effects_theorems.specs.Theorems.{Performed, PerformedAll, AsksInVain}
+use Rattle.effects.specs.Requests.{AllFit, makes, asks, NoneAsks, OneRequest}
 use Rattle.effects_theorems.proofs.Element.{array-proper}
 use Rattle.effects_theorems.proofs.Effects.{x-is, x-small, perform-theorem}
 

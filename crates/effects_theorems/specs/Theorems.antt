@@ -20,6 +20,7 @@ use Rattle.effects.specs.Seen.{seen}
 use Rattle.effects.specs.Alike.{seenBy, Runs}
 use Rattle.effects.specs.Sound.{Sound}
 use Rattle.effects.specs.Fits.{IsVariable, Fits}
+use Rattle.effects.specs.Requests.{AllFit, OneRequest}
 
 -- ---- one effect
 
@@ -40,40 +41,6 @@ StoresTo (jumps place) u = ⊥
 StoresTo (setsOrigin v) u = ⊥
 
 -- ---- effects one after the other
-
--- Each fits the segment that those before it leave.
-abbrev pub AllFit : List ℕ → List Effect → Type 0
-AllFit s [] = Unit {0}
-AllFit s (e ∷ es) = Fits s e × AllFit (perform s e) es
-
--- An effect that may ask for a block.
-abbrev pub makes : Source → Bool
-makes (variable t) = false
-makes (operand i) = false
-makes (word w) = false
-makes undefinedValue = false
-makes (reference t) = false
-makes (made shape ravel) = true
-
-abbrev pub asks : Effect → Bool
-asks (replaces n source) = makes source
-asks (discards n) = false
-asks swaps = false
-asks (stores t source) = makes source
-asks (storesElement t place w n) = true
-asks (enters n f) = false
-asks (leaves n result) = false
-asks (jumps place) = false
-asks (setsOrigin v) = false
-
-abbrev pub NoneAsks : List Effect → Type 0
-NoneAsks [] = Unit {0}
-NoneAsks (e ∷ es) = (asks e ≡ false) × NoneAsks es
-
--- In every plan of the manual only the first effect may ask.
-abbrev pub OneRequest : List Effect → Type 0
-OneRequest [] = Unit {0}
-OneRequest (e ∷ es) = NoneAsks es
 
 pub record PerformedAll (s : List ℕ) (es : List Effect) : Type 0 where
   pub sound : Sound (performs s es)

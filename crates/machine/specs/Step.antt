@@ -1,7 +1,7 @@
 -- A step on words: fetch, plan, do, and then the step and trace traps. Document 01, "Meanings fixed here": fetch traps first;
 -- (1,2) last; "(2,1) and (2,2) come after a finished, counted instruction; both due: (2,2). Call trace goes by FCNCTRC and the
 -- called header, return trace by FCNRTRC"; decision 16 for (2,3). Assumes nothing.
-use Prim.Native.Nat.{ℕ}
+use Prim.Native.Nat.{ℕ, _%_, _^_}
 use mathlib.Core.Bool.{Bool, true, false, cond, _&&_}
 use mathlib.Core.List.{List}
 use lib.Dec.{eqb}
@@ -54,9 +54,9 @@ due regular other rtntrace (O.Trapped class number) s = 0
 
 -- ---- the step
 
--- The instruction traps: everything but the trap word is unchanged.
+-- The instruction traps: everything but the trap word is unchanged. Class and number have eight bits each.
 abbrev pub trapped : List ℕ → ℕ → ℕ → Result
-trapped s class number = after (Trapped class number) (setTrap s class number)
+trapped s class number = after (Trapped class number) (setTrap s (class % 2 ^ 8) (number % 2 ^ 8))
 
 -- It is done and counted; what is due comes after.
 abbrev pub finished : ℕ → List ℕ → Result

@@ -1,6 +1,6 @@
 -- BRANCH, GO, GO_TRUE, GO_FALSE, RETURN, CALL, BREAKPOINT and ATTENTION, as the manual has them with document 01's "Meanings
 -- fixed here" and decisions 20, 21 and 32. Assumes nothing.
-use Prim.Native.Nat.{ℕ, _+_, _-_, _*_, _%_, _^_}
+use Prim.Native.Nat.{ℕ, _+_, _-_, _*_, _^_}
 use mathlib.Core.Bool.{Bool, true, false, cond, not, _&&_, _||_}
 use mathlib.Core.List.{List, [], _∷_, _++_}
 use lib.Dec.{ltb, leb, eqb}
@@ -68,10 +68,9 @@ branch seen h line next =
     (cond (eqb (values.size v) 0) (gives (discards 1 ∷ jumps next ∷ []))
     (branchTo seen h line (wholeOf (values.first (v .ravel)))))))
 
--- CALL: "CALL whose NARGS differs from the header: (3,4)". The frame's second word is P in bit 27, the function number in its
--- eleven bits 26–16, and PCTR 8.
+-- CALL: "CALL whose NARGS differs from the header: (3,4)". The frame's second word is P, the function number and PCTR 8.
 abbrev pub frameWord : Bool → ℕ → ℕ
-frameWord alternate number = cond alternate (2 ^ 27) 0 + number % 2 ^ 11 * 2 ^ 16 + codeStart
+frameWord alternate number = cond alternate (2 ^ 27) 0 + number * 2 ^ 16 + codeStart
 
 unfoldable pub call : Seen → ℕ → Header → Bool → ℕ → ℕ → Plan
 call seen next called alternate number arguments =

@@ -37,7 +37,7 @@ pub data Effect : Type 0 where
   enters : ℕ → ℕ → Effect
   -- the current frame goes with so many variables, and pushes its result variable or nothing
   leaves : ℕ → Bool → Effect
-  -- PCTR of the current frame
+  -- PCTR of the current frame, which has sixteen bits
   jumps : ℕ → Effect
   setsOrigin : ℕ → Effect
 
@@ -152,7 +152,7 @@ performOn (stores t source) m = put t (meant source m) m
 performOn (storesElement t place w n) m = replace n (withElement place w (look undefined t m)) (put t (withElement place w (look undefined t m)) m)
 performOn (enters n f) m = enter undefined n f m
 performOn (leaves n result) m = leave undefined n result m
-performOn (jumps place) m = jump place m
+performOn (jumps place) m = jump (place % 2 ^ 16) m
 performOn (setsOrigin v) m = setOrigin v m
 
 abbrev pub performAll : List Effect → Machine Cell → Machine Cell

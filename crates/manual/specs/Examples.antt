@@ -18,6 +18,7 @@ use Rattle.procedure.specs.declared.header.Header.{Header}
 use Rattle.procedure.specs.declared.header.Block.{Block}
 use Rattle.procedure.specs.Bytes.{halfAt, wordAt}
 use Rattle.procedure.specs.Headers.{headerAt, codeOf, lineOf}
+use Rattle.procedure.specs.Directory.{hasFunction}
 use Rattle.instruction.specs.declared.Address.the-variants as A
 use Rattle.instruction.specs.declared.MemoryOperation.the-variants as W
 use Rattle.instruction.specs.declared.StackOperation.the-variants as K
@@ -171,7 +172,7 @@ unfolding planOf seenOf memory.assign memory.assignNoResult memory.assignIndexed
 writing = record { assign = refl; assignNoResult = refl; assignUndefined = refl; assignIndexed = refl; intoNothing = refl; intoScalar = refl; eat = refl; interchange = refl; setOrigin = refl }
 
 pub going : Going
-unfolding planOf seenOf control.go control.goIf control.return control.branch control.call control.breakpoint control.attention memory.noOperation lineOf headerAt wordAt halfAt units wholeUnits wholeOf truthUnits truthOf
+unfolding planOf seenOf control.go control.goIf control.return control.branch control.call control.breakpoint control.attention memory.noOperation lineOf hasFunction headerAt wordAt halfAt units wholeUnits wholeOf truthUnits truthOf
 going = record { go = refl; goOutside = refl; goTrue = refl; goFalse = refl; branch = refl; branchNowhere = refl; branchOut = refl; branchBelow = refl; branchHalf = refl; branchLeftover = refl; return = refl; returnLeftover = refl; call = refl; arguments = refl; noOperation = refl; breakpoint = refl; attention = refl }
 
 pub story : Story

@@ -1,7 +1,7 @@
 -- The plan of every instruction: the manual's table of contents. A plan is told by what is seen and by the code alone.
 -- A reader must believe: each instruction has its section's meaning. Assumes nothing.
-use Prim.Native.Nat.{ℕ, zero, suc, _+_, _*_}
-use mathlib.Core.Bool.{Bool, true, false, cond}
+use Prim.Native.Nat.{ℕ, zero, suc, _+_, _*_, _%_, _^_}
+use mathlib.Core.Bool.{Bool, true, false, cond, not}
 use mathlib.Core.List.{List, [], _∷_}
 use Rattle.descriptor.specs.Fields.{integerWord}
 use Rattle.descriptor.specs.Kinds.{bit}
@@ -11,7 +11,7 @@ use Rattle.procedure.specs.declared.header.Header.{Header}
 use Rattle.procedure.specs.declared.header.Block.{Block}
 use Rattle.procedure.specs.Bytes.{wordAt}
 use Rattle.procedure.specs.Headers.{codeOf, lineOf}
-use Rattle.procedure.specs.Directory.{selected, headerOfFunction}
+use Rattle.procedure.specs.Directory.{selected, inDirectory, headerOfFunction}
 use Rattle.instruction.specs.declared.Address.{Address}
 use Rattle.instruction.specs.declared.Address.the-variants as A
 use Rattle.instruction.specs.declared.MemoryOperation.{MemoryOperation}
@@ -64,7 +64,7 @@ scalarPlan seen next (O.Monadic op) = scalars.monadic seen next op
 scalarPlan seen next (O.Dyadic op) = scalars.dyadic seen next op
 
 abbrev pub memoryPlan : Seen → ℕ → MemoryOperation → OrTrap Variable → Plan
-memoryPlan seen next (M.AssignIndexed rank) resolved = memory.assignIndexed seen next rank resolved
+memoryPlan seen next (M.AssignIndexed rank) resolved = memory.assignIndexed seen next (rank % 2 ^ 4) resolved
 memoryPlan seen next M.Assign resolved = memory.assign seen next resolved
 memoryPlan seen next M.AssignNoResult resolved = memory.assignNoResult seen next resolved
 memoryPlan seen next M.Reference resolved = loads.referTo seen next resolved
@@ -96,10 +96,16 @@ jumpPlan f seen next J.Go place = control.go (headerOf f) place
 jumpPlan f seen next J.GoTrue place = control.goIf seen (headerOf f) next true place
 jumpPlan f seen next J.GoFalse place = control.goIf seen (headerOf f) next false place
 
--- The plan of an instruction, after which stands the code place `next`.
+-- A function that is not in its directory is (3,1).
+abbrev pub callPlan : Running → Seen → ℕ → ℕ → Bool → ℕ → Plan
+callPlan f seen next arguments alternate number =
+    stopIf (not (inDirectory alternate (f .regular) (f .alternate) number)) 3 1
+    (control.call seen next (headerOfFunction (selected alternate (f .regular) (f .alternate)) number) alternate number arguments)
+
+-- The plan of an instruction, after which stands the code place `next`. Numbers have as many bits as their fields.
 unfoldable pub planOf : Running → Seen → Instruction → ℕ → Plan
 planOf f seen (I.Load a) next = loads.load seen next (resolve seen (headerOf f) a)
-planOf f seen (I.ShortConstant negative magnitude) next = loads.shortConstant seen next (integerWord (bit negative) magnitude)
+planOf f seen (I.ShortConstant negative magnitude) next = loads.shortConstant seen next (integerWord (bit negative) (magnitude % 2 ^ 12))
 planOf f seen (I.Scalar op) next = scalarPlan seen next op
 planOf f seen (I.Memory op a) next = memoryPlan seen next op (resolve seen (headerOf f) a)
 planOf f seen (I.Stack op) next = stackPlan seen next op
@@ -107,10 +113,10 @@ planOf f seen (I.Array op) next = arrayPlan seen next op
 planOf f seen (I.Control op) next = controlPlan f seen next op
 planOf f seen (I.Jump jump place) next = jumpPlan f seen next jump (place .0)
 planOf f seen (I.ConstantScalar w) next = loads.constantScalar seen next w
-planOf f seen (I.ConstantVector count first) next = loads.constantVector seen next (wordsFrom count (codeOf (segmentOf f) (f .block)) (first .0))
-planOf f seen (I.Call arguments alternate number) next =
-    control.call seen next (headerOfFunction (selected alternate (f .regular) (f .alternate)) number) alternate number arguments
-planOf f seen (I.Index rank) next = scalars.index seen next rank
+planOf f seen (I.ConstantVector count first) next =
+    loads.constantVector seen next (wordsFrom (count % 2 ^ 8) (codeOf (segmentOf f) (f .block)) (first .0))
+planOf f seen (I.Call arguments alternate number) next = callPlan f seen next arguments alternate (number % 2 ^ 11)
+planOf f seen (I.Index rank) next = scalars.index seen next (rank % 2 ^ 4)
 
 -- What is decoded at a place, planned. A fetch trap comes first.
 abbrev pub planDecoded : Running → Seen → Decoded → Plan

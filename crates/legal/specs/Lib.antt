@@ -1,0 +1,2 @@
+-- What the view of an accepted segment is, told by cells.
+pub mod Legal

@@ -1,0 +1,1 @@
+// What the view of an accepted segment is, told by cells.
