@@ -12,6 +12,11 @@ abbrev pub AllFit : List ℕ → List Effect → Type 0
 AllFit s [] = Unit {0}
 AllFit s (e ∷ es) = Fits s e × AllFit (perform s e) es
 
+-- The first fits: no more is known where its request is not served.
+abbrev pub FirstFits : List ℕ → List Effect → Type 0
+FirstFits s [] = Unit {0}
+FirstFits s (e ∷ es) = Fits s e
+
 -- An effect that may ask for a block.
 abbrev pub makes : Source → Bool
 makes (variable t) = false
