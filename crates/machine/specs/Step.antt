@@ -42,14 +42,14 @@ currentHeader regular other s = headerOfFunction (selected (selectorOf s) regula
 -- ---- what is due after a finished instruction
 
 -- The number of the class 2 trap, 0 for none: a trace, where its flag and the header's bit are set, or else the step trap.
-abbrev pub dueOr : Bool → Bool → ℕ → List ℕ → ℕ
-dueOr flag bit trace s = cond (flag && bit) trace (stepFlag (flags s))
+abbrev pub dueIf : Bool → ℕ → List ℕ → ℕ
+dueIf traced trace s = cond traced trace (stepFlag (flags s))
 
 -- In `s` the instruction is done: of a call the current frame is the called one. `rtntrace` is the left function's.
 abbrev pub due : List ℕ → List ℕ → Bool → Outcome → List ℕ → ℕ
 due regular other rtntrace O.Finished s = stepFlag (flags s)
-due regular other rtntrace O.Entered s = dueOr (eqb (fcnctrc (flags s)) 1) (currentHeader regular other s .calltrace) 2 s
-due regular other rtntrace O.Left s = dueOr (eqb (fcnrtrc (flags s)) 1) rtntrace 3 s
+due regular other rtntrace O.Entered s = dueIf (eqb (fcnctrc (flags s)) 1 && currentHeader regular other s .calltrace) 2 s
+due regular other rtntrace O.Left s = dueIf (eqb (fcnrtrc (flags s)) 1 && rtntrace) 3 s
 due regular other rtntrace (O.Trapped class number) s = 0
 
 -- ---- the step

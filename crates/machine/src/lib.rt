@@ -1,4 +1,7 @@
 // Steps and runs on a lent data segment.
+mod dispatch;
+pub mod run;
+pub mod step;
 
 // What a step did. After `Traced` the instruction has finished; after `Trapped` nothing but the trap word has changed.
 pub enum Stepped {
