@@ -6,6 +6,7 @@ ghost use Rattle.procedure.specs.Directory.{selected};
 ghost use Rattle.manual.specs.Seen.{variablesOf};
 ghost use Rattle.manual.specs.Instructions as plan;
 ghost use Rattle.effects.specs.Seen.{seen};
+ghost use Rattle.stack.specs.Variables.{variableSeen, Sure};
 ghost use Rattle.perform.specs.Carried.{did, carry};
 use control::calls;
 use control::jumps;
@@ -45,8 +46,8 @@ pub fn execute(seg: &mut [u32], regular: &[u8], other: &[u8], selector: bool, bl
         }
         Instruction::Stack(op) => stack_operation(seg, op, next),
         Instruction::Array(op) => array_operation(seg, op, next, scratch),
-        Instruction::Control(op) => control_operation(seg, procedure_of(regular, other, selector), block, op, next),
-        Instruction::Jump(jump, place) => jump_operation(seg, block.header, jump, place.number(), next),
+        Instruction::Control(op) => control_operation(seg, regular, other, selector, block, op, next),
+        Instruction::Jump(jump, place) => jump_operation(seg, regular, other, selector, block, jump, place.number(), next),
         Instruction::ConstantScalar(w) => loads::constant_scalar(seg, w, next),
         Instruction::ConstantVector { count, first } => {
             let code = block.code(procedure_of(regular, other, selector));
@@ -65,7 +66,7 @@ fn variables(h: Header) -> u32
 }
 
 // The procedure segment that P selects.
-fn procedure_of(regular: &[u8], other: &[u8], selector: bool) -> &[u8]
+fn procedure_of<'a>(regular: &'a [u8], other: &'a [u8], selector: bool) -> &'a [u8]
     ensures { λ r. ⌜ now r ≡ selected selector (now (regular .entry)) (now (other .entry)) ⌝ }
 {
     if selector {
@@ -85,7 +86,8 @@ fn scalar_operation(seg: &mut [u32], op: Operator, next: u32, scratch: &mut [u32
 }
 
 fn memory_operation(seg: &mut [u32], op: MemoryOperation, variable: Resolved, next: u32, scratch: &mut [u32]) -> Outcome
-    requires { ⌜ (length (now seg) ≤ 16384) × (length (now scratch) ≡ 16384) ⌝ }
+    requires { ⌜ (length (now seg) ≤ 16384) × (length (now scratch) ≡ 16384) × Sure (now seg) variable ⌝ }
+    ensures { λ r. ⌜ did r (now (seg .exit)) ≡ carry (now (seg .entry)) (plan.memoryPlan (seen (now (seg .entry))) next op (variableSeen (now (seg .entry)) variable)) ⌝ }
 {
     match op {
         MemoryOperation::AssignIndexed(rank) => memory::assign_indexed(seg, rank, variable, next, scratch),
@@ -122,11 +124,12 @@ fn array_operation(seg: &mut [u32], op: ArrayOperation, next: u32, scratch: &mut
     }
 }
 
-fn control_operation(seg: &mut [u32], p: &[u8], block: Block, op: ControlOperation, next: u32) -> Outcome
+fn control_operation(seg: &mut [u32], regular: &[u8], other: &[u8], selector: bool, block: Block, op: ControlOperation, next: u32) -> Outcome
     requires { ⌜ length (now seg) ≤ 16384 ⌝ }
+    ensures { λ r. ⌜ did r (now (seg .exit)) ≡ carry (now (seg .entry)) (plan.controlPlan (record { regular = now (regular .entry); alternate = now (other .entry); selector = selector; block = block }) (seen (now (seg .entry))) next op) ⌝ }
 {
     match op {
-        ControlOperation::Branch => jumps::branch(seg, p, block, next),
+        ControlOperation::Branch => jumps::branch(seg, procedure_of(regular, other, selector), block, next),
         ControlOperation::Return => calls::return_from(seg, block.header),
         ControlOperation::NoOperation => memory::no_operation(seg, next),
         ControlOperation::Breakpoint => Outcome::Trapped(2, 4),
@@ -134,12 +137,12 @@ fn control_operation(seg: &mut [u32], p: &[u8], block: Block, op: ControlOperati
     }
 }
 
-fn jump_operation(seg: &mut [u32], h: Header, jump: Jump, place: u32, next: u32) -> Outcome
-    requires { ⌜ length (now seg) ≤ 16384 ⌝ }
+fn jump_operation(seg: &mut [u32], regular: &[u8], other: &[u8], selector: bool, block: Block, jump: Jump, place: u32, next: u32) -> Outcome
+    ensures { λ r. ⌜ did r (now (seg .exit)) ≡ carry (now (seg .entry)) (plan.jumpPlan (record { regular = now (regular .entry); alternate = now (other .entry); selector = selector; block = block }) (seen (now (seg .entry))) next jump place) ⌝ }
 {
     match jump {
-        Jump::Go => jumps::go(seg, h, place),
-        Jump::GoTrue => jumps::go_if(seg, h, true, place, next),
-        Jump::GoFalse => jumps::go_if(seg, h, false, place, next),
+        Jump::Go => jumps::go(seg, block.header, place),
+        Jump::GoTrue => jumps::go_if(seg, block.header, true, place, next),
+        Jump::GoFalse => jumps::go_if(seg, block.header, false, place, next),
     }
 }
