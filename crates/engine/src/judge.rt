@@ -1,7 +1,7 @@
 // The tests that the operations begin with.
 ghost use mathlib.Core.Path.{_≡_};
 ghost use Rattle.acceptance.specs.Refusal.{refusal};
-ghost use Rattle.engine.specs.Load as meaning;
+ghost use Rattle.operations.specs.Load as meaning;
 use acceptance::Judgement;
 use acceptance::judge;
 use segment::state::blockptr;

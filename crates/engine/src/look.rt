@@ -2,9 +2,9 @@
 ghost use mathlib.Core.Path.{_≡_};
 ghost use lib.ListN.{getD};
 ghost use Rattle.segment.specs.Parts as parts;
-ghost use Rattle.engine.specs.Look.{seenAs, looked};
+ghost use Rattle.operations.specs.Look.{seenAs, looked};
 ghost use Rattle.descriptor.specs.Kinds.{kindOf};
-use super::Looked;
+use operations::Looked;
 use super::judge::is_global;
 use super::judge::refusal_of;
 use descriptor::Descriptor;

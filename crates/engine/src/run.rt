@@ -1,9 +1,9 @@
 // Run: at most a given number of instructions.
 ghost use mathlib.Core.Path.{_≡_};
-ghost use Rattle.engine.specs.Run.{ended, ran};
-use super::Run;
+ghost use Rattle.operations.specs.Run.{ended, ran};
+use operations::Run;
 use super::judge::refusal_of;
-use machine::Ran;
+use stepping::Ran;
 
 pub fn run(seg: &mut [u32], regular: &[u8], other: &[u8], budget: u32) -> Run
     ensures { λ r. ⌜ ended r (now (seg .exit)) ≡ ran (now (seg .entry)) (now (regular .entry)) (now (other .entry)) budget ⌝ }

@@ -2,9 +2,9 @@
 ghost use mathlib.Core.Path.{_≡_};
 ghost use Prim.Native.Nat.{_≤_};
 ghost use lib.ListN.{length};
-ghost use Rattle.machine.specs.Run.{ended, runOf};
-use super::Ran;
-use super::Stepped;
+ghost use Rattle.stepping.specs.Run.{ended, runOf};
+use stepping::Ran;
+use stepping::Stepped;
 use super::step::step;
 use segment::put;
 

@@ -5,11 +5,11 @@ use mathlib.Core.Path.{_≡_}
 use mathlib.Core.List.{List}
 use lib.ListN.{set}
 use Rattle.acceptance.specs.Structure.{Accepted}
-use Rattle.machine.specs.declared.Stepped.the-variants as S
-use Rattle.machine.specs.declared.Ran.{Ran}
-use Rattle.machine.specs.declared.Ran.the-variants as R
-use Rattle.machine.specs.Step.{after, stepOf}
-use Rattle.machine.specs.Run.{runOf}
+use Rattle.stepping.specs.declared.Stepped.the-variants as S
+use Rattle.stepping.specs.declared.Ran.{Ran}
+use Rattle.stepping.specs.declared.Ran.the-variants as R
+use Rattle.stepping.specs.Step.{after, stepOf}
+use Rattle.stepping.specs.Run.{runOf}
 use Rattle.steps.specs.Steps.{Means}
 
 -- From `s`, with so many instructions left to do and so many finished, a run answers and leaves a segment. Every step counts one

@@ -13,9 +13,9 @@ use Rattle.manual.specs.OrTrap.{gives, trap}
 use Rattle.manual.specs.Effects.{Effect, Plan, look, performAll}
 use Rattle.effects.specs.Fits.{IsVariable}
 use Rattle.effects_theorems.specs.Theorems.{StoresToAny, AsksInVain}
-use Rattle.machine.specs.declared.Stepped.{Stepped}
-use Rattle.machine.specs.declared.Stepped.the-variants.{Finished, Traced, Trapped}
-use Rattle.machine.specs.Step.{Result, trapped, stepOf}
+use Rattle.stepping.specs.declared.Stepped.{Stepped}
+use Rattle.stepping.specs.declared.Stepped.the-variants.{Finished, Traced, Trapped}
+use Rattle.stepping.specs.Step.{Result, trapped, stepOf}
 use Rattle.steps.specs.Planned.{nextPlan}
 
 -- The plan of the next instruction, by the view of the segment.

@@ -9,9 +9,9 @@ use Rattle.descriptor.specs.declared.Kind.{Kind}
 use Rattle.descriptor.specs.declared.Kind.the-variants as K
 use Rattle.descriptor.specs.Kinds.{kindOf}
 use Rattle.acceptance.specs.Refusal.{refusal}
-use Rattle.engine.specs.declared.Looked.{Looked}
-use Rattle.engine.specs.declared.Looked.the-variants.{Scalar, Array, Refused}
-use Rattle.engine.specs.Load.{isGlobal}
+use Rattle.operations.specs.declared.Looked.{Looked}
+use Rattle.operations.specs.declared.Looked.the-variants.{Scalar, Array, Refused}
+use Rattle.operations.specs.Load.{isGlobal}
 
 -- An accepted segment has no other words in its globals: the last two answers never come.
 abbrev pub seenAs : ℕ → Kind → Looked

@@ -16,8 +16,8 @@ use Rattle.effects.specs.Seen.{seen}
 use Rattle.perform.specs.declared.Outcome.{Outcome}
 use Rattle.perform.specs.declared.Outcome.the-variants as O
 use Rattle.perform.specs.Carried.{Carried, carry}
-use Rattle.machine.specs.declared.Stepped.{Stepped}
-use Rattle.machine.specs.declared.Stepped.the-variants.{Finished, Traced, Trapped}
+use Rattle.stepping.specs.declared.Stepped.{Stepped}
+use Rattle.stepping.specs.declared.Stepped.the-variants.{Finished, Traced, Trapped}
 
 -- What a step answers, and the segment after it.
 pub record Result : Type 0 where

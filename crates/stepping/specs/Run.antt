@@ -3,11 +3,11 @@
 use Prim.Native.Nat.{ℕ, zero, suc, _+_}
 use mathlib.Core.List.{List}
 use lib.ListN.{set}
-use Rattle.machine.specs.declared.Stepped.{Stepped}
-use Rattle.machine.specs.declared.Stepped.the-variants.{Finished, Traced, Trapped}
-use Rattle.machine.specs.declared.Ran.{Ran}
-use Rattle.machine.specs.declared.Ran.the-variants as R
-use Rattle.machine.specs.Step.{Result, stepOf}
+use Rattle.stepping.specs.declared.Stepped.{Stepped}
+use Rattle.stepping.specs.declared.Stepped.the-variants.{Finished, Traced, Trapped}
+use Rattle.stepping.specs.declared.Ran.{Ran}
+use Rattle.stepping.specs.declared.Ran.the-variants as R
+use Rattle.stepping.specs.Step.{Result, stepOf}
 
 pub record Outcome : Type 0 where
   pub answer : Ran

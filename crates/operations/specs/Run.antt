@@ -5,11 +5,11 @@ use mathlib.Core.Bool.{cond}
 use mathlib.Core.List.{List}
 use lib.Dec.{eqb}
 use Rattle.acceptance.specs.Refusal.{refusal}
-use Rattle.machine.specs.declared.Ran.{Ran}
-use Rattle.machine.specs.declared.Ran.the-variants as machine
-use Rattle.machine.specs.Run.{Outcome, runOf}
-use Rattle.engine.specs.declared.Run.{Run}
-use Rattle.engine.specs.declared.Run.the-variants.{Done, Trapped, Refused}
+use Rattle.stepping.specs.declared.Ran.{Ran}
+use Rattle.stepping.specs.declared.Ran.the-variants as machine
+use Rattle.stepping.specs.Run.{Outcome, runOf}
+use Rattle.operations.specs.declared.Run.{Run}
+use Rattle.operations.specs.declared.Run.the-variants.{Done, Trapped, Refused}
 
 pub record Ended : Type 0 where
   pub answer : Run

@@ -2,12 +2,12 @@
 use Prim.Native.Nat.{ℕ}
 use mathlib.Core.Bool.{cond}
 use lib.Dec.{eqb}
-use Rattle.engine.specs.declared.Answer.{Answer}
-use Rattle.engine.specs.declared.Answer.the-variants as A
-use Rattle.engine.specs.declared.Run.{Run}
-use Rattle.engine.specs.declared.Run.the-variants as R
-use Rattle.engine.specs.declared.Looked.{Looked}
-use Rattle.engine.specs.declared.Looked.the-variants as L
+use Rattle.operations.specs.declared.Answer.{Answer}
+use Rattle.operations.specs.declared.Answer.the-variants as A
+use Rattle.operations.specs.declared.Run.{Run}
+use Rattle.operations.specs.declared.Run.the-variants as R
+use Rattle.operations.specs.declared.Looked.{Looked}
+use Rattle.operations.specs.declared.Looked.the-variants as L
 
 -- Lay out and load: done, or refused by the number of a test.
 abbrev pub answerOf : ℕ → Answer
