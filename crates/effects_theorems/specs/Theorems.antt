@@ -13,7 +13,7 @@ use Rattle.segment.specs.Cells.{undefined}
 use Rattle.storage.specs.Heap.{Block}
 use Rattle.view.specs.View.{view}
 use Rattle.heap.specs.Words.{HasRoom}
-use Rattle.manual.specs.Effects.{Source, variable, operand, word, undefinedValue, reference, made, Effect, replaces, discards, swaps, stores, storesElement, enters, leaves, jumps, setsOrigin, look, performOn, performAll}
+use Rattle.manual.specs.Effects.{Effect, replaces, discards, swaps, stores, storesElement, enters, leaves, jumps, setsOrigin, look, performOn, performAll}
 use Rattle.manual.specs.Seen.{seenOf}
 use Rattle.effects.specs.Perform.{perform, performs, wanted, isFull, anyFull}
 use Rattle.effects.specs.Seen.{seen}
