@@ -21,7 +21,7 @@ use Rattle.effects.specs.Sources.{addressOf}
 use Rattle.effects.specs.Perform.{blockOf, perform, sourceNeed, wanted, noneFor, isFull, anyFull}
 use Rattle.effects.specs.Sound.{Sound}
 use Rattle.effects.specs.Fits.{Available, Fits}
-use Rattle.effects.specs.Requests.{AllFit, makes, asks, NoneAsks, OneRequest}
+use Rattle.effects.specs.Requests.{AllFit, FirstFits, makes, asks, NoneAsks, OneRequest}
 use Rattle.effects_theorems.specs.Theorems.{Performed, PerformedAll, AsksInVain}
 use Rattle.effects_theorems.proofs.Tests.{never, none-holds, one-holds, first-holds, second-holds}
 use Rattle.effects_theorems.proofs.Element.{array-proper}
@@ -141,9 +141,9 @@ module _ (s : List ℕ) (g : Sound s) (e : Effect) (h : Fits s e) where
           (request-theorem (wanted s e) (g .own .heap) l .found .0 (eqb-false (requestAt s (wanted s e)) 0 q))))
           (decide (eqb (requestAt s (wanted s e)) 0))
 
-pub full-theorem : (s : List ℕ) (g : Sound s) (es : List Effect) → AllFit s es → OneRequest es → (anyFull s es ≡ true) ↔ AsksInVain s (g .own .blocks) es
+pub full-theorem : (s : List ℕ) (g : Sound s) (es : List Effect) → FirstFits s es → OneRequest es → (anyFull s es ≡ true) ↔ AsksInVain s (g .own .blocks) es
 full-theorem s g [] h k = (λ f. never (sym f), λ f. absurd f)
 full-theorem s g (e ∷ es) h k = (
-  λ f. ⊎-elim (λ q. inl (full-vain s g e (h .0) q)) (λ q. never (sym q ∙ none-full s es k)) (one-holds (isFull s e) (anyFull s es) f),
-  λ f. ⊎-elim (λ q. first-holds (isFull s e) (anyFull s es) (vain-full s g e (h .0) (q .0) (q .1))) (λ q. absurd (none-in-vain s (g .own .blocks) es k q)) f,
+  λ f. ⊎-elim (λ q. inl (full-vain s g e h q)) (λ q. never (sym q ∙ none-full s es k)) (one-holds (isFull s e) (anyFull s es) f),
+  λ f. ⊎-elim (λ q. first-holds (isFull s e) (anyFull s es) (vain-full s g e h (q .0) (q .1))) (λ q. absurd (none-in-vain s (g .own .blocks) es k q)) f,
 )

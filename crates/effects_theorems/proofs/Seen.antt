@@ -3,7 +3,7 @@ use Prim.Native.Nat.{ℕ, suc, _+_, _-_, _<_, _≤_}
 use mathlib.Core.Path.{_≡_, refl, sym, _∙_, ap}
 use mathlib.Core.Bool.{Bool, true, false, cond, _||_}
 use mathlib.Core.List.{List, [], _∷_}
-use mathlib.Core.Logic.{_⊎_, inl, ⊎-elim}
+use mathlib.Core.Logic.{_⊎_, inl, inr, ⊎-elim}
 use native.Mathlib.Omega.{arith}
 use lib.ListN.{getD, length, length-map, List·getD-eq-default}
 use lib.Dec.{ltb, leb}
@@ -14,17 +14,17 @@ use Rattle.descriptor.specs.Kinds.{segment, stack}
 use Rattle.segment.specs.State.{sbase, ltop, lbase, flags, iorg, blockptr}
 use Rattle.segment.specs.Stack.{lastLbaseAt, codeWordAt}
 use Rattle.segment.specs.Cells.{Cell, undefined, indirect, value, invalid, cell}
-use Rattle.view.specs.Machine.{Frame, Machine, mapFrames, depthOfFrames, depth}
+use Rattle.view.specs.Machine.{Frame, mapFrames, depthOfFrames, depth}
 use Rattle.view.specs.View.{framesFrom, words, view}
-use Rattle.manual.specs.OrTrap.{OrTrap, stopIf}
+use Rattle.manual.specs.OrTrap.{OrTrap, gives, trap, stopIf}
 use Rattle.manual.specs.Effects.{currentCells, lookFrames, look, indexIn}
-use Rattle.manual.specs.Seen.{followed, follow, localAt, globalAt, noOlder, seenOf}
+use Rattle.manual.specs.Seen.{Variable, at, followed, follow, localAt, globalAt, noOlder, seenOf}
 use Rattle.heap.proofs.Counts.{order}
 use Rattle.effects.specs.Sources.{heldAt, operandAt}
 use Rattle.effects.specs.Seen.{read, temporaries, seen}
 use Rattle.effects.specs.Sound.{Chain, bottom, upon, Sound}
 use Rattle.effects.specs.Fits.{InFrames, IsVariable}
-use Rattle.effects.specs.Alike.{seenBy, Runs}
+use Rattle.effects.specs.Alike.{seenBy, Runs, Resolved}
 use Rattle.effects_theorems.proofs.Tests.{none-holds}
 use Rattle.effects_theorems.proofs.Machines.{depth-map, map-current}
 use Rattle.effects_theorems.proofs.Frames.{downward-length, part-length, frame, frames-bottom, frames-next, depth-is}
@@ -64,10 +64,28 @@ follow-same : (read other : Target → Cell) (t : Target) → read t ≡ other t
     → follow read t (read t) ≡ follow other t (other t)
 follow-same read other t e h = follow-cell read other t (read t) h ∙ ap (follow other t) e
 
-module _ (s : List ℕ) (g : Sound s) where
-  abbrev m : Machine Cell
-  m = view s
+-- where an indirection leads
+trapped : {A : Type 0} {x : Variable} {class number : ℕ} → trap class number ≡ gives x → A
+trapped e = let z : _≡_ {A = ℕ} 0 1 = cc in absurd (omega arith)
 
+followed-is : (u : Target) (c : Cell) (x : Variable) → followed u c ≡ gives x → x ≡ at u c
+followed-is u undefined x e = cc
+followed-is u (indirect w) x e = trapped e
+followed-is u (value shape ravel) x e = cc
+followed-is u invalid x e = cc
+
+follow-is : (read : Target → Cell) (t : Target) (c : Cell) (x : Variable) → follow read t c ≡ gives x
+    → ((followed t c ≡ gives x) ⊎ ((u : Target) × (c ≡ indirect u) × (followed u (read u) ≡ gives x)))
+follow-is read t undefined x e = inl e
+follow-is read t (indirect u) x e = inr (u, refl, e)
+follow-is read t (value shape ravel) x e = inl e
+follow-is read t invalid x e = inl e
+
+stop-gives : (b : Bool) (class number : ℕ) (p : OrTrap Variable) (x : Variable) → stopIf b class number p ≡ gives x → (b ≡ false) × (p ≡ gives x)
+stop-gives true class number p x e = trapped e
+stop-gives false class number p x e = (refl, e)
+
+module _ (s : List ℕ) (g : Sound s) where
   abbrev held : Target → Cell
   held t = read s (heldAt s t)
 
@@ -138,25 +156,57 @@ module _ (s : List ℕ) (g : Sound s) where
     follows : (t : Target) → IsVariable s t → follow held t (held t) ≡ follow other t (other t)
     follows t at = follow-same held other t (held-view t at) (λ u e. held-view u (runs .targets t u at (sym (held-cell t at) ∙ e)))
 
+    local-variable : (v : ℕ) → (ltb v 1 || ltb variables v) ≡ false → IsVariable s (Local (stack (lbase s - v)))
+    local-variable v h =
+        let n = none-holds (ltb v 1) (ltb variables v) h in
+        in-current (words s .frames) (lbase s) v depth-frames (ltb-false v 1 (n .0)) (omega (arith, ltb-false variables v (n .1), runs .cells))
+
     local-same : (v : ℕ) → localAt held (lbase s) variables v ≡ localAt other (depthOfFrames (view s .frames) - 2) variables v
     local-same v =
         rw base-view
         (stop-same (ltb v 1 || ltb variables v) 3 2 _ _
-        (λ h. let a : 1 ≤ v = ltb-false v 1 (none-holds (ltb v 1) (ltb variables v) h .0) in
-        let b : v ≤ variables = ltb-false variables v (none-holds (ltb v 1) (ltb variables v) h .1) in
-        follows (Local (stack (lbase s - v))) (in-current (words s .frames) (lbase s) v depth-frames a (omega (arith, b, runs .cells)))))
+        (λ h. follows (Local (stack (lbase s - v))) (local-variable v h)))
 
-    global-variable : (q : ℕ) → 8 ≤ q → q < blockptr s → IsVariable s (Global (segment q))
+    global-variable : (q : ℕ) → (ltb q 8 || leb (blockptr s) q) ≡ false → IsVariable s (Global (segment q))
     unfolding words
-    global-variable q h k = (h, omega (arith, k, part-length s 8 (blockptr s - 8), bounds g))
+    global-variable q h =
+        let n = none-holds (ltb q 8) (leb (blockptr s) q) h in
+        (ltb-false q 8 (n .0), omega (arith, leb-false (blockptr s) q (n .1), part-length s 8 (blockptr s - 8), bounds g))
 
     global-same : (q : ℕ) → globalAt held (blockptr s) q ≡ globalAt other (8 + length (view s .globals)) q
     global-same q =
         rw long-globals
         (stop-same (ltb q 8 || leb (blockptr s) q) 3 3 _ _
-        (λ h. follows (Global (segment q))
-        (global-variable q (ltb-false q 8 (none-holds (ltb q 8) (leb (blockptr s) q) h .0))
-        (leb-false (blockptr s) q (none-holds (ltb q 8) (leb (blockptr s) q) h .1)))))
+        (λ h. follows (Global (segment q)) (global-variable q h)))
+
+    -- an address that is not trapped leads to a variable
+    resolves : (t : Target) (x : Variable) → IsVariable s t → follow held t (held t) ≡ gives x → Resolved s x
+    resolves t x at e = ⊎-elim (leads t at) (λ q. leads (q .0) (runs .targets t (q .0) at (sym (held-cell t at) ∙ q .1)) (q .2)) (follow-is held t (held t) x e)
+      where
+        leads : (u : Target) → IsVariable s u → followed u (held u) ≡ gives x → Resolved s x
+        leads u k q =
+            let r = followed-is u (held u) x q in
+            let p : x .place ≡ u = ap (λ (y : Variable). y .place) r in
+            let c : x .held ≡ held u = ap (λ (y : Variable). y .held) r in
+            record {
+              there = rw p k;
+              holds = rw p (c ∙ held-cell u k);
+              direct = λ v z. trapped (ap (followed u) (sym z ∙ c) ∙ q);
+            }
+
+    pub local-theorem : (v : ℕ) (x : Variable) → seen s .local variables v ≡ gives x → Resolved s x
+    unfolding seen
+    local-theorem v x e =
+        let t = Local (stack (lbase s - v)) in
+        let q = stop-gives (ltb v 1 || ltb variables v) 3 2 (follow held t (held t)) x e in
+        resolves t x (local-variable v (q .0)) (q .1)
+
+    pub global-theorem : (q : ℕ) (x : Variable) → seen s .global q ≡ gives x → Resolved s x
+    unfolding seen
+    global-theorem q x e =
+        let t = Global (segment q) in
+        let r = stop-gives (ltb q 8 || leb (blockptr s) q) 3 3 (follow held t (held t)) x e in
+        resolves t x (global-variable q (r .0)) (r .1)
 
     result-same : (has : Bool) → has ≡ result
         → cond has (read s (getD s (sbase s + lbase s - 1) 0)) undefined ≡ cond has (getD (currentCells (view s .frames)) 0 undefined) undefined
