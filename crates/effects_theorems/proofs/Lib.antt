@@ -1,5 +1,6 @@
 -- The laws of effects on words, and the theorems of specs/.
 pub mod Tests
+pub mod StateWords
 pub mod Machines
 pub mod Cells
 pub mod Frames

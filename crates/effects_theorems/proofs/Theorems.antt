@@ -1,7 +1,7 @@
 -- The theorems of specs/Theorems.
 use Rattle.effects_theorems.specs.Theorems.{EffectsTheorems}
-use Rattle.effects_theorems.proofs.Effects.{perform-theorem}
-use Rattle.effects_theorems.proofs.Lists.{performs-theorem, full-theorem}
+use Rattle.effects_theorems.proofs.Effects.{perform-theorem, kept-theorem, flags-theorem}
+use Rattle.effects_theorems.proofs.Lists.{performs-theorem, all-kept-theorem, full-theorem}
 use Rattle.effects_theorems.proofs.Others.{others-theorem}
 use Rattle.effects_theorems.proofs.Seen.{seen-theorem, local-theorem, global-theorem}
 
@@ -9,7 +9,10 @@ pub effects-theorems : EffectsTheorems
 effects-theorems = record {
   performed = perform-theorem;
   others = others-theorem;
+  kept = kept-theorem;
+  flagsKept = flags-theorem;
   allPerformed = performs-theorem;
+  allKept = all-kept-theorem;
   full = full-theorem;
   alike = seen-theorem;
   local = local-theorem;
