@@ -260,7 +260,7 @@ module _ (s : List ℕ) (g : Sound s) (t : Target) (at : IsVariable s t) (x : �
         record {
           sound = sound1;
           same = same1;
-          there = rw words1 (in-put (arrayWord y) t t (words s) at);
+          there = rw words1 (in-put (arrayWord y) t t (words s) .0 at);
           regs = regs1;
           state = state1;
           y = y;
@@ -316,7 +316,7 @@ module _ (s : List ℕ) (g : Sound s) (t : Target) (at : IsVariable s t) (x : �
       first2 = put-source t2 sound2 (manual.variable t) there2 tt
 
       pushed : manual.look undefined t (view t2) ≡ after
-      pushed = rw view2 (look-put undefined after t (view s) (in-view s t at))
+      pushed = rw view2 (look-put undefined after t (view s) (in-view s t .0 at))
 
       view3 : view (replace t2 n (manual.variable t)) ≡ manual.replace n after (manual.put t after (view s))
       unfolding replace

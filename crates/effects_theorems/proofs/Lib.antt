@@ -19,6 +19,7 @@ pub mod Leave
 pub mod Effects
 pub mod Lists
 pub mod Others
+pub mod Standing
 pub mod Reading
 pub mod Seen
 pub mod Theorems
