@@ -2,7 +2,7 @@
 -- words that the one before left. Assumes nothing.
 use Prim.Native.Nat.{ℕ}
 use mathlib.Core.List.{List}
-use Rattle.operations.specs.LayOut.{Layout, laidOut}
+use Rattle.layout.specs.LayOut.{Layout, laidOut}
 use Rattle.operations.specs.Run.{ran}
 use Rattle.operations.specs.Load.{loaded}
 

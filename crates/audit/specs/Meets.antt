@@ -6,13 +6,12 @@ use mathlib.Core.Bool.{true, false}
 use mathlib.Core.Logic.{_↔_, _≢_}
 use mathlib.Core.List.{List, [], _∷_}
 use lib.Dec.{eqb}
-use lib.ListN.{length, set, replicate}
+use lib.ListN.{length, set}
 use Rattle.descriptor.specs.declared.Target.the-variants.{Global}
 use Rattle.descriptor.specs.Kinds.{segment}
 use Rattle.segment.specs.Blocks.{need}
 use Rattle.segment.specs.Parts.{shapePart, elementsPart}
 use Rattle.segment.specs.Cells.{Cell, undefined, value}
-use Rattle.view.specs.Machine.{Machine}
 use Rattle.view.specs.View.{view}
 use Rattle.heap.specs.Words.{HasRoom}
 use Rattle.acceptance.specs.Refusal.{refusal}
@@ -23,23 +22,14 @@ use Rattle.steps.specs.Runs.{Runs}
 use Rattle.operations.specs.declared.Run.{Run}
 use Rattle.operations.specs.declared.Run.the-variants as run
 use Rattle.operations.specs.declared.Looked.the-variants.{Scalar, Array, Refused}
-use Rattle.operations.specs.LayOut.{Layout, localsOf, layOutRefusal, laidOut}
+use Rattle.layout.specs.LayOut.{Layout, localsOf, layOutRefusal, laidOut}
+use Rattle.layout.specs.Fresh.{freshView}
 use Rattle.operations.specs.Run.{ended, answerOf, ran}
 use Rattle.operations.specs.Load.{isGlobal, isValue, loadRefusal, loaded}
 use Rattle.operations.specs.Look.{looked}
 use Rattle.audit.specs.Calls.{Procedures}
 
 -- ---- lay out
-
--- The view of a fresh segment: all undefined, one frame, at the start of its function's code.
-abbrev pub freshView : ℕ → Layout → Machine Cell
-freshView locals l =
-    record {
-      flags = 0;
-      temporaries = [];
-      frames = record { function = l .selector * 2 ^ 11 + l .function; pctr = 8; cells = replicate locals undefined } ∷ [];
-      globals = replicate (l .globals) undefined;
-    }
 
 pub record LayOutMeets (s : List ℕ) (p : Procedures) (l : Layout) : Type 0 where
   pub refused : layOutRefusal s (p .regular) (p .other) l ≢ 0 → laidOut s (p .regular) (p .other) l ≡ s

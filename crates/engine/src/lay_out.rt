@@ -7,7 +7,7 @@ ghost use lib.Seq.{sets};
 ghost use Rattle.descriptor.specs.Fields.{undefinedWord};
 ghost use Rattle.procedure.specs.declared.header.Header.{Header as Headed};
 ghost use Rattle.operations.specs.Answers.{answerOf};
-ghost use Rattle.operations.specs.LayOut as meaning;
+ghost use Rattle.layout.specs.LayOut as meaning;
 use operations::Answer;
 use descriptor::Descriptor;
 use elements::copies::fill;
