@@ -1,0 +1,7 @@
+-- From words to cells and back.
+pub mod FunctionWord
+pub mod CellKinds
+pub mod Frames
+pub mod Stacked
+pub mod Cells
+pub mod Split
