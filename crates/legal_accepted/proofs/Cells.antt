@@ -35,8 +35,8 @@ module _ (s : List ℕ) where
   unfolding view words
   global-at i h = part-seen s 8 (blockptr s - 8) i h
 
-  look-global : (g : ℕ) → 8 ≤ g → g < blockptr s → look undefined (Global (segment g)) (view s) ≡ cell s (getD s g 0)
-  look-global g l h =
+  pub global-word : (g : ℕ) → 8 ≤ g → g < blockptr s → getD (view s .globals) (g - 8) undefined ≡ cell s (getD s g 0)
+  global-word g l h =
       let e : 8 + (g - 8) ≡ g = omega arith in
       rw e at (global-at (g - 8) (omega arith))
 
@@ -50,6 +50,11 @@ module _ (s : List ℕ) where
   temporary-at i h =
       let e : sbase s + lbase s + 2 + (ltop s - (lbase s + 1)) - 1 - i ≡ sbase s + (ltop s - i) = omega arith in
       rw e at (downward-seen s (sbase s + lbase s + 2) (ltop s - (lbase s + 1)) i h)
+
+  pub temporary-word : (i : ℕ) → lbase s + 2 ≤ i → i < ltop s + 1 → getD (view s .temporaries) (ltop s - i) undefined ≡ cell s (stackAt s i)
+  temporary-word i l u =
+      let e : ltop s - (ltop s - i) ≡ i = omega arith in
+      rw e at (temporary-at (ltop s - i) (omega arith))
 
 -- All frames of the segment.
 module _ (s regular other older : List ℕ) (chain : onWords.Chain s regular other (lbase s) older) where
@@ -77,7 +82,7 @@ module _ (s regular other older : List ℕ) (chain : onWords.Chain s regular oth
         let e : cell s w ≡ indirect (Global (segment (g .target))) = ap (cell s) (g .word) ∙ target-cell s (Global (segment (g .target))) (omega (arith, g .high)) in
         subst (Allowed regular other (view s) l) (sym e) (record {
           names = (g .low, omega (arith, g .high, globals-length s));
-          direct = subst Direct (sym (look-global s (g .target) (g .low) (g .high))) (direct-cell s A (getD s (g .target) 0) (globals (g .target) (g .low) (g .high)));
+          direct = subst Direct (sym (global-word s (g .target) (g .low) (g .high))) (direct-cell s A (getD s (g .target) 0) (globals (g .target) (g .low) (g .high)));
         })
     word-allowed globals variables w (inr (inr v)) =
         let e : cell s w ≡ indirect (Local (stack (v .target))) = ap (cell s) (v .word) ∙ target-cell s (Local (stack (v .target))) (fits (v .target) (v .variable)) in
@@ -95,7 +100,7 @@ module _ (s regular other older : List ℕ) (chain : onWords.Chain s regular oth
           word = e;
           low = h .names .0;
           high = k;
-          direct = not-indirect s (getD s (g .0) 0) (subst Direct (look-global s (g .0) (h .names .0) k) (h .direct));
+          direct = not-indirect s (getD s (g .0) 0) (subst Direct (global-word s (g .0) (h .names .0) k) (h .direct));
         }))
     points-word w (Local a) e h =
         let v = variable-word s regular other t (a .0) (h .names) in

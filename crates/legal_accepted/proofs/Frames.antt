@@ -69,6 +69,11 @@ module _ (s : List ℕ) (base start : ℕ) where
       let e : sbase s + start + (base - start) - 1 - i ≡ sbase s + (base - 1 - i) = omega arith in
       rw e at (downward-seen s (sbase s + start) (base - start) i h)
 
+  pub frame-word : (i : ℕ) → start ≤ i → i < base → getD (seenFrame s base start .cells) (base - 1 - i) undefined ≡ cell s (stackAt s i)
+  frame-word i l u =
+      let e : base - 1 - (base - 1 - i) ≡ i = omega arith in
+      rw e at (frame-at (base - 1 - i) (omega arith))
+
 module _ (n : ℕ) (s : List ℕ) (base : ℕ) where
   pub seen-bottom : lastLbaseAt s base ≡ base → seenFrames (suc n) s base ≡ seenFrame s base 0 ∷ []
   unfolding framesFrom

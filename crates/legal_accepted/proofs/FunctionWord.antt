@@ -1,5 +1,5 @@
 -- The second word of a frame without its PCTR says the same of the function.
-use Prim.Native.Nat.{ℕ, _*_, _/_, _%_, _^_, _<_}
+use Prim.Native.Nat.{ℕ, _*_, _/_, _%_, _^_, _<_, _≤_}
 use mathlib.Core.Path.{_≡_, refl}
 use mathlib.Core.Bool.{Bool, true, false}
 use mathlib.Core.List.{List}
@@ -41,3 +41,8 @@ module _ (w : ℕ) where
     pub same-variables : variables regular other bare ≡ variables regular other w
     unfolding variables arguments
     same-variables = rw (same-alternate, same-number)
+
+    -- arguments are variables
+    pub most-arguments : arguments regular other w ≤ variables regular other w
+    unfolding variables
+    most-arguments = omega arith

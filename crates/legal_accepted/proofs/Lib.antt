@@ -5,3 +5,5 @@ pub mod Frames
 pub mod Stacked
 pub mod Cells
 pub mod Split
+pub mod Owners
+pub mod Join
