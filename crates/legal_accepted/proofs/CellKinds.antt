@@ -1,7 +1,7 @@
 -- What the words that test 17 tells apart are seen as, and which words are seen so.
 use Prim.Native.Nat.{ℕ, _+_, _*_, _/_, _%_, _^_, _<_}
-use mathlib.Core.Path.{_≡_, refl, sym, _∙_, ap, subst}
-use mathlib.Core.Bool.{Bool, true, false}
+use mathlib.Core.Path.{_≡_, refl, _∙_, ap, subst}
+use mathlib.Core.Bool.{true, false}
 use mathlib.Core.List.{List}
 use mathlib.Core.Logic.{_⊎_, inl, inr, ⊎-elim}
 use native.Mathlib.Omega.{arith}
@@ -11,18 +11,17 @@ use Rattle.descriptor.specs.declared.Target.{Target}
 use Rattle.descriptor.specs.declared.Target.the-variants.{Local, Global}
 use Rattle.descriptor.specs.declared.Kind.{Kind}
 use Rattle.descriptor.specs.declared.Kind.the-variants as K
-use Rattle.descriptor.specs.Fields.{sign, isFloat, typeNumber, rest, isArray, address, arrayWord, localWord, globalWord, undefinedWord}
+use Rattle.descriptor.specs.Fields.{sign, isFloat, typeNumber, rest, isArray, address, undefinedWord}
 use Rattle.descriptor.specs.Kinds.{segment, stack, kindOf, integerKind, characterKind, arrayKind, indirectKind, undefinedKind, unsignedKind, scalarKind, isScalar}
 use Rattle.descriptor.specs.Inverse.{targetWord, TargetFits}
 use Rattle.descriptor.proofs.Inverse.{inverse, pick}
 use Rattle.segment.specs.Cells.{Cell, undefined, indirect, value, invalid, cell, cellOfKind}
 use Rattle.view.specs.Machine.{Frame, Machine}
-use Rattle.heap.proofs.Ways.{decide}
-use Rattle.owners.proofs.Cells.{array-of, cell-array}
+use Rattle.owners.proofs.Cells.{array-of}
 use Rattle.storage_tests.proofs.Tests.{never, fails, by-le}
 use Rattle.acceptance.specs.Cells.{isIndirect}
 use Rattle.acceptance.specs.Structure as onWords
-use Rattle.legal.specs.Legal.{Direct, Leads, Allowed}
+use Rattle.legal.specs.Legal.{Direct, Allowed}
 
 -- ---- a word told by its kind
 

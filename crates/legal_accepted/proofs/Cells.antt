@@ -8,7 +8,7 @@ use native.Mathlib.Omega.{arith}
 use lib.ListN.{getD, length, length-map}
 use Rattle.descriptor.specs.declared.Target.{Target}
 use Rattle.descriptor.specs.declared.Target.the-variants.{Local, Global}
-use Rattle.descriptor.specs.Fields.{isArray, address, localWord, globalWord}
+use Rattle.descriptor.specs.Fields.{isArray, address}
 use Rattle.descriptor.specs.Kinds.{segment, stack}
 use Rattle.descriptor.specs.Inverse.{targetWord}
 use Rattle.segment.specs.State.{sbase, ltop, lbase, blockptr}
@@ -22,7 +22,7 @@ use Rattle.effects.specs.Fits.{InFrames}
 use Rattle.acceptance.specs.Cells.{isIndirect}
 use Rattle.acceptance.specs.Structure as onWords
 use Rattle.legal.specs.Legal.{Direct, Leads, Allowed}
-use Rattle.legal_accepted.proofs.CellKinds.{target-cell, direct-cell, not-indirect, direct-allowed, Points, valid-word}
+use Rattle.legal_accepted.proofs.CellKinds.{target-cell, direct-cell, not-indirect, direct-allowed, valid-word}
 use Rattle.legal_accepted.proofs.Frames.{downward-length, part-length, downward-seen, part-seen}
 use Rattle.legal_accepted.proofs.Stacked.{Stacked, stacked, variable-low, variable-seen, variable-word, variable-in, look-is}
 
@@ -65,32 +65,10 @@ module _ (s regular other older : List ℕ) (chain : onWords.Chain s regular oth
   pub look-local : (a : ℕ) → InFrames a (view s .frames) → look undefined (Local (stack a)) (view s) ≡ cell s (stackAt s a)
   look-local a h = look-is s regular other whole a h
 
-  module _ (A : ℕ → Type 0) (near : blockptr s ≤ 2 ^ 16) (short : lbase s + 2 ≤ 2 ^ 16)
-      {d : ℕ} {frames : List ℕ} {l : List (Frame Cell)} (t : Stacked s regular other d frames l)
+  module _ (A : ℕ → Type 0) {d : ℕ} {frames : List ℕ} {l : List (Frame Cell)} (t : Stacked s regular other d frames l)
       (within : (a : ℕ) → onWords.VariableOf s regular other frames a → onWords.VariableOf s regular other (lbase s ∷ older) a) where
     seen-there : (a : ℕ) → onWords.VariableOf s regular other frames a → look undefined (Local (stack a)) (view s) ≡ cell s (stackAt s a)
     seen-there a v = look-local a (variable-in s regular other whole a (within a v))
-
-    fits : (a : ℕ) → onWords.VariableOf s regular other frames a → a < 2 ^ 16
-    fits a v = omega (arith, variable-low s regular other whole a (within a v))
-
-    pub word-allowed : ((g : ℕ) → 8 ≤ g → g < blockptr s → onWords.Direct A (getD s g 0))
-        → ((a : ℕ) → onWords.VariableOf s regular other (lbase s ∷ older) a → isIndirect (stackAt s a) ≡ false → onWords.Direct A (stackAt s a))
-        → (w : ℕ) → onWords.DirectOrIndirect A s regular other frames w → Allowed regular other (view s) l (cell s w)
-    word-allowed globals variables w (inl k) = direct-allowed regular other (view s) l (cell s w) (direct-cell s A w k)
-    word-allowed globals variables w (inr (inl g)) =
-        let e : cell s w ≡ indirect (Global (segment (g .target))) = ap (cell s) (g .word) ∙ target-cell s (Global (segment (g .target))) (omega (arith, g .high)) in
-        subst (Allowed regular other (view s) l) (sym e) (record {
-          names = (g .low, omega (arith, g .high, globals-length s));
-          direct = subst Direct (sym (global-word s (g .target) (g .low) (g .high))) (direct-cell s A (getD s (g .target) 0) (globals (g .target) (g .low) (g .high)));
-        })
-    word-allowed globals variables w (inr (inr v)) =
-        let e : cell s w ≡ indirect (Local (stack (v .target))) = ap (cell s) (v .word) ∙ target-cell s (Local (stack (v .target))) (fits (v .target) (v .variable)) in
-        subst (Allowed regular other (view s) l) (sym e) (record {
-          names = variable-seen s regular other t (v .target) (v .variable);
-          direct = subst Direct (sym (seen-there (v .target) (v .variable)))
-              (direct-cell s A (stackAt s (v .target)) (variables (v .target) (within (v .target) (v .variable)) (v .direct)));
-        })
 
     points-word : (w : ℕ) (target : Target) → w ≡ targetWord target → Leads regular other (view s) l target → onWords.DirectOrIndirect A s regular other frames w
     points-word w (Global g) e h =
@@ -113,3 +91,25 @@ module _ (s regular other older : List ℕ) (chain : onWords.Chain s regular oth
 
     pub allowed-word : (w : ℕ) → (isArray w ≡ true → A (address w)) → Allowed regular other (view s) l (cell s w) → onWords.DirectOrIndirect A s regular other frames w
     allowed-word w named h = ⊎-elim (λ k. inl k) (λ p. points-word w (p .target) (p .word) (p .holds)) (valid-word A s w named (Allowed regular other (view s) l) (λ z. z) h)
+
+    module _ (near : blockptr s ≤ 2 ^ 16) (short : lbase s + 2 ≤ 2 ^ 16) where
+      fits : (a : ℕ) → onWords.VariableOf s regular other frames a → a < 2 ^ 16
+      fits a v = omega (arith, variable-low s regular other whole a (within a v))
+
+      pub word-allowed : ((g : ℕ) → 8 ≤ g → g < blockptr s → onWords.Direct A (getD s g 0))
+          → ((a : ℕ) → onWords.VariableOf s regular other (lbase s ∷ older) a → isIndirect (stackAt s a) ≡ false → onWords.Direct A (stackAt s a))
+          → (w : ℕ) → onWords.DirectOrIndirect A s regular other frames w → Allowed regular other (view s) l (cell s w)
+      word-allowed globals variables w (inl k) = direct-allowed regular other (view s) l (cell s w) (direct-cell s A w k)
+      word-allowed globals variables w (inr (inl g)) =
+          let e : cell s w ≡ indirect (Global (segment (g .target))) = ap (cell s) (g .word) ∙ target-cell s (Global (segment (g .target))) (omega (arith, g .high)) in
+          subst (Allowed regular other (view s) l) (sym e) (record {
+            names = (g .low, omega (arith, g .high, globals-length s));
+            direct = subst Direct (sym (global-word s (g .target) (g .low) (g .high))) (direct-cell s A (getD s (g .target) 0) (globals (g .target) (g .low) (g .high)));
+          })
+      word-allowed globals variables w (inr (inr v)) =
+          let e : cell s w ≡ indirect (Local (stack (v .target))) = ap (cell s) (v .word) ∙ target-cell s (Local (stack (v .target))) (fits (v .target) (v .variable)) in
+          subst (Allowed regular other (view s) l) (sym e) (record {
+            names = variable-seen s regular other t (v .target) (v .variable);
+            direct = subst Direct (sym (seen-there (v .target) (v .variable)))
+                (direct-cell s A (stackAt s (v .target)) (variables (v .target) (within (v .target) (v .variable)) (v .direct)));
+          })

@@ -3,7 +3,6 @@
 use Prim.Native.Nat.{ℕ, zero, suc, _+_, _-_, _/_, _^_, _<_, _≤_}
 use mathlib.Core.Path.{_≡_, refl, sym, _∙_, ap}
 use mathlib.Core.List.{List, [], _∷_, map}
-use mathlib.Core.Logic.{_⊎_, inl, inr}
 use native.Mathlib.Omega.{arith}
 use lib.ListN.{getD, length, length-map, List·getD-map}
 use borrow.Author.Tests.{le-leb, lt-leb}
@@ -12,11 +11,8 @@ use Rattle.segment.specs.State.{sbase}
 use Rattle.segment.specs.Blocks.{part}
 use Rattle.segment.specs.Stack.{stackAt, lastLbaseAt, codeWordAt, pctr, downward}
 use Rattle.segment.specs.Cells.{Cell, undefined, cell}
-use Rattle.view.specs.Machine.{Frame, mapFrames, depthOfFrames}
+use Rattle.view.specs.Machine.{Frame, mapFrames}
 use Rattle.view.specs.View.{framesFrom}
-use Rattle.manual.specs.Effects.{lookFrames}
-use Rattle.effects.specs.Fits.{InFrames}
-use Rattle.acceptance.specs.Structure.{Chain}
 use Rattle.legal_accepted.proofs.CellKinds.{undefined-cell}
 
 -- ---- runs of words

@@ -1,27 +1,25 @@
 -- A sound segment whose view is legal is accepted.
-use Prim.Native.Nat.{ℕ, zero, suc, _+_, _-_, _^_, _<_, _≤_}
-use mathlib.Core.Path.{_≡_, refl, sym, _∙_, ap, subst}
+use Prim.Native.Nat.{ℕ, zero, suc, _+_, _-_, _<_, _≤_}
+use mathlib.Core.Path.{_≡_, refl, sym, _∙_, subst}
 use mathlib.Core.Bool.{true}
-use mathlib.Core.List.{List, [], _∷_, _++_}
-use mathlib.Core.Logic.{_⊎_, inl, inr, ⊎-elim}
+use mathlib.Core.List.{List, [], _∷_}
+use mathlib.Core.Logic.{inr}
 use native.Mathlib.Omega.{arith}
 use lib.ListN.{getD, length}
 use Rattle.descriptor.specs.Fields.{isArray, address}
-use Rattle.segment.specs.State.{sbase, ltop, lbase, blockptr}
-use Rattle.segment.specs.Stack.{stackAt, lastLbaseAt, codeWordAt, downward}
-use Rattle.segment.specs.Cells.{Cell, undefined, cell}
+use Rattle.segment.specs.State.{ltop, lbase, blockptr}
+use Rattle.segment.specs.Stack.{stackAt, lastLbaseAt, codeWordAt}
+use Rattle.segment.specs.Cells.{Cell, cell}
 use Rattle.storage.specs.Heap.{count}
 use Rattle.storage.specs.Owned.{ArrayIn}
 use Rattle.view.specs.Machine.{Frame, Machine, cellsOfFrames, depthOfFrames}
 use Rattle.view.specs.View.{framesFrom, words, owners, view}
-use Rattle.heap.proofs.Counts.{count-append}
 use Rattle.acceptance.specs.Frames.{variables}
-use Rattle.acceptance.specs.Structure.{startOf, localsOf, VariableOf, DirectOrIndirect, FrameCells, StackCells, Accepted}
+use Rattle.acceptance.specs.Structure.{startOf, VariableOf, DirectOrIndirect, FrameCells, StackCells, Accepted}
 use Rattle.acceptance.specs.Structure as onWords
-use Rattle.acceptance.proofs.Tallies.{cells-bottom, cells-on}
-use Rattle.effects.specs.Sound.{Chain, Sound}
+use Rattle.effects.specs.Sound.{Chain}
 use Rattle.effects.specs.Sound as sound
-use Rattle.legal.specs.Legal.{functionWord, Direct, Allowed, LegalFrame, LegalFrames, bottom, upon, Legal}
+use Rattle.legal.specs.Legal.{functionWord, Direct, Allowed, LegalFrame, LegalFrames, bottom, upon}
 use Rattle.legal_accepted.specs.Theorem.{Whole}
 use Rattle.legal_accepted.proofs.FunctionWord.{same-known, same-arguments, same-variables, most-arguments}
 use Rattle.legal_accepted.proofs.CellKinds.{direct-word}
@@ -56,20 +54,27 @@ module _ (s regular other : List ℕ) (m : Machine Cell) where
       → (older : List ℕ) × onWords.Chain s regular other base older
   full-chain {base} c zero l h = absurd (omega arith)
   full-chain {base} (sound.bottom q) (suc n) l h =
-      let k = rw (seen-bottom n s base q) at h in
-      ([], record {
-        function = sym (same-known (codeWordAt s base) regular other) ∙ first k .function;
-        itself = q;
-        start = omega (arith, alone k, frame-length s base 0, same-variables (codeWordAt s base) regular other);
-      })
+      let k = rw (seen-bottom n s base q) at h in (
+        [],
+        record {
+          function = sym (same-known (codeWordAt s base) regular other) ∙ first k .function;
+          itself = q;
+          start = omega (arith, alone k, frame-length s base 0, same-variables (codeWordAt s base) regular other);
+        },
+      )
   full-chain {base} (sound.upon q c) (suc n) l h =
       let k = rw (seen-upon n s base (lastLbaseAt s base) refl (omega arith)) at h in
-      let r = full-chain c n (omega arith) (older-ones (deep c n (omega arith)) k) in
-      (lastLbaseAt s base ∷ r .0, (record {
-        function = sym (same-known (codeWordAt s base) regular other) ∙ first k .function;
-        last = refl;
-        start = omega (arith, first k .cells, q, frame-length s base (lastLbaseAt s base + 2), same-variables (codeWordAt s base) regular other);
-      }, r .1))
+      let r = full-chain c n (omega arith) (older-ones (deep c n (omega arith)) k) in (
+        lastLbaseAt s base ∷ r .0,
+        (
+          record {
+            function = sym (same-known (codeWordAt s base) regular other) ∙ first k .function;
+            last = refl;
+            start = omega (arith, first k .cells, q, frame-length s base (lastLbaseAt s base + 2), same-variables (codeWordAt s base) regular other);
+          },
+          r .1,
+        ),
+      )
 
 -- ---- cells
 
@@ -100,17 +105,11 @@ module _ (s regular other : List ℕ) (h : Whole s regular other) where
   abbrev A : ℕ → Type 0
   A a = (size : ℕ) × ArrayIn (blockptr s) (h .sound .own .blocks) a size
 
-  near : blockptr s ≤ 2 ^ 16
-  near = omega (arith, h .head .room, h .head .top, h .longest)
-
-  short : lbase s + 2 ≤ 2 ^ 16
-  short = omega (arith, h .sound .above, h .head .top, h .longest)
-
   module _ (all : List ℕ) (chain : onWords.Chain s regular other (lbase s) all) where
     allowed : {d : ℕ} {frames : List ℕ} {l : List (Frame Cell)} → Stacked s regular other d frames l
         → ((a : ℕ) → VariableOf s regular other frames a → VariableOf s regular other (lbase s ∷ all) a)
         → (w : ℕ) → (isArray w ≡ true → A (address w)) → Allowed regular other (view s) l (cell s w) → DirectOrIndirect A s regular other frames w
-    allowed t within = allowed-word s regular other all chain A near short t within
+    allowed t within = allowed-word s regular other all chain A t within
 
     stack-cells : (older : List ℕ) (n base top : ℕ) → base < n → onWords.Chain s regular other base older → LegalFrames regular other (view s) (seenFrames n s base)
         → ((a : ℕ) → VariableOf s regular other (base ∷ older) a → VariableOf s regular other (lbase s ∷ all) a)
@@ -127,14 +126,15 @@ module _ (s regular other : List ℕ) (h : Whole s regular other) where
         let t = stacked s regular other older n next (omega arith) (k .1) in
         let g = rw (seen-upon n s base next (k .0 .last) below) at f in
         let names : (i : ℕ) → next + 2 ≤ i → i < base → isArray (stackAt s i) ≡ true → A (address (stackAt s i))
-        = λ i d u. named s (h .sound .own) (stackAt s i) (own (stackAt s i) (first-holds n s base next (k .0 .last) below i d u)) in
-        (frame-cells A s regular other (view s) (next + 2) base (next ∷ older) (seenFrames n s next) (k .0 .start) names (allowed t (λ a v. within a (inr v)))
-        (first g) top temporaries,
-        stack-cells older n next (startOf s regular other base) (omega arith) (k .1)
-        (older-ones (omega (arith, depth-is s regular other t)) g) (λ a v. within a (inr v))
-        (λ w c. own w (older-hold n s base next (k .0 .last) below w c))
-        (λ i d u. cell-word A s regular other (view s) (next + 2) base (next ∷ older) (seenFrames n s next) (k .0 .start) names (allowed t (λ a v. within a (inr v)))
-        (first g) i d (omega (arith, u))))
+        = λ i d u. named s (h .sound .own) (stackAt s i) (own (stackAt s i) (first-holds n s base next (k .0 .last) below i d u)) in (
+          frame-cells A s regular other (view s) (next + 2) base (next ∷ older) (seenFrames n s next) (k .0 .start) names (allowed t (λ a v. within a (inr v)))
+              (first g) top temporaries,
+          stack-cells older n next (startOf s regular other base) (omega arith) (k .1)
+              (older-ones (omega (arith, depth-is s regular other t)) g) (λ a v. within a (inr v))
+              (λ w c. own w (older-hold n s base next (k .0 .last) below w c))
+              (λ i d u. cell-word A s regular other (view s) (next + 2) base (next ∷ older) (seenFrames n s next) (k .0 .start) names (allowed t (λ a v. within a (inr v)))
+              (first g) i d (omega (arith, u))),
+        )
 
   pub join : Accepted s regular other
   unfolding view words

@@ -7,3 +7,6 @@ pub mod Cells
 pub mod Split
 pub mod Owners
 pub mod Join
+pub mod Names
+pub mod Runs
+pub mod Theorem

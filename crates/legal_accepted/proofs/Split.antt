@@ -1,13 +1,13 @@
 -- The view of an accepted segment is legal.
-use Prim.Native.Nat.{ℕ, zero, suc, _+_, _-_, _/_, _%_, _^_, _<_, _≤_}
-use mathlib.Core.Path.{_≡_, sym, _∙_, ap, subst}
+use Prim.Native.Nat.{ℕ, zero, suc, _+_, _-_, _/_, _^_, _<_, _≤_}
+use mathlib.Core.Path.{_≡_, sym, _∙_, subst}
 use mathlib.Core.Bool.{true, false}
 use mathlib.Core.List.{List, [], _∷_}
 use mathlib.Core.Logic.{inl, inr}
 use native.Mathlib.Omega.{arith}
-use lib.ListN.{getD, length}
+use lib.ListN.{getD}
 use borrow.Author.Tests.{eq-eqb}
-use Rattle.segment.specs.State.{sbase, ltop, lbase, blockptr}
+use Rattle.segment.specs.State.{ltop, lbase, blockptr}
 use Rattle.segment.specs.Stack.{stackAt, codeWordAt}
 use Rattle.segment.specs.Cells.{Cell, cell}
 use Rattle.storage.specs.Owned.{ArrayIn}
@@ -18,7 +18,6 @@ use Rattle.acceptance.specs.Frames.{known, variables}
 use Rattle.acceptance.specs.Cells.{isIndirect}
 use Rattle.acceptance.specs.Structure.{startOf, localsOf, VariableOf, DirectOrIndirect, FrameCells, StackCells, Accepted}
 use Rattle.acceptance.specs.Structure as onWords
-use Rattle.effects.specs.Sound.{Sound}
 use Rattle.effects.specs.Sound as sound
 use Rattle.legal.specs.Legal.{Direct, Allowed, LegalFrame, LegalFrames, bottom, upon, Legal}
 use Rattle.legal_accepted.specs.Theorem.{Whole}
@@ -102,7 +101,7 @@ module _ (s regular other : List ℕ) (h : Accepted s regular other) where
       → ((a : ℕ) → VariableOf s regular other fs a → VariableOf s regular other (lbase s ∷ h .older) a)
       → (w : ℕ) → DirectOrIndirect A s regular other fs w → Allowed regular other (view s) l (cell s w)
   allow t within =
-      word-allowed s regular other (h .older) (h .chain) A near short t within (h .globals)
+      word-allowed s regular other (h .older) (h .chain) A t within near short (h .globals)
       (variables-valid A s regular other near (h .older) (lbase s) (ltop s + 1) (λ a v. omega (arith, short, variable-low s regular other frames a v)) (h .cells))
 
   legal-frames : (older : List ℕ) (n base top : ℕ) → base < n → onWords.Chain s regular other base older → StackCells A s regular other base top older

@@ -1,22 +1,21 @@
 -- The frames of a chain, as words and as seen: the same variables, and at each the cell of its word.
 use Prim.Native.Nat.{ℕ, zero, suc, _+_, _-_, _<_, _≤_}
-use mathlib.Core.Path.{_≡_, refl, sym, _∙_, ap}
+use mathlib.Core.Path.{_≡_, refl}
 use mathlib.Core.List.{List, [], _∷_}
-use mathlib.Core.Logic.{_⊎_, inl, inr}
+use mathlib.Core.Logic.{inl, inr}
 use native.Mathlib.Omega.{arith}
 use lib.ListN.{length}
 use borrow.Author.Tests.{le-leb, lt-leb}
 use Rattle.segment.specs.Stack.{stackAt, codeWordAt}
 use Rattle.segment.specs.Cells.{Cell, undefined, cell}
 use Rattle.view.specs.Machine.{Frame, depthOfFrames}
-use Rattle.manual.specs.Effects.{lookFrames}
+use Rattle.manual.specs.Effects.{indexIn, lookFrames, currentCells}
 use Rattle.effects.specs.Fits.{InFrames}
-use Rattle.storage_tests.proofs.Tests.{by-le}
 use Rattle.acceptance.specs.Frames.{variables}
 use Rattle.acceptance.specs.Structure as onWords
 use Rattle.legal.specs.Legal.{VariableOf}
 use Rattle.legal_accepted.proofs.FunctionWord.{same-variables}
-use Rattle.legal_accepted.proofs.Frames.{seenFrames, seenFrame, frame-length, frame-at, seen-bottom, seen-upon}
+use Rattle.legal_accepted.proofs.Frames.{seenFrames, seenFrame, frame-length, frame-word, seen-bottom, seen-upon}
 
 -- So many words of the stack hold these frames, by their LBASEs and as seen; each has its variables.
 pub data Stacked (s regular other : List ℕ) : ℕ → List ℕ → List (Frame Cell) → Type 0 where
@@ -35,6 +34,11 @@ module _ (s regular other : List ℕ) where
   pub depth-is : {d : ℕ} {frames : List ℕ} {l : List (Frame Cell)} → Stacked s regular other d frames l → depthOfFrames l ≡ d
   depth-is none = refl
   depth-is (frame {start = start} base h t) = omega (arith, depth-is t, frame-length s base start, h)
+
+  -- the current frame has its variables
+  pub current-room : {d base : ℕ} {frames : List ℕ} {l : List (Frame Cell)} → Stacked s regular other d (base ∷ frames) l
+      → variables regular other (codeWordAt s base) ≤ length (currentCells l)
+  current-room (frame {start = start} base h t) = omega (arith, h, frame-length s base start)
 
   -- ---- the same variables
 
@@ -80,7 +84,6 @@ module _ (s regular other : List ℕ) where
   look-is (frame {start = start} {l = l} base h t) a (inl k) =
       let n = frame-length s base start in
       let d = depth-is t in
-      let e : base - 1 - (depthOfFrames l + length (seenFrame s base start .cells) - 1 - a) ≡ a = omega (arith, k, h, n, d) in
-      rw (le-leb (depthOfFrames l) a (k .0))
-      (rw e at (frame-at s base start (depthOfFrames l + length (seenFrame s base start .cells) - 1 - a) (omega (arith, k, h, n, d))))
+      let i : indexIn (seenFrame s base start .cells) l a ≡ base - 1 - a = omega (arith, h, n, d) in
+      rw (le-leb (depthOfFrames l) a (k .0), i) (frame-word s base start a (omega (arith, k, d)) (omega (arith, k, h, n, d)))
   look-is (frame {l = l} base h t) a (inr k) = rw (lt-leb (depthOfFrames l) a (omega (arith, in-low t a k, depth-is t))) (look-is t a k)
