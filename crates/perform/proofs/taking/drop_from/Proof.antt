@@ -5,16 +5,14 @@ use lib.ListN.{length}
 use borrow.Author.Needs.{needs}
 use Rattle.storage.specs.Arrays.{drops}
 use Rattle.storage.proofs.Counts.{drops-on, drops-none}
-use Rattle.stack.proofs.perform.drop_from.Statement.{statement}
-use Rattle.stack.proofs.perform.drop_from.Tie as tie
+use Rattle.perform.proofs.taking.drop_from.Statement.{statement}
+use Rattle.perform.proofs.taking.drop_from.Tie as tie
 
 abbrev Inv-loop : tie.InvT-loop
 Inv-loop seg₀ start n at left₀ seg left = (drops left seg start ≡ drops n seg₀ start) × (length seg ≡ length seg₀) × (left < 2 ^ 32)
 
 abbrev μ-loop : tie.MeasureT-loop
 μ-loop seg₀ start n at left₀ seg left = left
-
-
 
 loop-holds : tie.Need-loop-holds Inv-loop μ-loop
 loop-holds c = (refl, refl, omega arith)
@@ -40,13 +38,13 @@ loop-less c = search needs
 loop-again : tie.Need-loop-again Inv-loop μ-loop
 loop-again c =
     let turn = c .before .before .before .before .before .before .before in
-    (cc (drops-on (turn .loop .left) (turn .loop .seg) (turn .before .args .start) (omega arith)), search needs, omega arith)
+    (cc (drops-on (turn .loop .left) (turn .loop .seg) (turn .before .before .args .start) (omega arith)), search needs, omega arith)
 
 same-length : tie.Need-same-length Inv-loop μ-loop
 same-length c = c .before .loop .inv .1
 
 returns : tie.Need-returns Inv-loop μ-loop
-returns c = cc (drops-none (c .before .loop .left) (c .before .loop .seg) (c .before .before .args .start) (omega arith))
+returns c = cc (drops-none (c .before .loop .left) (c .before .loop .seg) (c .before .before .before .args .start) (omega arith))
 
 pub drop-from-spec : {M : Type 1} → statement M
 drop-from-spec =
