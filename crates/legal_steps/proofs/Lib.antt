@@ -1,0 +1,2 @@
+-- Laws of legal machines, and the theorem of specs/.
+pub mod Alike
