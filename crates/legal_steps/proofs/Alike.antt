@@ -49,7 +49,7 @@ same-frames (r ∷ l) = (record { function = refl; cells = same-cells (r .cells)
 direct-on : {l k : List Cell} → LikeCells l k → (i : ℕ) → Direct (getD l i undefined) → Direct (getD k i undefined)
 direct-on e i h = ⊎-elim (λ (p : _ ≡ _). rw p h) (λ d. d) (e .each i)
 
-depth-on : (l k : List (Frame Cell)) → LikeFrames l k → depthOfFrames k ≡ depthOfFrames l
+pub depth-on : (l k : List (Frame Cell)) → LikeFrames l k → depthOfFrames k ≡ depthOfFrames l
 depth-on [] [] e = refl
 depth-on [] (q ∷ k) e = absurd e
 depth-on (r ∷ l) [] e = absurd e
@@ -85,6 +85,11 @@ module _ (regular other : List ℕ) where
       let v = like-variables (e .0) in
       inl (omega (arith, h), omega (arith, h))
   variable-on a (r ∷ l) (q ∷ k) e (inr h) = inr (variable-on a l k (e .1) h)
+
+  pub variable-low : (a : ℕ) (l : List (Frame Cell)) → VariableOf regular other l a → a < depthOfFrames l
+  variable-low a [] h = absurd h
+  variable-low a (r ∷ l) (inl h) = omega (arith, h)
+  variable-low a (r ∷ l) (inr h) = omega (arith, variable-low a l h)
 
   -- more frames have more variables
   pub names-more : (m : Machine Cell) (r : Frame Cell) (l : List (Frame Cell)) (t : Target) → Names regular other m l t → Names regular other m (r ∷ l) t

@@ -1,2 +1,3 @@
 -- Laws of legal machines, and the theorem of specs/.
 pub mod Alike
+pub mod Stored
