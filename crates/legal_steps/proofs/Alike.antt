@@ -109,6 +109,11 @@ module _ (regular other : List ℕ) where
   direct-allowed m l (value shape ravel) h = tt
   direct-allowed m l invalid h = absurd h
 
+  pub upon-on : {m : Machine Cell} {r : Frame Cell} {l : List (Frame Cell)} → LegalFrame regular other m r l → LegalFrames regular other m l
+      → LegalFrames regular other m (r ∷ l)
+  upon-on g (bottom h e) = upon g (bottom h e)
+  upon-on g (upon h rest) = upon g (upon h rest)
+
   -- two machines that have as many globals, where what is named and direct in the one is direct in the other
   module _ (m n : Machine Cell) (globals : length (n .globals) ≡ length (m .globals)) where
     pub names-on : (l k : List (Frame Cell)) → LikeFrames l k → (t : Target) → Names regular other m l t → Names regular other n k t
@@ -142,10 +147,6 @@ module _ (regular other : List ℕ) where
           locals = λ i h. direct-on (e .cells) i (g .locals i (omega arith));
           others = allowed-cells l k es d (e .cells) (g .others);
         }
-
-    upon-on : {q : Frame Cell} {k : List (Frame Cell)} → LegalFrame regular other n q k → LegalFrames regular other n k → LegalFrames regular other n (q ∷ k)
-    upon-on g (bottom h e) = upon g (bottom h e)
-    upon-on g (upon h rest) = upon g (upon h rest)
 
     pub frames-on : {l : List (Frame Cell)} → LegalFrames regular other m l → (k : List (Frame Cell)) → LikeFrames l k → StayDirect l
         → LegalFrames regular other n k

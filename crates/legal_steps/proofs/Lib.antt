@@ -1,3 +1,4 @@
 -- Laws of legal machines, and the theorem of specs/.
 pub mod Alike
 pub mod Stored
+pub mod Effects
