@@ -11,7 +11,7 @@ use Rattle.descriptor.specs.declared.Target.{Target}
 use Rattle.descriptor.specs.declared.Target.the-variants.{Local, Global}
 use Rattle.segment.specs.Cells.{Cell, undefined, indirect, value, invalid}
 use Rattle.view.specs.Machine.{Frame, Machine, depthOfFrames}
-use Rattle.manual.specs.Effects.{Effect, replaces, discards, swaps, stores, storesElement, enters, leaves, jumps, setsOrigin, lookFrames, look, put, withTemporaries, replace, swapped, enter, currentCells, older, pushIf, leave, jumpFrames, jump, setOrigin, meant, withElement, performOn, performAll}
+use Rattle.manual.specs.Effects.{Effect, replaces, discards, swaps, stores, storesElement, enters, leaves, jumps, setsOrigin, lookFrames, look, put, withTemporaries, replace, discard, swapped, swap, enter, currentCells, older, pushIf, leave, jumpFrames, jump, setOrigin, meant, withElement, performOn, performAll}
 use Rattle.manual.specs.Seen.{noOlder}
 use Rattle.heap.proofs.Counts.{order}
 use Rattle.acceptance.specs.Frames.{known, arguments, variables}
@@ -87,6 +87,12 @@ jump-like place m = record { frames = jumped (m .frames); globals = same-cells (
     jumped [] = tt
     jumped (r ∷ l) = (record { function = refl; cells = same-cells (r .cells) }, same-frames l)
 
+pub origin-like : (v : ℕ) (m : Machine Cell) → Like m (setOrigin v m)
+origin-like v m = record { frames = same-frames (m .frames); globals = same-cells (m .globals) }
+
+pub with-like : (ts : List Cell) (m : Machine Cell) → Like m (withTemporaries ts m)
+with-like ts m = record { frames = same-frames (m .frames); globals = same-cells (m .globals) }
+
 -- The function of a new frame is known, and its arguments stand on the stack.
 pub record CanEnter (regular other : List ℕ) (n f : ℕ) (m : Machine Cell) : Type 0 where
   pub function : known regular other (f / 2 ^ 16 * 2 ^ 16) ≡ true
@@ -102,24 +108,30 @@ module _ {regular other : List ℕ} {m : Machine Cell} (g : Legal regular other 
 
   -- other operands, in a machine alike
   with-kept : (ts : List Cell) → Every Pushable ts → Legal regular other (withTemporaries ts m)
-  with-kept ts h = like-legal g (record { frames = same-frames (m .frames); globals = same-cells (m .globals) }) (λ i b. h i)
+  with-kept ts h = like-legal g (with-like ts m) (λ i b. h i)
 
-  replace-kept : (n : ℕ) (c : Cell) → Pushable c → Legal regular other (replace n c m)
+  pub replace-kept : (n : ℕ) (c : Cell) → Pushable c → Legal regular other (replace n c m)
   replace-kept n c h =
       with-kept (c ∷ drop n (m .temporaries)) (every-cons Pushable c (drop n (m .temporaries)) h (every-drop Pushable n (m .temporaries) operands-allowed))
 
-  put-kept : (t : Target) (c : Cell) → Direct c → Legal regular other (put t c m)
+  pub discard-kept : (n : ℕ) → Legal regular other (discard n m)
+  discard-kept n = with-kept (drop n (m .temporaries)) (every-drop Pushable n (m .temporaries) operands-allowed)
+
+  pub swap-kept : Legal regular other (swap m)
+  swap-kept = with-kept (swapped (m .temporaries)) (every-swapped Pushable (m .temporaries) operands-allowed)
+
+  pub put-kept : (t : Target) (c : Cell) → Direct c → Legal regular other (put t c m)
   put-kept (Global x) c d = like-legal g (put-like (Global x) c m d) (g .temporaries)
   put-kept (Local a) c d = like-legal g (put-like (Local a) c m d) (g .temporaries)
 
-  jump-kept : (place : ℕ) → Legal regular other (jump place m)
+  pub jump-kept : (place : ℕ) → Legal regular other (jump place m)
   jump-kept place = like-legal g (jump-like place m) (g .temporaries)
 
-  origin-kept : (v : ℕ) → Legal regular other (setOrigin v m)
-  origin-kept v = like-legal g (record { frames = same-frames (m .frames); globals = same-cells (m .globals) }) (g .temporaries)
+  pub origin-kept : (v : ℕ) → Legal regular other (setOrigin v m)
+  origin-kept v = like-legal g (origin-like v m) (g .temporaries)
 
   -- The operands become arguments, and what is left of them the older frame's temporaries.
-  enter-kept : (n f : ℕ) → CanEnter regular other n f m → Legal regular other (enter undefined n f m)
+  pub enter-kept : (n f : ℕ) → CanEnter regular other n f m → Legal regular other (enter undefined n f m)
   enter-kept n f e =
       let after = enter undefined n f m in
       let stay : StayDirect regular other m after refl (m .frames) = λ t h d. rw (enter-look regular other n f m t h) d in
@@ -143,7 +155,7 @@ module _ {regular other : List ℕ} {m : Machine Cell} (g : Legal regular other 
   under (upon {r} {q} {older} h rest) k = (rest, every (λ c. Allowed regular other m (q ∷ older) c) tt (r .cells) (h .others))
 
   -- The cells under the variables of a frame are the older frame's temporaries again.
-  leave-kept : (n : ℕ) (result : Bool) → noOlder (m .frames) ≡ false → Legal regular other (leave undefined n result m)
+  pub leave-kept : (n : ℕ) (result : Bool) → noOlder (m .frames) ≡ false → Legal regular other (leave undefined n result m)
   leave-kept n result e =
       let after = leave undefined n result m in
       let cells = currentCells (m .frames) in

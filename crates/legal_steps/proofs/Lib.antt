@@ -2,3 +2,4 @@
 pub mod Alike
 pub mod Stored
 pub mod Effects
+pub mod Steps
