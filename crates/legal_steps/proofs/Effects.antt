@@ -25,11 +25,11 @@ never e = let z : _≡_ {A = ℕ} 0 1 = ap (λ (b : Bool). cond {A = ℕ} b 0 1)
 -- ---- lists of cells
 
 -- Such are all cells of a list; `undefined` is what stands past its end.
-abbrev Every : (Cell → Type 0) → List Cell → Type 0
+abbrev pub Every : (Cell → Type 0) → List Cell → Type 0
 Every P l = (i : ℕ) → P (getD l i undefined)
 
 module _ (P : Cell → Type 0) where
-  every : P undefined → (l : List Cell) → ((i : ℕ) → i < length l → P (getD l i undefined)) → Every P l
+  pub every : P undefined → (l : List Cell) → ((i : ℕ) → i < length l → P (getD l i undefined)) → Every P l
   every none l h i = ⊎-elim (λ (b : length l ≤ i). rw (List·getD-eq-default l undefined b) none) (λ b. h i b) (order (length l) i)
 
   every-cons : (c : Cell) (l : List Cell) → P c → Every P l → Every P (c ∷ l)

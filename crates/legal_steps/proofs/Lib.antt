@@ -3,3 +3,4 @@ pub mod Alike
 pub mod Stored
 pub mod Effects
 pub mod Steps
+pub mod Resolved
