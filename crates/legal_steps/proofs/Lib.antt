@@ -4,3 +4,6 @@ pub mod Stored
 pub mod Effects
 pub mod Steps
 pub mod Resolved
+pub mod Called
+pub mod Plans
+pub mod Theorems
