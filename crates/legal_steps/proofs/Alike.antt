@@ -1,6 +1,6 @@
 -- Frames that differ in PCTR and in cells that are direct now: they have the same variables, and what was legal stays legal.
-use Prim.Native.Nat.{ℕ, _+_, _-_, _*_, _^_, _≤_, _<_}
-use mathlib.Core.Path.{_≡_, refl, sym, _∙_, ap}
+use Prim.Native.Nat.{ℕ, _-_, _*_, _^_, _≤_, _<_}
+use mathlib.Core.Path.{_≡_, refl, _∙_, ap}
 use mathlib.Core.Logic.{_⊎_, inl, inr, ⊎-elim}
 use mathlib.Core.List.{List, [], _∷_}
 use native.Mathlib.Omega.{arith}
@@ -13,7 +13,7 @@ use Rattle.view.specs.Machine.{Frame, Machine, depthOfFrames}
 use Rattle.manual.specs.Effects.{indexIn, lookFrames, look}
 use Rattle.heap.proofs.Counts.{order}
 use Rattle.acceptance.specs.Frames.{known, arguments, variables}
-use Rattle.legal.specs.Legal.{functionWord, Direct, VariableOf, Names, Leads, Allowed, LegalFrame, LegalFrames, bottom, upon, Legal}
+use Rattle.legal.specs.Legal.{functionWord, Direct, VariableOf, Names, Allowed, LegalFrame, LegalFrames, bottom, upon, Legal}
 
 -- a variable is looked at in the first frame or in an older one
 module _ (a : ℕ) (r : Frame Cell) (l : List (Frame Cell)) where
@@ -92,7 +92,7 @@ module _ (regular other : List ℕ) where
   variable-low a (r ∷ l) (inr h) = omega (arith, variable-low a l h)
 
   -- more frames have more variables
-  pub names-more : (m : Machine Cell) (r : Frame Cell) (l : List (Frame Cell)) (t : Target) → Names regular other m l t → Names regular other m (r ∷ l) t
+  names-more : (m : Machine Cell) (r : Frame Cell) (l : List (Frame Cell)) (t : Target) → Names regular other m l t → Names regular other m (r ∷ l) t
   names-more m r l (Global g) h = h
   names-more m r l (Local a) h = inr h
 

@@ -1,26 +1,23 @@
 -- Each effect keeps a machine legal, where what it pushes is allowed, what it stores is direct, and the function that it enters is known.
-use Prim.Native.Nat.{ℕ, zero, suc, _+_, _-_, _*_, _/_, _%_, _^_, _≤_, _<_}
-use mathlib.Core.Path.{_≡_, refl, sym, _∙_, ap}
-use mathlib.Core.Bool.{Bool, true, false, cond}
-use mathlib.Core.Logic.{_⊎_, inl, inr, ⊎-elim}
+use Prim.Native.Nat.{ℕ, zero, suc, _+_, _*_, _/_, _%_, _^_, _≤_, _<_}
+use mathlib.Core.Path.{_≡_, refl, sym}
+use mathlib.Core.Bool.{Bool, true, false, true≢false}
+use mathlib.Core.Logic.{⊎-elim}
 use mathlib.Core.List.{List, [], _∷_, _++_}
 use native.Mathlib.Omega.{arith}
 use lib.ListN.{getD, length, drop, replicate, length-append, length-replicate, List·getD-eq-default}
 use lib.Seq.{getD-drop}
 use Rattle.descriptor.specs.declared.Target.{Target}
 use Rattle.descriptor.specs.declared.Target.the-variants.{Local, Global}
-use Rattle.segment.specs.Cells.{Cell, undefined, indirect, value, invalid}
-use Rattle.view.specs.Machine.{Frame, Machine, depthOfFrames}
-use Rattle.manual.specs.Effects.{Effect, replaces, discards, swaps, stores, storesElement, enters, leaves, jumps, setsOrigin, lookFrames, look, put, withTemporaries, replace, discard, swapped, swap, enter, currentCells, older, pushIf, leave, jumpFrames, jump, setOrigin, meant, withElement, performOn, performAll}
+use Rattle.segment.specs.Cells.{Cell, undefined}
+use Rattle.view.specs.Machine.{Frame, Machine}
+use Rattle.manual.specs.Effects.{lookFrames, look, put, withTemporaries, replace, discard, swapped, swap, enter, currentCells, older, pushIf, leave, jumpFrames, jump, setOrigin}
 use Rattle.manual.specs.Seen.{noOlder}
 use Rattle.heap.proofs.Counts.{order}
 use Rattle.acceptance.specs.Frames.{known, arguments, variables}
-use Rattle.legal.specs.Legal.{functionWord, Direct, VariableOf, Names, Leads, Allowed, LegalFrame, LegalFrames, bottom, upon, Legal}
-use Rattle.legal_steps.proofs.Alike.{look-below, LikeFrames, same-cells, same-frames, variable-low, direct-allowed, upon-on, StayDirect, frames-on, allowed-on, Like, like-legal}
+use Rattle.legal.specs.Legal.{Direct, VariableOf, Names, Allowed, LegalFrame, LegalFrames, bottom, upon, Legal}
+use Rattle.legal_steps.proofs.Alike.{look-below, LikeFrames, same-cells, same-frames, variable-low, upon-on, StayDirect, frames-on, allowed-on, Like, like-legal}
 use Rattle.legal_steps.proofs.Stored.{put-like}
-
-pub never : {A : Type 0} → true ≡ false → A
-never e = let z : _≡_ {A = ℕ} 0 1 = ap (λ (b : Bool). cond {A = ℕ} b 0 1) e in absurd (omega arith)
 
 -- ---- lists of cells
 
@@ -141,7 +138,7 @@ module _ {regular other : List ℕ} {m : Machine Cell} (g : Legal regular other 
         cells = omega (arith, e .size, e .taken, length-append (replicate n undefined) (m .temporaries));
         locals = λ i b. new-local n (m .temporaries) i (omega (arith, e .size));
         others = λ i b. allowed-on regular other m after refl (m .frames) (m .frames) (same-frames (m .frames)) stay
-        (getD (replicate n undefined ++ m .temporaries) i undefined) (every-run Pushable n (m .temporaries) tt operands-allowed i);
+            (getD (replicate n undefined ++ m .temporaries) i undefined) (every-run Pushable n (m .temporaries) tt operands-allowed i);
       } in
       record {
         frames = upon-on regular other new (frames-on regular other m after refl (g .frames) (m .frames) (same-frames (m .frames)) stay);
@@ -151,7 +148,7 @@ module _ {regular other : List ℕ} {m : Machine Cell} (g : Legal regular other 
 
   under : {l : List (Frame Cell)} → LegalFrames regular other m l → noOlder l ≡ false
       → LegalFrames regular other m (older l) × Every (λ c. Allowed regular other m (older l) c) (currentCells l)
-  under (bottom h s) k = never k
+  under (bottom h s) k = absurd (true≢false k)
   under (upon {r} {q} {older} h rest) k = (rest, every (λ c. Allowed regular other m (q ∷ older) c) tt (r .cells) (h .others))
 
   -- The cells under the variables of a frame are the older frame's temporaries again.
@@ -167,5 +164,5 @@ module _ {regular other : List ℕ} {m : Machine Cell} (g : Legal regular other 
         frames = frames-on regular other m after refl (u .0) rest (same-frames rest) stay;
         globals = g .globals;
         temporaries = λ i b. allowed-on regular other m after refl rest rest (same-frames rest) stay (getD (after .temporaries) i undefined)
-        (every-push P result (getD cells 0 undefined) (drop n cells) (u .1 0) (every-drop P n cells (u .1)) i);
+            (every-push P result (getD cells 0 undefined) (drop n cells) (u .1 0) (every-drop P n cells (u .1)) i);
       }

@@ -1,11 +1,11 @@
 -- Every effect of a plan meets a machine where it may be performed.
 use Prim.Native.Nat.{ℕ, _+_, _-_, _%_, _^_, _≤_, _<_}
-use mathlib.Core.Path.{_≡_, refl, sym, _∙_, ap}
+use mathlib.Core.Path.{_≡_, refl}
 use mathlib.Core.Bool.{Bool, true, false, cond, not, _&&_, _||_}
 use mathlib.Core.List.{List, [], _∷_, _++_}
 use native.Mathlib.Omega.{arith}
 use lib.Dec.{ltb, leb, eqb}
-use lib.ListN.{getD, length}
+use lib.ListN.{length}
 use borrow.Author.Tests.{ltb-false, eqb-true, not-false}
 use Rattle.descriptor.specs.Kinds.{bit, isScalar}
 use Rattle.descriptor.specs.Fields.{integerWord}
@@ -27,18 +27,18 @@ use Rattle.instruction.specs.declared.Jump.the-variants as J
 use Rattle.instruction.specs.declared.Instruction.{Instruction}
 use Rattle.instruction.specs.declared.Instruction.the-variants as I
 use Rattle.segment.specs.Cells.{Cell, undefined, indirect, value as holds, invalid}
-use Rattle.view.specs.Machine.{Frame, Machine}
-use Rattle.manual.specs.OrTrap.{OrTrap, gives, trap, andThen, stopIf}
+use Rattle.view.specs.Machine.{Machine}
+use Rattle.manual.specs.OrTrap.{OrTrap, gives, trap, andThen}
 use Rattle.manual.specs.Values as values
 use Rattle.manual.specs.Values.{Value, any}
-use Rattle.manual.specs.Effects.{Source, variable, operand, word, undefinedValue, reference, made, Effect, replaces, discards, swaps, stores, storesElement, enters, leaves, jumps, setsOrigin, Plan, look, meant, jump}
-use Rattle.manual.specs.Seen.{Seen, Variable, variablesOf, seenOf, noOlder}
+use Rattle.manual.specs.Effects.{Source, variable, operand, word, undefinedValue, reference, made, Effect, replaces, discards, stores, leaves, jumps, Plan, look, meant, jump}
+use Rattle.manual.specs.Seen.{Seen, Variable, variablesOf, seenOf}
 use Rattle.manual.specs.Loads.{isUndefined, push, load, referTo, testDefined, pushUndefined, getOrigin, shortConstant, constantScalar, constantVector}
-use Rattle.manual.specs.Scalars.{valueOf, resultOf, replaceBy, ofOne, ofTwo, operands, isForeign, isScalarCell, anyCell, scalarWord, subscripted, monadic, dyadic, shape, ravel, reshape, catenate, indexGenerator, setOrigin, index}
+use Rattle.manual.specs.Scalars.{valueOf, resultOf, replaceBy, ofOne, ofTwo, operands, isForeign, isScalarCell, anyCell, subscripted, monadic, dyadic, shape, ravel, reshape, catenate, indexGenerator, setOrigin, index}
 use Rattle.manual.specs.Memory.{assigning, hasNoValue, assign, assignNoResult, assignIndexed, eat, interchange, noOperation}
-use Rattle.manual.specs.Control.{jumpTo, leaving, lineOrLeave, branchTo, lineNumber, frameWord, go, goIf, return, branch, call, breakpoint, attention}
-use Rattle.manual.specs.Instructions.{Running, segmentOf, headerOf, wordsFrom, resolve, scalarPlan, memoryPlan, callPlan, planOf}
-use Rattle.legal.specs.Legal.{Direct, Names, Allowed, Legal}
+use Rattle.manual.specs.Control.{jumpTo, leaving, lineOrLeave, branchTo, lineNumber, go, goIf, return, branch, call, breakpoint, attention}
+use Rattle.manual.specs.Instructions.{Running, segmentOf, headerOf, wordsFrom, resolve, callPlan, planOf}
+use Rattle.legal.specs.Legal.{Direct, Allowed, Legal}
 use Rattle.legal_steps.specs.Kept.{RunsIn}
 use Rattle.legal_steps.proofs.Alike.{direct-allowed}
 use Rattle.legal_steps.proofs.Steps.{AllMeet}

@@ -1,8 +1,8 @@
 -- The variable that an address leads to in a legal machine is one, and holds no indirect word.
 use Prim.Native.Nat.{ℕ, _+_, _-_, _≤_, _<_}
 use mathlib.Core.Path.{_≡_, refl, sym, subst}
-use mathlib.Core.Bool.{Bool, true, false, _||_}
-use mathlib.Core.Logic.{_⊎_, inl, inr, ⊎-elim}
+use mathlib.Core.Bool.{Bool, true, false, _||_, true≢false}
+use mathlib.Core.Logic.{inl, ⊎-elim}
 use mathlib.Core.List.{List, [], _∷_}
 use native.Mathlib.Omega.{arith}
 use lib.Dec.{ltb, leb}
@@ -17,14 +17,14 @@ use Rattle.instruction.specs.declared.Address.{Address}
 use Rattle.instruction.specs.declared.Address.the-variants as A
 use Rattle.manual.specs.OrTrap.{OrTrap, gives, trap, andThen, stopIf}
 use Rattle.manual.specs.Effects.{indexIn, lookFrames, look}
-use Rattle.manual.specs.Seen.{Variable, at, followed, follow, variablesOf, seenOf}
+use Rattle.manual.specs.Seen.{Variable, followed, follow, variablesOf, seenOf}
 use Rattle.manual.specs.Instructions.{Running, headerOf, resolve}
 use Rattle.heap.proofs.Counts.{order}
 use Rattle.acceptance.specs.Frames.{variables}
 use Rattle.legal.specs.Legal.{functionWord, Direct, VariableOf, Names, Allowed, LegalFrames, bottom, upon, Legal}
 use Rattle.legal_steps.specs.Kept.{RunsIn}
 use Rattle.legal_steps.proofs.Alike.{look-here, look-below, direct-allowed, allowed-more}
-use Rattle.legal_steps.proofs.Effects.{never, every}
+use Rattle.legal_steps.proofs.Effects.{every}
 
 -- ---- what a result is, if there is one
 
@@ -41,7 +41,7 @@ goes P Q (gives a) k p h = h a p
 goes P Q (trap class number) k p h = tt
 
 pub neither : (a b : Bool) → (a || b) ≡ false → (a ≡ false) × (b ≡ false)
-neither true b h = never h
+neither true b h = absurd (true≢false h)
 neither false b h = (refl, h)
 
 -- ---- every cell that is looked at is allowed

@@ -1,7 +1,7 @@
 -- Effects one after the other, each of which meets a machine where it may be performed: what they leave is legal.
 use Prim.Native.Nat.{ℕ, _%_, _^_, _<_}
-use mathlib.Core.Path.{_≡_, refl, sym, _∙_, ap}
-use mathlib.Core.Bool.{Bool, false}
+use mathlib.Core.Path.{_≡_, refl, _∙_, ap}
+use mathlib.Core.Bool.{false}
 use mathlib.Core.Logic.{inl, inr}
 use mathlib.Core.List.{List, [], _∷_}
 use native.Mathlib.Omega.{arith}
@@ -13,7 +13,7 @@ use Rattle.manual.specs.Effects.{Effect, replaces, discards, swaps, stores, sto
 use Rattle.manual.specs.Seen.{noOlder}
 use Rattle.legal.specs.Legal.{Direct, Names, Allowed, Legal}
 use Rattle.legal_steps.specs.Kept.{StoresTo, OneStoresTo, Kept}
-use Rattle.legal_steps.proofs.Alike.{same-cells, same-frames, direct-allowed, names-more, names-on, Like, like-names}
+use Rattle.legal_steps.proofs.Alike.{same-frames, direct-allowed, names-on, like-names}
 use Rattle.legal_steps.proofs.Stored.{put-like, look-other}
 use Rattle.legal_steps.proofs.Effects.{CanEnter, enter-look, leave-look, jump-like, origin-like, with-like, replace-kept, discard-kept, swap-kept, put-kept, jump-kept, origin-kept, enter-kept, leave-kept}
 

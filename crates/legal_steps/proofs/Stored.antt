@@ -53,7 +53,7 @@ put-like (Local a) c m d = record { frames = frames-like (a .0) c (m .frames) d;
 -- ---- another variable
 
 -- The stack address of a cell of one of these frames.
-abbrev pub Inside : List (Frame Cell) → ℕ → Type 0
+abbrev Inside : List (Frame Cell) → ℕ → Type 0
 Inside [] a = ⊥
 Inside (r ∷ l) a = ((depthOfFrames l ≤ a) × (a < depthOfFrames l + length (r .cells))) ⊎ ((a < depthOfFrames l) × Inside l a)
 
