@@ -16,7 +16,7 @@ use Rattle.scalar.specs.Reading.{wholeOf}
 use Rattle.procedure.specs.declared.header.Header.{Header}
 use Rattle.procedure.specs.declared.header.Line.{Line}
 use Rattle.procedure.specs.declared.header.Line.the-variants as L
-use Rattle.procedure.specs.Headers.{codeStart, codeEnd, codeOf, lineOf}
+use Rattle.procedure.specs.Headers.{codeStart, codeEnd, lineOf}
 use Rattle.procedure.specs.Directory.{selected, inDirectory, hasFunction, headerOfFunction, nargsOf, nlocalsOf}
 use Rattle.instruction.specs.declared.Address.{Address}
 use Rattle.instruction.specs.declared.MemoryOperation.the-variants as M
@@ -37,7 +37,7 @@ use Rattle.manual.specs.Loads.{isUndefined, push, load, referTo, testDefined, p
 use Rattle.manual.specs.Scalars.{valueOf, resultOf, replaceBy, ofOne, ofTwo, operands, isForeign, isScalarCell, anyCell, subscripted, monadic, dyadic, shape, ravel, reshape, catenate, indexGenerator, setOrigin, index}
 use Rattle.manual.specs.Memory.{assigning, hasNoValue, assign, assignNoResult, assignIndexed, eat, interchange, noOperation}
 use Rattle.manual.specs.Control.{jumpTo, leaving, lineOrLeave, branchTo, lineNumber, go, goIf, return, branch, call, breakpoint, attention}
-use Rattle.manual.specs.Instructions.{Running, segmentOf, headerOf, wordsFrom, resolve, callPlan, planOf}
+use Rattle.manual.specs.Instructions.{Running, segmentOf, headerOf, resolve, callPlan, planOf}
 use Rattle.legal.specs.Legal.{Direct, Allowed, Legal}
 use Rattle.legal_steps.specs.Kept.{RunsIn}
 use Rattle.legal_steps.proofs.Alike.{direct-allowed}
@@ -93,6 +93,10 @@ module _ {regular other : List ℕ} {m : Machine Cell} (g : Legal regular other 
   test-fine : (next : ℕ) (x : OrTrap Variable) → Or (Resolved g) x → Fine (testDefined seen next x)
   unfolding testDefined
   test-fine next x h = goes (Resolved g) Meet x _ h (λ v p. push-fine next (word (cond (isUndefined (v .held)) 0 1)) tt)
+
+  vector-fine : (next : ℕ) (ws : List ℕ) → Fine (constantVector seen next ws)
+  unfolding constantVector
+  vector-fine next ws = stops Meet (any (λ w. not (isScalar w)) ws) 3 5 _ (λ b. push-fine next (made (length ws ∷ []) ws) tt)
 
   -- ---- values
 
@@ -252,7 +256,7 @@ module _ {regular other : List ℕ} {m : Machine Cell} (g : Legal regular other 
         call-fine next arguments alternate number small (not-false (inDirectory alternate regular other number) b)))
 
     pub plan-fine : (i : Instruction) (next : ℕ) → Fine (planOf f seen i next)
-    unfolding planOf pushUndefined getOrigin shortConstant constantScalar constantVector monadic dyadic shape ravel reshape catenate indexGenerator noOperation go return breakpoint attention
+    unfolding planOf pushUndefined getOrigin shortConstant constantScalar monadic dyadic shape ravel reshape catenate indexGenerator noOperation go return breakpoint attention
     plan-fine (I.Load a) next = load-fine next (resolve seen (headerOf f) a) (resolved a)
     plan-fine (I.ShortConstant negative magnitude) next = push-fine next (word (integerWord (bit negative) (magnitude % 2 ^ 12))) tt
     plan-fine (I.Scalar (O.Monadic op)) next = one-fine next (values.monadic op)
@@ -281,8 +285,6 @@ module _ {regular other : List ℕ} {m : Machine Cell} (g : Legal regular other 
     plan-fine (I.Jump J.GoTrue place) next = go-if-fine (headerOf f) next true (place .0)
     plan-fine (I.Jump J.GoFalse place) next = go-if-fine (headerOf f) next false (place .0)
     plan-fine (I.ConstantScalar w) next = stops Meet (not (isScalar w)) 3 5 _ (λ b. push-fine next (word w) tt)
-    plan-fine (I.ConstantVector count first) next =
-        let ws = wordsFrom (count % 2 ^ 8) (codeOf (segmentOf f) (f .block)) (first .0) in
-        stops Meet (any (λ w. not (isScalar w)) ws) 3 5 _ (λ b. push-fine next (made (length ws ∷ []) ws) tt)
+    plan-fine (I.ConstantVector count first) next = vector-fine next _
     plan-fine (I.Call arguments alternate number) next = directory-fine next arguments alternate (number % 2 ^ 11) (omega arith)
     plan-fine (I.Index rank) next = index-fine next (rank % 2 ^ 4)
