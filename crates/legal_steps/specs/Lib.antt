@@ -1,0 +1,2 @@
+-- What an instruction leaves of a legal machine.
+pub mod Kept

@@ -1,0 +1,1 @@
+// What an instruction leaves of a legal machine is legal again.
