@@ -1,0 +1,6 @@
+-- What is known of the values that are seen and of the results of the manual's operations, and that every plan fits.
+pub mod Given
+pub mod Lists
+pub mod Values
+pub mod Operators
+pub mod Arrays
