@@ -12,7 +12,7 @@ use Rattle.descriptor.specs.declared.Kind.{Kind}
 use Rattle.descriptor.specs.declared.Kind.the-variants as K
 use Rattle.descriptor.specs.Fields.{isArray, address, undefinedWord}
 use Rattle.descriptor.specs.Kinds.{segment, kindOf, scalarKind, isScalar}
-use Rattle.descriptor.specs.Inverse.{TargetFits}
+use Rattle.descriptor.specs.Inverse.{targetWord, TargetFits}
 use Rattle.descriptor.proofs.Inverse.{inverse}
 use Rattle.segment.specs.Cells.{undefined, indirect, value, cell, cellOfKind}
 use Rattle.heap.proofs.Ways.{decide}
@@ -47,11 +47,14 @@ unfolding cell
 undefined-cell s = rw (inverse .readBack K.Undefined tt)
 
 -- an indirect word
+reference-word : (t : Target) → TargetFits t → referenceWord t ≡ targetWord t
+reference-word (Local a) h = omega arith
+reference-word (Global g) h = omega arith
+
 pub reference-array : (t : Target) → TargetFits t → isArray (referenceWord t) ≡ false
 reference-array (Local a) h = ne-eqb (referenceWord (Local a) / 2 ^ 16) 0x200 (omega arith)
 reference-array (Global g) h = ne-eqb (referenceWord (Global g) / 2 ^ 16) 0x200 (omega arith)
 
 pub reference-cell : (s : List ℕ) (t : Target) → TargetFits t → cell s (referenceWord t) ≡ indirect t
 unfolding cell
-reference-cell s (Local a) h = rw (inverse .readBack (K.Indirect (Local a)) h)
-reference-cell s (Global g) h = rw (inverse .readBack (K.Indirect (Global g)) h)
+reference-cell s t h = rw (reference-word t h, inverse .readBack (K.Indirect t) h)

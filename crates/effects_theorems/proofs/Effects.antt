@@ -1,11 +1,11 @@
 -- Every effect on words is the effect on the view, and its request is found exactly where a free block is long enough.
-use Prim.Native.Nat.{ℕ, _-_, _^_, _<_, _≤_}
+use Prim.Native.Nat.{ℕ, _-_, _%_, _^_, _<_, _≤_}
 use mathlib.Core.Path.{_≡_, sym, _∙_, ap}
 use mathlib.Core.Bool.{true, false, cond}
 use mathlib.Core.Logic.{_≢_, _⊎_, inl, inr, ⊎-elim}
 use mathlib.Core.List.{List}
 use native.Mathlib.Omega.{arith}
-use lib.Dec.{eqb}
+use lib.Dec.{ltb, eqb}
 use borrow.Author.Tests.{eqb-false, ne-eqb, le-leb}
 use Rattle.descriptor.specs.declared.Target.{Target}
 use Rattle.descriptor.specs.Fields.{arrayWord}
@@ -19,10 +19,11 @@ use Rattle.manual.specs.Effects.{Source, variable, operand, word, undefinedValu
 use Rattle.heap.proofs.Counts.{order}
 use Rattle.owners.proofs.Cells.{array-of, cell-array}
 use Rattle.effects.specs.Sources.{addressOf, heldAt, wordOf, placed}
-use Rattle.effects.specs.Perform.{blockOf, replace, storeAt, store, sourceNeed, isFull}
+use Rattle.effects.specs.Perform.{blockOf, replace, storeAt, store, sourceNeed, noneFor, isFull}
 use Rattle.effects.specs.Sound.{Sound}
 use Rattle.effects.specs.Fits.{HasElement, Fits}
 use Rattle.effects_theorems.specs.Theorems.{Performed}
+use Rattle.effects_theorems.proofs.Tests.{none-holds}
 use Rattle.effects_theorems.proofs.Variables.{look-view}
 use Rattle.effects_theorems.proofs.Sources.{Found, put-source}
 use Rattle.effects_theorems.proofs.Replace.{finish-view, finish-sound}
@@ -35,10 +36,10 @@ use Rattle.effects_theorems.proofs.Enter.{enter-view, enter-sound}
 use Rattle.effects_theorems.proofs.Leave.{with-view, with-sound, without-view, without-sound}
 
 -- what is not full is found
-served : (s : List ℕ) (n : ℕ) → n ≢ 0 → cond (eqb n 0) false (eqb (requestAt s n) 0) ≡ false → requestAt s n ≢ 0
-served s n d h = eqb-false (requestAt s n) 0 (rw (ne-eqb n 0 d) at h)
+served : (s : List ℕ) (n : ℕ) → n ≢ 0 → cond (eqb n 0) false (noneFor s n) ≡ false → requestAt s n ≢ 0
+served s n d h = eqb-false (requestAt s n) 0 (none-holds (ltb 16384 n) (eqb (requestAt s n) 0) (rw (ne-eqb n 0 d) at h) .1)
 
-source-found : (s : List ℕ) (source : Source) → cond (eqb (sourceNeed source) 0) false (eqb (requestAt s (sourceNeed source)) 0) ≡ false → Found s source
+source-found : (s : List ℕ) (source : Source) → cond (eqb (sourceNeed source) 0) false (noneFor s (sourceNeed source)) ≡ false → Found s source
 unfolding placeAt
 source-found s (variable t) h = tt
 source-found s (operand i) h = tt
@@ -96,5 +97,7 @@ perform-theorem s g (storesElement t place w n) h f =
 perform-theorem s g (enters n f) h full = record { sound = enter-sound s g n f h; seen = enter-view s g n f h }
 perform-theorem s g (leaves n true) h f = record { sound = with-sound s g n h; seen = with-view s g n h }
 perform-theorem s g (leaves n false) h f = record { sound = without-sound s g n h; seen = without-view s g n h }
-perform-theorem s g (jumps place) h f = record { sound = jump-sound s g place h; seen = jump-view s g place h }
+perform-theorem s g (jumps place) h f =
+    let small : place % 2 ^ 16 < 2 ^ 16 = omega arith in
+    record { sound = jump-sound s g (place % 2 ^ 16) small; seen = jump-view s g (place % 2 ^ 16) small }
 perform-theorem s g (setsOrigin v) h f = record { sound = origin-sound s g v; seen = origin-view s g v }

@@ -3,7 +3,7 @@ use Prim.Native.Nat.{ℕ, _+_, _-_, _%_, _^_, _<_, _≤_}
 use mathlib.Core.Path.{_≡_, refl, sym, _∙_, ap}
 use mathlib.Core.Bool.{Bool, true, false, cond}
 use mathlib.Core.List.{List}
-use mathlib.Core.Logic.{_≢_, _⊎_, inl, inr, ⊎-elim}
+use mathlib.Core.Logic.{_≢_, _⊎_, inr, ⊎-elim}
 use native.Mathlib.Omega.{arith}
 use lib.ListN.{getD, set, length}
 use lib.Dec.{leb}
@@ -21,7 +21,7 @@ use Rattle.storage.specs.Owned.{ArrayIn, Inside, Proper}
 use Rattle.view.specs.Machine.{Machine, mapMachine, allCells}
 use Rattle.view.specs.View.{words, owners, view}
 use Rattle.manual.specs.Effects as manual
-use Rattle.heap.proofs.Counts.{order, hit-eq, hit-same, hit-cases}
+use Rattle.heap.proofs.Counts.{hit-eq, hit-same, hit-cases}
 use Rattle.owners.specs.Element.{setElement, Element}
 use Rattle.owners.specs.Place.{NewArray}
 use Rattle.owners.proofs.Cells.{cell-array, cell-other}

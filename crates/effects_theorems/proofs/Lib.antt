@@ -1,4 +1,5 @@
 -- The laws of effects on words, and the theorems of specs/.
+pub mod Tests
 pub mod Machines
 pub mod Cells
 pub mod Frames
@@ -17,6 +18,7 @@ pub mod Leave
 pub mod Effects
 pub mod Lists
 pub mod Others
+pub mod Reading
 pub mod Seen
 pub mod Theorems
 pub mod Plans

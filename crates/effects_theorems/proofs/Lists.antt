@@ -1,25 +1,29 @@
 -- Effects one after the other, and when storage is full for them.
-use Prim.Native.Nat.{ℕ, _<_, _≤_}
+use Prim.Native.Nat.{ℕ, _+_, _<_, _≤_}
 use mathlib.Core.Path.{_≡_, refl, sym, _∙_, ap}
-use mathlib.Core.Bool.{Bool, true, false, cond, _||_}
+use mathlib.Core.Bool.{true, false}
 use mathlib.Core.Logic.{_↔_, _≢_, _⊎_, inl, inr, ⊎-elim}
 use mathlib.Core.List.{List, [], _∷_}
 use native.Mathlib.Omega.{arith}
-use lib.Dec.{eqb}
-use borrow.Author.Tests.{eqb-true, eqb-false, eq-eqb, ne-eqb, le-leb, lt-leb}
+use lib.Dec.{ltb, eqb}
+use borrow.Author.Tests.{ltb-true, eqb-true, eqb-false, eq-eqb, ne-eqb, le-leb, lt-leb}
+use Rattle.segment.specs.State.{blockptr}
 use Rattle.segment.specs.Blocks.{countAt}
 use Rattle.storage.specs.Request.{requestAt}
+use Rattle.storage.specs.Heap.{Block, free, array, over}
 use Rattle.heap.specs.Words.{HasRoom}
 use Rattle.manual.specs.Effects.{Source, variable, operand, word, undefinedValue, reference, made, Effect, replaces, discards, swaps, stores, storesElement, enters, leaves, jumps, setsOrigin, performAll}
 use Rattle.heap.proofs.Counts.{order}
+use Rattle.heap.proofs.Walks.{over-le}
 use Rattle.heap.proofs.Ways.{decide}
 use Rattle.heap.proofs.Request.{request-theorem}
 use Rattle.effects.specs.Sources.{addressOf}
-use Rattle.effects.specs.Perform.{blockOf, perform, sourceNeed, wanted, isFull, anyFull}
+use Rattle.effects.specs.Perform.{blockOf, perform, sourceNeed, wanted, noneFor, isFull, anyFull}
 use Rattle.effects.specs.Sound.{Sound}
 use Rattle.effects.specs.Fits.{Available, Fits}
+use Rattle.effects.specs.Requests.{AllFit, FirstFits, makes, asks, NoneAsks, OneRequest}
 use Rattle.effects_theorems.specs.Theorems.{Performed, PerformedAll, AsksInVain}
-use Rattle.effects.specs.Requests.{AllFit, makes, asks, NoneAsks, OneRequest}
+use Rattle.effects_theorems.proofs.Tests.{never, none-holds, one-holds, first-holds, second-holds}
 use Rattle.effects_theorems.proofs.Element.{array-proper}
 use Rattle.effects_theorems.proofs.Effects.{x-is, x-small, perform-theorem}
 
@@ -50,7 +54,7 @@ none-full : (s : List ℕ) (es : List Effect) → NoneAsks es → anyFull s es �
 none-full s [] h = refl
 none-full s (e ∷ es) h = rw (not-full s e (wants-nothing s e (h .0))) (none-full s es (h .1))
 
-none-in-vain : (s : List ℕ) (blocks : List _) (es : List Effect) → NoneAsks es → AsksInVain s blocks es → ⊥
+none-in-vain : (s : List ℕ) (blocks : List Block) (es : List Effect) → NoneAsks es → AsksInVain s blocks es → ⊥
 none-in-vain s blocks [] h k = k
 none-in-vain s blocks (e ∷ es) h (inl k) = k .0 (wants-nothing s e (h .0))
 none-in-vain s blocks (e ∷ es) h (inr k) = none-in-vain s blocks es (h .1) k
@@ -65,14 +69,10 @@ plain-performed s g (e ∷ es) h k =
     let p = perform-theorem s g e (h .0) (not-full s e (wants-nothing s e (k .0))) in
     after p (plain-performed (perform s e) (p .sound) es (h .1) (k .1))
 
-first-false : (a b : Bool) → (a || b) ≡ false → a ≡ false
-first-false true b h = h
-first-false false b h = refl
-
 pub performs-theorem : (s : List ℕ) → Sound s → (es : List Effect) → AllFit s es → OneRequest es → anyFull s es ≡ false → PerformedAll s es
 performs-theorem s g [] h k f = record { sound = g; seen = refl }
 performs-theorem s g (e ∷ es) h k f =
-    let p = perform-theorem s g e (h .0) (first-false (isFull s e) (anyFull s es) f) in
+    let p = perform-theorem s g e (h .0) (none-holds (isFull s e) (anyFull s es) f .0) in
     after p (plain-performed (perform s e) (p .sound) es (h .1) k)
 
 -- what is wanted is nothing, or a block
@@ -103,8 +103,14 @@ wanted-size s g (leaves n result) h = inl refl
 wanted-size s g (jumps place) h = inl refl
 wanted-size s g (setsOrigin v) h = inl refl
 
-never : {A : Type 0} → true ≡ false → A
-never e = let z : _≡_ {A = ℕ} 0 1 = ap (λ (b : Bool). cond {A = ℕ} b 0 1) e in absurd (omega arith)
+-- a free block is shorter than the longest segment
+room-within : (a : ℕ) (blocks : List Block) (size : ℕ) → HasRoom blocks size → a + size ≤ over a blocks
+room-within a (free n ∷ blocks) size (inl h) = omega (arith, h, over-le (a + n) blocks)
+room-within a (free n ∷ blocks) size (inr h) = omega (arith, room-within (a + n) blocks size h)
+room-within a (array n slop ∷ blocks) size h = omega (arith, room-within (a + (n + slop)) blocks size h)
+
+room-short : {s : List ℕ} (g : Sound s) (size : ℕ) → HasRoom (g .own .blocks) size → size ≤ 16384
+room-short {s} g size h = omega (arith, room-within (blockptr s) (g .own .blocks) size h, g .own .heap .top, g .own .heap .room, g .own .heap .short)
 
 -- an effect is full exactly where it asks in vain
 module _ (s : List ℕ) (g : Sound s) (e : Effect) (h : Fits s e) where
@@ -117,30 +123,27 @@ module _ (s : List ℕ) (g : Sound s) (e : Effect) (h : Fits s e) where
       some : 3 ≤ wanted s e → (wanted s e ≢ 0) × (HasRoom (g .own .blocks) (wanted s e) → ⊥)
       some l =
           let d : wanted s e ≢ 0 = omega arith in
-          let z : requestAt s (wanted s e) ≡ 0 = eqb-true (requestAt s (wanted s e)) 0 (rw (ne-eqb (wanted s e) 0 d) at f) in
-          (d, λ r. request-theorem (wanted s e) (g .own .heap) l .found .1 r z)
+          let z : noneFor s (wanted s e) ≡ true = rw (ne-eqb (wanted s e) 0 d) at f in (
+            d,
+            λ r. ⊎-elim (λ q. omega (arith, ltb-true 16384 (wanted s e) q, room-short g (wanted s e) r))
+                (λ q. request-theorem (wanted s e) (g .own .heap) l .found .1 r (eqb-true (requestAt s (wanted s e)) 0 q))
+                (one-holds (ltb 16384 (wanted s e)) (eqb (requestAt s (wanted s e)) 0) z),
+          )
 
   vain-full : wanted s e ≢ 0 → (HasRoom (g .own .blocks) (wanted s e) → ⊥) → isFull s e ≡ true
   vain-full d v = ⊎-elim (λ z. absurd (d z)) some (wanted-size s g e h)
     where
       some : 3 ≤ wanted s e → isFull s e ≡ true
       some l =
-          ⊎-elim (λ (q : eqb (requestAt s (wanted s e)) 0 ≡ true). rw (ne-eqb (wanted s e) 0 d) q)
+          ⊎-elim (λ (q : eqb (requestAt s (wanted s e)) 0 ≡ true). rw (ne-eqb (wanted s e) 0 d)
+          (second-holds (ltb 16384 (wanted s e)) (eqb (requestAt s (wanted s e)) 0) q))
           (λ (q : eqb (requestAt s (wanted s e)) 0 ≡ false). absurd (v
           (request-theorem (wanted s e) (g .own .heap) l .found .0 (eqb-false (requestAt s (wanted s e)) 0 q))))
           (decide (eqb (requestAt s (wanted s e)) 0))
 
-or-cases : (a b : Bool) → (a || b) ≡ true → (a ≡ true) ⊎ (b ≡ true)
-or-cases true b h = inl refl
-or-cases false b h = inr h
-
-or-first : (a b : Bool) → a ≡ true → (a || b) ≡ true
-or-first true b h = refl
-or-first false b h = never (sym h)
-
-pub full-theorem : (s : List ℕ) (g : Sound s) (es : List Effect) → AllFit s es → OneRequest es → (anyFull s es ≡ true) ↔ AsksInVain s (g .own .blocks) es
+pub full-theorem : (s : List ℕ) (g : Sound s) (es : List Effect) → FirstFits s es → OneRequest es → (anyFull s es ≡ true) ↔ AsksInVain s (g .own .blocks) es
 full-theorem s g [] h k = (λ f. never (sym f), λ f. absurd f)
 full-theorem s g (e ∷ es) h k = (
-  λ f. ⊎-elim (λ q. inl (full-vain s g e (h .0) q)) (λ q. never (sym q ∙ none-full s es k)) (or-cases (isFull s e) (anyFull s es) f),
-  λ f. ⊎-elim (λ q. or-first (isFull s e) (anyFull s es) (vain-full s g e (h .0) (q .0) (q .1))) (λ q. absurd (none-in-vain s (g .own .blocks) es k q)) f,
+  λ f. ⊎-elim (λ q. inl (full-vain s g e h q)) (λ q. never (sym q ∙ none-full s es k)) (one-holds (isFull s e) (anyFull s es) f),
+  λ f. ⊎-elim (λ q. first-holds (isFull s e) (anyFull s es) (vain-full s g e h (q .0) (q .1))) (λ q. absurd (none-in-vain s (g .own .blocks) es k q)) f,
 )

@@ -83,7 +83,7 @@ performed-look (stores t source) m u p h k d = look-other undefined _ t u m p h 
 performed-look (storesElement t place w n) m u p h k d = withTemporaries-look _ u (manual.put t _ m) ∙ look-other undefined _ t u m p h d
 performed-look (enters n f) m u p h k d = enter-look n f u m h
 performed-look (leaves n result) m u p h k d = leave-look n result u m k
-performed-look (jumps place) m u p h k d = jump-look place u m
+performed-look (jumps place) m u p h k d = jump-look (place % 2 ^ 16) u m
 performed-look (setsOrigin v) m u p h k d = origin-look v u m
 
 pub others-theorem : (s : List ℕ) → Sound s → (e : Effect) → Fits s e → isFull s e ≡ false → (t : Target) → IsVariable s t → IsVariable (perform s e) t

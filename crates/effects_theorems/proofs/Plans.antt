@@ -1,5 +1,5 @@
 -- A plan goes by no more of what is seen than the running function's variables and its result.
-use Prim.Native.Nat.{ℕ, zero, suc, _+_, _-_}
+use Prim.Native.Nat.{ℕ, zero, suc, _+_, _-_, _%_, _^_}
 use mathlib.Core.Path.{_≡_, refl, sym, _∙_, ap}
 use mathlib.Core.Bool.{cond, not, _||_}
 use mathlib.Core.List.{List, [], _∷_}
@@ -91,18 +91,22 @@ module _ (f : Running) (all : Seen) where
   branch-by line W.Fraction = refl
   branch-by line W.Character = refl
 
+  indexed-by : (rank : ℕ) (a : Address) (next : ℕ) → assignIndexed all next rank (resolve all h a) ≡ assignIndexed some next rank (resolve some h a)
+  unfolding assignIndexed
+  indexed-by rank a next =
+      ap (λ (r : OrTrap Variable). assignIndexed all next rank r) (resolve-by a)
+      ∙ ap (λ (cs : List Cell). assignedOf next rank (resolve some h a) (all .count) (all .origin) (all .operand rank) cs (operands all 0 rank))
+      (operands-by 0 (rank + 1))
+      ∙ ap (λ (cs : List Cell). assignedOf next rank (resolve some h a) (all .count) (all .origin) (all .operand rank) (operands some 0 (rank + 1)) cs)
+      (operands-by 0 rank)
+
   plan-by : (i : Instruction) (next : ℕ) → planOf f all i next ≡ planOf f some i next
   unfolding planOf load referTo testDefined pushUndefined getOrigin shortConstant constantScalar constantVector monadic dyadic shape ravel reshape catenate indexGenerator setOrigin index assign assignNoResult assignIndexed eat interchange noOperation go goIf return branch call breakpoint attention
   plan-by (I.Load a) next = ap (λ (r : OrTrap Variable). load all next r) (resolve-by a)
   plan-by (I.ShortConstant negative magnitude) next = refl
   plan-by (I.Scalar (O.Monadic op)) next = refl
   plan-by (I.Scalar (O.Dyadic op)) next = refl
-  plan-by (I.Memory (M.AssignIndexed rank) a) next =
-      ap (λ (r : OrTrap Variable). assignIndexed all next rank r) (resolve-by a)
-      ∙ ap (λ (cs : List Cell). assignedOf next rank (resolve some h a) (all .count) (all .origin) (all .operand rank) cs (operands all 0 rank))
-      (operands-by 0 (rank + 1))
-      ∙ ap (λ (cs : List Cell). assignedOf next rank (resolve some h a) (all .count) (all .origin) (all .operand rank) (operands some 0 (rank + 1)) cs)
-      (operands-by 0 rank)
+  plan-by (I.Memory (M.AssignIndexed rank) a) next = indexed-by (rank % 2 ^ 4) a next
   plan-by (I.Memory M.Assign a) next = ap (λ (r : OrTrap Variable). assign all next r) (resolve-by a)
   plan-by (I.Memory M.AssignNoResult a) next = ap (λ (r : OrTrap Variable). assignNoResult all next r) (resolve-by a)
   plan-by (I.Memory M.Reference a) next = ap (λ (r : OrTrap Variable). referTo all next r) (resolve-by a)
@@ -133,7 +137,7 @@ module _ (f : Running) (all : Seen) where
   plan-by (I.ConstantScalar w) next = refl
   plan-by (I.ConstantVector count first) next = refl
   plan-by (I.Call arguments alternate number) next = refl
-  plan-by (I.Index rank) next = ap (λ (cs : List Cell). indexOf next rank (all .count) (all .origin) (all .operand 0) cs) (operands-by 1 rank)
+  plan-by (I.Index rank) next = ap (λ (cs : List Cell). indexOf next (rank % 2 ^ 4) (all .count) (all .origin) (all .operand 0) cs) (operands-by 1 (rank % 2 ^ 4))
 
 module _ (s : List ℕ) (g : Sound s) (f : Running) (runs : Runs s (variablesOf (headerOf f)) (headerOf f .result)) where
   plan-theorem : (i : Instruction) (next : ℕ) → planOf f (seen s) i next ≡ planOf f (seenOf (length s - sbase s) (view s)) i next

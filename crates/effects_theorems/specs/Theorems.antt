@@ -13,14 +13,15 @@ use Rattle.segment.specs.Cells.{undefined}
 use Rattle.storage.specs.Heap.{Block}
 use Rattle.view.specs.View.{view}
 use Rattle.heap.specs.Words.{HasRoom}
-use Rattle.manual.specs.Effects.{Source, variable, operand, word, undefinedValue, reference, made, Effect, replaces, discards, swaps, stores, storesElement, enters, leaves, jumps, setsOrigin, look, performOn, performAll}
-use Rattle.manual.specs.Seen.{seenOf}
+use Rattle.manual.specs.Effects.{Effect, replaces, discards, swaps, stores, storesElement, enters, leaves, jumps, setsOrigin, look, performOn, performAll}
+use Rattle.manual.specs.OrTrap.{gives}
+use Rattle.manual.specs.Seen.{Variable, seenOf}
 use Rattle.effects.specs.Perform.{perform, performs, wanted, isFull, anyFull}
 use Rattle.effects.specs.Seen.{seen}
-use Rattle.effects.specs.Alike.{seenBy, Runs}
+use Rattle.effects.specs.Alike.{seenBy, Runs, Resolved}
 use Rattle.effects.specs.Sound.{Sound}
 use Rattle.effects.specs.Fits.{IsVariable, Fits}
-use Rattle.effects.specs.Requests.{AllFit, OneRequest}
+use Rattle.effects.specs.Requests.{AllFit, FirstFits, OneRequest}
 
 -- ---- one effect
 
@@ -60,7 +61,12 @@ pub record EffectsTheorems : Type 0 where
       → (StoresTo e t → ⊥) → look undefined t (view (perform s e)) ≡ look undefined t (view s)
   pub allPerformed : (s : List ℕ) → Sound s → (es : List Effect) → AllFit s es → OneRequest es → anyFull s es ≡ false → PerformedAll s es
   -- (1,2) is given exactly where a block is asked for and none is long enough.
-  pub full : (s : List ℕ) (sound : Sound s) (es : List Effect) → AllFit s es → OneRequest es → (anyFull s es ≡ true) ↔ AsksInVain s (sound .own .blocks) es
+  pub full : (s : List ℕ) (sound : Sound s) (es : List Effect) → FirstFits s es → OneRequest es → (anyFull s es ≡ true) ↔ AsksInVain s (sound .own .blocks) es
   -- What an instruction of the running function sees of the words is what it sees of the view.
   pub alike : (s : List ℕ) → Sound s → (variables : ℕ) (result : Bool) → Runs s variables result
       → seenBy variables result (seen s) ≡ seenBy variables result (seenOf (length s - sbase s) (view s))
+  -- An address that is not trapped leads to a variable.
+  pub local : (s : List ℕ) → Sound s → (variables : ℕ) (result : Bool) → Runs s variables result → (v : ℕ) (x : Variable)
+      → seen s .local variables v ≡ gives x → Resolved s x
+  pub global : (s : List ℕ) → Sound s → (variables : ℕ) (result : Bool) → Runs s variables result → (g : ℕ) (x : Variable)
+      → seen s .global g ≡ gives x → Resolved s x
