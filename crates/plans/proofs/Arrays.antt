@@ -15,7 +15,8 @@ use Rattle.segment.specs.Blocks.{product}
 use Rattle.manual.specs.OrTrap.{OrTrap, gives}
 use Rattle.manual.specs.Values.{Value, vector, rank, size, isSingle, first, any, each, shortOf, shorts, single, shapeOf, ravelOf, catenate, upFrom, indexGenerator, copies, cycle, reshape}
 use Rattle.scalar_theorems.specs.Validity.{Valid}
-use Rattle.plans.proofs.Given.{Given, passed, chained, or-false}
+use Rattle.effects_theorems.proofs.Tests.{none-holds}
+use Rattle.plans.proofs.Given.{Given, passed, chained}
 use Rattle.plans.proofs.Lists.{All, all-append, all-take, all-map, all-getD}
 use Rattle.plans.proofs.Values.{Length, valid-length, ValueFits}
 use Rattle.plans.proofs.Operators.{Elements, collect-map}
@@ -95,7 +96,7 @@ reshape-fits a b h k =
     passed ValueFits (eqb (size b) 0 && not (eqb (product lengths) 0)) 6 0 _ (λ q.
     let n = cycle-long (product lengths) (b .ravel) (some (size b) (product lengths) q) in
     record {
-      rank = omega (arith, u .1, ltb-false 15 (size a) (or-false (ltb 1 (rank a)) (ltb 15 (size a)) r .1));
+      rank = omega (arith, u .1, ltb-false 15 (size a) (none-holds (ltb 1 (rank a)) (ltb 15 (size a)) r .1));
       size = sym n;
       short = omega (arith, n, leb-false (2 ^ 16) (product lengths) e);
       lengths = all-map (λ w. w < 2 ^ 16) Length (λ w l. omega (arith, l)) lengths (u .0);

@@ -1,10 +1,9 @@
 -- What a result has, if one is given: a statement about a plan goes down the manual's lists of traps.
 use Prim.Native.Nat.{ℕ}
-use mathlib.Core.Path.{_≡_, refl, subst}
-use mathlib.Core.Bool.{Bool, true, false, cond, _&&_, _||_}
-use native.Mathlib.Omega.{arith}
-use mathlib.Core.Path.{ap}
+use mathlib.Core.Path.{_≡_, refl, sym, subst}
+use mathlib.Core.Bool.{Bool, true, false, cond, _&&_}
 use Rattle.manual.specs.OrTrap.{OrTrap, gives, trap, andThen, stopIf}
+use Rattle.effects_theorems.proofs.Tests.{never}
 
 abbrev pub Given : {A : Type 0} → (A → Type 0) → OrTrap A → Type 0
 Given P (gives a) = P a
@@ -27,10 +26,6 @@ both P false x y h k = k refl
 pub given : {A : Type 0} (P : A → Type 0) (x : OrTrap A) (a : A) → Given P x → x ≡ gives a → P a
 given P x a h e = subst (Given P) e h
 
-pub or-false : (a b : Bool) → (a || b) ≡ false → (a ≡ false) × (b ≡ false)
-or-false true b h = absurd (omega (arith, ap (λ (c : Bool). cond {A = ℕ} c 1 0) h))
-or-false false b h = (refl, h)
-
 pub and-true : (a b : Bool) → (a && b) ≡ true → (a ≡ true) × (b ≡ true)
 and-true true b h = (refl, h)
-and-true false b h = absurd (omega (arith, ap (λ (c : Bool). cond {A = ℕ} c 1 0) h))
+and-true false b h = never (sym h)

@@ -4,3 +4,5 @@ pub mod Lists
 pub mod Values
 pub mod Operators
 pub mod Arrays
+pub mod Cells
+pub mod Places
