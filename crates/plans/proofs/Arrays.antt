@@ -1,23 +1,23 @@
 -- The results of SHAPE, RAVEL, CATENATE, INDEXGEN and RESHAPE fit where their operands do.
 use Prim.Native.Nat.{ℕ, zero, suc, _+_, _^_, _<_, _≤_}
-use mathlib.Core.Path.{_≡_, refl, sym, _∙_, ap}
-use mathlib.Core.Bool.{Bool, true, false, cond, not, _&&_, _||_}
+use mathlib.Core.Path.{_≡_, refl, sym, ap}
+use mathlib.Core.Bool.{Bool, true, false, not, _&&_, _||_}
 use mathlib.Core.List.{List, [], _∷_, _++_}
 use native.Mathlib.Omega.{arith}
 use lib.Dec.{ltb, leb, eqb}
-use lib.ListN.{length, take, length-append, length-take}
-use borrow.Author.Tests.{ltb-false, leb-false, eqb-true, eqb-false, eq-eqb}
+use lib.ListN.{length, length-append, length-take}
+use borrow.Author.Tests.{ltb-false, leb-false, eqb-true, eq-eqb}
 use Rattle.descriptor.specs.Fields.{isCharacter}
 use Rattle.scalar.specs.declared.Whole.{Whole}
 use Rattle.scalar.specs.declared.Whole.the-variants as W
 use Rattle.scalar.specs.Reading.{wholeOf}
 use Rattle.segment.specs.Blocks.{product}
-use Rattle.manual.specs.OrTrap.{OrTrap, gives}
+use Rattle.manual.specs.OrTrap.{gives}
 use Rattle.manual.specs.Values.{Value, vector, rank, size, isSingle, first, any, each, shortOf, shorts, single, shapeOf, ravelOf, catenate, upFrom, indexGenerator, copies, cycle, reshape}
 use Rattle.scalar_theorems.specs.Validity.{Valid}
 use Rattle.effects_theorems.proofs.Tests.{none-holds}
 use Rattle.plans.proofs.Given.{Given, passed, chained}
-use Rattle.plans.proofs.Lists.{All, all-append, all-take, all-map, all-getD}
+use Rattle.plans.proofs.Lists.{All, all-append, all-take, all-map}
 use Rattle.plans.proofs.Values.{Length, valid-length, ValueFits}
 use Rattle.plans.proofs.Operators.{Elements, collect-map}
 

@@ -1,11 +1,11 @@
 -- What a cell of a sound segment is seen as: a value that fits, or none.
-use Prim.Native.Nat.{ℕ, zero, suc, _+_, _/_, _%_, _^_, _<_}
+use Prim.Native.Nat.{ℕ, zero, suc, _+_, _/_, _^_, _<_}
 use mathlib.Core.Path.{_≡_, refl, sym, _∙_, ap}
 use mathlib.Core.Bool.{Bool, true, false, cond, _&&_}
 use mathlib.Core.List.{List, [], _∷_}
 use native.Mathlib.Omega.{arith}
 use lib.Dec.{leb, eqb}
-use lib.ListN.{getD, length}
+use lib.ListN.{length}
 use borrow.Author.Tests.{eqb-true}
 use Rattle.descriptor.specs.declared.address.SegmentAddress.{SegmentAddress}
 use Rattle.descriptor.specs.declared.Kind.{Kind}
@@ -17,10 +17,9 @@ use Rattle.segment.specs.Blocks.{sizeAt, rankAt, part, product, shapeAt, elemen
 use Rattle.segment.specs.Cells.{Cell, undefined, indirect, value, invalid, cell, cellOfKind}
 use Rattle.storage.specs.Heap.{count}
 use Rattle.storage.specs.Owned.{Owned, Inside}
-use Rattle.manual.specs.OrTrap.{OrTrap, gives, trap}
 use Rattle.manual.specs.Values as values
 use Rattle.manual.specs.Scalars.{valueOf, scalarWord}
-use Rattle.owners.proofs.Cells.{array-of, cell-array}
+use Rattle.owners.proofs.Cells.{array-of}
 use Rattle.effects.specs.Seen.{whole, readKind, read}
 use Rattle.scalar_theorems.specs.Validity.{Valid}
 use Rattle.effects_theorems.proofs.Frames.{part-length}

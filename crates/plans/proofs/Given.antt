@@ -18,6 +18,11 @@ pub chained : {A B : Type 0} (P : A → Type 0) (Q : B → Type 0) (x : OrTrap A
 chained P Q (gives a) next h k = k a h
 chained P Q (trap class number) next h k = tt
 
+-- where nothing need be known of the result
+pub any-given : {A B : Type 0} (Q : B → Type 0) (x : OrTrap A) (next : A → OrTrap B) → ((a : A) → Given Q (next a)) → Given Q (andThen x next)
+any-given Q (gives a) next k = k a
+any-given Q (trap class number) next k = tt
+
 pub both : {A : Type 0} (P : A → Type 0) (b : Bool) (x y : OrTrap A) → (b ≡ true → Given P x) → (b ≡ false → Given P y) → Given P (cond b x y)
 both P true x y h k = h refl
 both P false x y h k = k refl

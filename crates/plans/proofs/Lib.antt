@@ -6,3 +6,11 @@ pub mod Operators
 pub mod Arrays
 pub mod Cells
 pub mod Places
+pub mod Sees
+pub mod Fitting
+pub mod After
+pub mod Loads
+pub mod Scalars
+pub mod Memory
+pub mod Control
+pub mod Theorems

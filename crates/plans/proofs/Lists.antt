@@ -1,10 +1,10 @@
 -- Lists all of whose numbers have a property.
-use Prim.Native.Nat.{ℕ, zero, suc, _+_, _<_}
-use mathlib.Core.Path.{_≡_, refl, subst, sym}
+use Prim.Native.Nat.{ℕ, zero, suc, _<_}
+use mathlib.Core.Path.{subst, sym}
 use mathlib.Core.List.{List, [], _∷_, _++_}
 use mathlib.Core.Logic.{⊎-elim}
 use native.Mathlib.Omega.{arith}
-use lib.ListN.{getD, length, take, replicate}
+use lib.ListN.{getD, take, replicate}
 use Rattle.storage.specs.Heap.{count}
 use Rattle.heap.proofs.Counts.{hit-cases, hit-same}
 

@@ -1,7 +1,7 @@
 -- Subscripts that are judged lead to an element that is there.
-use Prim.Native.Nat.{ℕ, zero, suc, _+_, _-_, _*_, _<_, _≤_}
+use Prim.Native.Nat.{ℕ, zero, suc, _+_, _*_, _<_}
 use mathlib.Core.Path.{_≡_, refl, ap}
-use mathlib.Core.Bool.{Bool, true, false, not, _&&_}
+use mathlib.Core.Bool.{true, false, not, _&&_}
 use mathlib.Core.List.{List, [], _∷_}
 use native.Mathlib.Nat.{mul-le-mul-right, suc-mul}
 use native.Mathlib.Omega.{arith}
@@ -13,10 +13,9 @@ use Rattle.scalar.specs.declared.Whole.{Whole}
 use Rattle.scalar.specs.declared.Whole.the-variants as W
 use Rattle.scalar.specs.Reading.{wholeOf}
 use Rattle.segment.specs.Blocks.{product}
-use Rattle.segment.specs.Cells.{Cell}
 use Rattle.manual.specs.Values.{any, isFraction, inRange, offset, inRanges, placeOf, place}
 use Rattle.manual.specs.Seen.{Seen}
-use Rattle.manual.specs.Scalars.{operands, scalarWord, scalarWords, subscripted}
+use Rattle.manual.specs.Scalars.{operands, scalarWords, subscripted}
 use Rattle.effects_theorems.proofs.Tests.{never}
 use Rattle.plans.proofs.Given.{Given, passed, and-true}
 

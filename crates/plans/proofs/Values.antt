@@ -1,6 +1,6 @@
 -- Values that have a place in storage, and the source that each gives.
-use Prim.Native.Nat.{ℕ, zero, suc, _+_, _*_, _^_, _<_, _≤_}
-use mathlib.Core.Path.{_≡_, refl, sym, _∙_, ap}
+use Prim.Native.Nat.{ℕ, _^_, _<_, _≤_}
+use mathlib.Core.Path.{_≡_, refl}
 use mathlib.Core.Bool.{Bool, true, false, cond}
 use mathlib.Core.List.{List, [], _∷_}
 use native.Mathlib.Omega.{arith}
@@ -16,7 +16,7 @@ use Rattle.manual.specs.Scalars.{resultOf}
 use Rattle.effects.specs.Fits.{Available}
 use Rattle.scalar_theorems.specs.Validity.{Valid}
 use Rattle.scalar_theorems.proofs.Validity.{valid-small}
-use Rattle.plans.proofs.Lists.{All, all-count, all-map}
+use Rattle.plans.proofs.Lists.{All, all-count}
 
 -- A length, which is an integer's word.
 abbrev pub Length : ℕ → Type 0
