@@ -209,34 +209,36 @@ look-other none c (Local a) (Global h) m p q n = refl
 look-other none c (Local a) (Local b) m p q n =
     other-putFrames none c (a .0) (b .0) (m .frames) p q (λ e. n (ap (λ (i : ℕ). Local (stack i)) e))
 
--- the variables are the same after a store
-in-putFrames : {A : Type 0} (c : A) (a b : ℕ) (l : List (Frame A)) → InFrames b l → InFrames b (putFrames a c l)
-in-putFrames c a b [] h = absurd h
-in-putFrames c a b (r ∷ l) h = go (λ k. in-putFrames c a b l k) (order (depthOfFrames l) a) h
-  where
-    go : (InFrames b l → InFrames b (putFrames a c l)) → (depthOfFrames l ≤ a) ⊎ (a < depthOfFrames l) → InFrames b (r ∷ l) → InFrames b (putFrames a c (r ∷ l))
-    go more (inl p) (inl k) =
-        rw (put-here a c r l p) (inl (omega (arith, k), omega (arith, k, length-set (r .cells) (indexIn (r .cells) l a) c)))
-    go more (inl p) (inr k) = rw (put-here a c r l p) (inr k)
-    go more (inr p) (inl k) = rw (put-below a c r l p) (inl (omega (arith, k, depth-put a c l), omega (arith, k, depth-put a c l)))
-    go more (inr p) (inr k) = rw (put-below a c r l p) (inr (more k))
+-- frames with as many cells have the same variables
+in-same : {A B : Type 0} (a : ℕ) (r : Frame A) (q : Frame B) (l : List (Frame A)) (k : List (Frame B)) → length (q .cells) ≡ length (r .cells)
+    → depthOfFrames k ≡ depthOfFrames l → InFrames a l ↔ InFrames a k → InFrames a (r ∷ l) ↔ InFrames a (q ∷ k)
+in-same a r q l k n d more = (
+  λ h. ⊎-elim (λ x. inl (omega (arith, x, d), omega (arith, x, n, d))) (λ x. inr (more .0 x)) h,
+  λ h. ⊎-elim (λ x. inl (omega (arith, x, d), omega (arith, x, n, d))) (λ x. inr (more .1 x)) h,
+)
 
-pub in-put : {A : Type 0} (c : A) (t u : Target) (m : Machine A) → InMachine u m → InMachine u (put t c m)
-in-put c (Global g) (Global h) m k = (k .0, omega (arith, k, length-set (m .globals) (g .0 - 8) c))
-in-put c (Global g) (Local b) m k = k
-in-put c (Local a) (Global h) m k = k
-in-put c (Local a) (Local b) m k = in-putFrames c (a .0) (b .0) (m .frames) k
+-- the variables are the same after a store
+in-putFrames : {A : Type 0} (c : A) (a b : ℕ) (l : List (Frame A)) → InFrames b l ↔ InFrames b (putFrames a c l)
+in-putFrames c a b [] = (λ h. h, λ h. h)
+in-putFrames c a b (r ∷ l) = ⊎-elim here (below (in-putFrames c a b l)) (order (depthOfFrames l) a)
+  where
+    here : depthOfFrames l ≤ a → InFrames b (r ∷ l) ↔ InFrames b (putFrames a c (r ∷ l))
+    here p = rw (put-here a c r l p) (in-same b r (written r (set (r .cells) (indexIn (r .cells) l a) c)) l l (length-set (r .cells) (indexIn (r .cells) l a) c) refl (λ h. h, λ h. h))
+
+    below : InFrames b l ↔ InFrames b (putFrames a c l) → a < depthOfFrames l → InFrames b (r ∷ l) ↔ InFrames b (putFrames a c (r ∷ l))
+    below more p = rw (put-below a c r l p) (in-same b r r l (putFrames a c l) refl (depth-put a c l) more)
+
+pub in-put : {A : Type 0} (c : A) (t u : Target) (m : Machine A) → InMachine u m ↔ InMachine u (put t c m)
+in-put c (Global g) (Global h) m =
+    let n = length-set (m .globals) (g .0 - 8) c in (λ k. omega (arith, k), λ k. omega (arith, k))
+in-put c (Global g) (Local b) m = (λ k. k, λ k. k)
+in-put c (Local a) (Global h) m = (λ k. k, λ k. k)
+in-put c (Local a) (Local b) m = in-putFrames c (a .0) (b .0) (m .frames)
 
 -- nor does it matter by what function a machine is seen
 in-mapFrames : {A : Type 0} (f : ℕ → A) (a : ℕ) (l : List (Frame ℕ)) → InFrames a l ↔ InFrames a (mapFrames f l)
 in-mapFrames f a [] = (λ h. h, λ h. h)
-in-mapFrames f a (r ∷ l) =
-    let d = depth-map f l in
-    let n = length-map (r .cells) f in
-    let more = in-mapFrames f a l in (
-      λ h. ⊎-elim (λ k. inl (omega (arith, k), omega (arith, k))) (λ k. inr (more .0 k)) h,
-      λ h. ⊎-elim (λ k. inl (omega (arith, k), omega (arith, k))) (λ k. inr (more .1 k)) h,
-    )
+in-mapFrames f a (r ∷ l) = in-same a r (written r (map f (r .cells))) l (mapFrames f l) (length-map (r .cells) f) (depth-map f l) (in-mapFrames f a l)
 
 pub in-map : {A : Type 0} (f : ℕ → A) (t : Target) (m : Machine ℕ) → InMachine t m ↔ InMachine t (mapMachine f m)
 in-map f (Global g) m = let n = length-map (m .globals) f in (λ h. omega (arith, h), λ h. omega (arith, h))

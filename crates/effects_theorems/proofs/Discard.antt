@@ -26,6 +26,8 @@ use Rattle.owners.proofs.Elsewhere.{own-elsewhere, cell-elsewhere}
 use Rattle.effects.specs.Perform.{bottomOf, discard}
 use Rattle.effects.specs.Seen.{temporaries}
 use Rattle.effects.specs.Sound.{Sound}
+use Rattle.effects_theorems.specs.Theorems.{StateKept}
+use Rattle.effects_theorems.proofs.StateWords.{state-on, state-step, state-top}
 use Rattle.effects_theorems.proofs.Machines.{machine-agree, cells-count, map-drop}
 use Rattle.effects_theorems.proofs.Frames.{drop-downward, frames-same, chain-same, words-kept}
 use Rattle.effects_theorems.proofs.Sound.{Bounds, bounds, Regs, kept-regs}
@@ -151,6 +153,11 @@ module _ (s : List ℕ) (g : Sound s) (n : ℕ) (some : n ≤ temporaries s) whe
       ∙ machine-agree (cell s3) (cell s) (manual.discard n (words s))
       (λ w c. cell-elsewhere moved (dropped .own) w c ∙ dropped .same w (omega (arith, c, count-append w (downward s b n) us)) c)
       ∙ rw (map-drop (cell s) n (words s .temporaries))
+
+  pub discard-state : StateKept s (discard s n)
+  discard-state =
+      rw discard-is
+      (state-on (state-step (dropped .kept) (low .low)) (state-top s2 (ltop s2 - n) (omega (arith, fit2)) (omega arith)))
 
   pub discard-sound : Sound (discard s n)
   discard-sound = rw discard-is sound3

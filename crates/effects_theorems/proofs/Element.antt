@@ -33,14 +33,16 @@ use Rattle.effects.specs.Sources.{addressOf, heldAt, placed}
 use Rattle.effects.specs.Perform.{replace, storeAt, unshare, writeElement, storeElement}
 use Rattle.effects.specs.Sound.{Sound}
 use Rattle.effects.specs.Fits.{InMachine, IsVariable, CanReplace}
+use Rattle.effects_theorems.specs.Theorems.{StateKept}
+use Rattle.effects_theorems.proofs.StateWords.{state-none, state-on, state-step}
 use Rattle.effects_theorems.proofs.Machines.{machine-agree}
 use Rattle.effects_theorems.proofs.Frames.{part-length, chain-same, words-kept}
 use Rattle.effects_theorems.proofs.Sound.{Bounds, bounds, Regs, kept-regs}
 use Rattle.effects_theorems.proofs.Cellwise.{count-put, put-map, put-twice, look-put, in-put}
 use Rattle.effects_theorems.proofs.Variables.{same-put, variable-owner, in-view}
 use Rattle.effects_theorems.proofs.Sources.{Put, put-source}
-use Rattle.effects_theorems.proofs.Replace.{finish-view, finish-sound}
-use Rattle.effects_theorems.proofs.Store.{stored-view, stored-sound, stored-regs, stored-word, stored-words, stored-this}
+use Rattle.effects_theorems.proofs.Replace.{finish-view, finish-sound, finish-state}
+use Rattle.effects_theorems.proofs.Store.{stored-view, stored-sound, stored-state, stored-regs, stored-word, stored-words, stored-this}
 
 -- a word that stands in one cell only is seen anew there, and all else as before
 seen-once : (f g : ℕ → Cell) (m : Machine ℕ) (t : Target) (w n : ℕ) → InMachine t m → manual.put t w m ≡ m → count w (allCells m) ≡ 1 → w ≢ n → f n ≡ g n
@@ -100,12 +102,16 @@ module _ (s : List ℕ) (g : Sound s) (t : Target) (at : IsVariable s t) (x : �
   pub element-regs : Regs s e′
   element-regs = regs
 
+  pub element-state : StateKept s e′
+  element-state = state-step (element .kept) (low .low)
+
 -- a variable that alone points to its array
 record Lone (s s′ : List ℕ) (t : Target) (x : ℕ) : Type 0 where
   sound : Sound s′
   same : view s′ ≡ view s
   there : IsVariable s′ t
   regs : Regs s s′
+  state : StateKept s s′
   y : ℕ
   small : y < 2 ^ 16
   holds : heldAt s′ t ≡ arrayWord y
@@ -168,6 +174,7 @@ module _ (s : List ℕ) (g : Sound s) (t : Target) (at : IsVariable s t) (x : �
     same = refl;
     there = at;
     regs = record { base = refl; top = refl; frame = refl; start = refl; long = refl };
+    state = state-none s;
     y = x;
     small = small;
     holds = is;
@@ -233,6 +240,10 @@ module _ (s : List ℕ) (g : Sound s) (t : Target) (at : IsVariable s t) (x : �
     unfolding storeAt
     regs1 = stored-regs s g t at (arrayWord y) (value (shapeAt s x) (elementsAt s x)) (placed s source) first
 
+    state1 : StateKept s s1
+    unfolding storeAt
+    state1 = stored-state s g t at (arrayWord y) (value (shapeAt s x) (elementsAt s x)) (placed s source) first
+
     same1 : view s1 ≡ view s
     unfolding storeAt
     same1 = stored-view s g t at (arrayWord y) (value (shapeAt s x) (elementsAt s x)) (placed s source) first ∙ value-now
@@ -249,8 +260,9 @@ module _ (s : List ℕ) (g : Sound s) (t : Target) (at : IsVariable s t) (x : �
         record {
           sound = sound1;
           same = same1;
-          there = rw words1 (in-put (arrayWord y) t t (words s) at);
+          there = rw words1 (in-put (arrayWord y) t t (words s) .0 at);
           regs = regs1;
+          state = state1;
           y = y;
           small = y-small;
           holds = holds1;
@@ -304,7 +316,7 @@ module _ (s : List ℕ) (g : Sound s) (t : Target) (at : IsVariable s t) (x : �
       first2 = put-source t2 sound2 (manual.variable t) there2 tt
 
       pushed : manual.look undefined t (view t2) ≡ after
-      pushed = rw view2 (look-put undefined after t (view s) (in-view s t at))
+      pushed = rw view2 (look-put undefined after t (view s) (in-view s t .0 at))
 
       view3 : view (replace t2 n (manual.variable t)) ≡ manual.replace n after (manual.put t after (view s))
       unfolding replace
@@ -315,6 +327,13 @@ module _ (s : List ℕ) (g : Sound s) (t : Target) (at : IsVariable s t) (x : �
       sound3 : Sound (replace t2 n (manual.variable t))
       unfolding replace
       sound3 = finish-sound t2 sound2 n (heldAt t2 t) (manual.look undefined t (view t2)) (placed t2 (manual.variable t)) first2 can2
+
+      state3 : StateKept s (replace t2 n (manual.variable t))
+      unfolding replace
+      state3 =
+          state-on (q .state)
+          (state-on (element-state t1 (q .sound) t (q .there) (q .y) (q .holds) (q .small) (q .alone) k v range1 ok)
+          (finish-state t2 sound2 n (heldAt t2 t) (manual.look undefined t (view t2)) (placed t2 (manual.variable t)) first2 can2))
 
       written-is : writeElement t1 (addressOf s t) k v ≡ t2
       unfolding writeElement
@@ -334,3 +353,9 @@ module _ (s : List ℕ) (g : Sound s) (t : Target) (at : IsVariable s t) (x : �
     stored-element-sound =
         let q = lone had in
         rw (written-is (unshare s (addressOf s t)) q) (sound3 (unshare s (addressOf s t)) q)
+
+    pub stored-element-state : StateKept s (storeElement s t k v n)
+    unfolding storeElement
+    stored-element-state =
+        let q = lone had in
+        rw (written-is (unshare s (addressOf s t)) q) (state3 (unshare s (addressOf s t)) q)

@@ -25,6 +25,7 @@ use Rattle.owners.proofs.Steps.{plain, downward-same, downward-split}
 use Rattle.owners.proofs.Elsewhere.{own-elsewhere, cell-elsewhere}
 use Rattle.effects.specs.Perform.{enter}
 use Rattle.effects.specs.Sound.{Chain, upon, Sound}
+use Rattle.effects_theorems.specs.Theorems.{StateKept}
 use Rattle.effects_theorems.proofs.Machines.{machine-agree, cells-count, map-run}
 use Rattle.effects_theorems.proofs.Cells.{undefined-cell}
 use Rattle.effects_theorems.proofs.Frames.{frames-next, frames-fuel, frames-same, chain-same}
@@ -212,6 +213,15 @@ module _ (s : List ℕ) (g : Sound s) (n f : ℕ) (fit : sbase s + ltop s + n + 
       let d : _≢_ {A = ℕ} 1 0 = omega arith in
       let r : getD (set s1 0 w0) 1 0 ≡ getD s 1 0 = rw getD-set-other (under1 1 (inl (omega (arith, low)))) in
       rw (z, r)
+
+  pub enter-state : StateKept s (enter s n f)
+  enter-state =
+      rw enter-is
+      (record {
+        long = moved .long;
+        base = base2;
+        rest = λ i l u. other i (omega arith) (omega arith) (inl (omega (arith, low)));
+      })
 
   pub enter-sound : Sound (enter s n f)
   enter-sound = rw enter-is sound2

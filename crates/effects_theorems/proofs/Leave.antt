@@ -27,6 +27,8 @@ use Rattle.owners.proofs.Elsewhere.{own-elsewhere, cell-elsewhere}
 use Rattle.effects.specs.Perform.{startOf, leaveWith, leaveWithout}
 use Rattle.effects.specs.Sound.{Chain, bottom, upon, Sound}
 use Rattle.effects.specs.Fits.{CanLeave}
+use Rattle.effects_theorems.specs.Theorems.{StateKept}
+use Rattle.effects_theorems.proofs.StateWords.{state-on, state-step}
 use Rattle.effects_theorems.proofs.Machines.{machine-agree, cells-count, count-getD, map-drop, current-count, map-current, map-older}
 use Rattle.effects_theorems.proofs.Cells.{undefined-cell}
 use Rattle.effects_theorems.proofs.Frames.{downward-length, drop-downward, frame, frames-next, frames-fuel, frames-same, chain-same, words-kept}
@@ -189,6 +191,15 @@ module _ (s : List ℕ) (g : Sound s) (n : ℕ) (empty : ltop s ≡ lbase s + 1)
       chain = chain3;
     }
 
+    left-state : StateKept s r3
+    left-state =
+        state-on (state-step kept2 (low .low))
+        (record {
+          long = back .moved .long;
+          base = back .moved .bound;
+          rest = λ i l u. back .keep i (omega arith) (omega (arith, left-regs, low, starts));
+        })
+
     left-view : view r3 ≡ left cs n (view s)
     unfolding view
     left-view =
@@ -323,10 +334,15 @@ module _ (s : List ℕ) (g : Sound s) (n : ℕ) (can : CanLeave s n false) where
 
   without-is : leaveWithout s n ≡ f0
   unfolding leaveWithout setLtop setLbase
-  without-is = rw (regs0 .frame)
+  without-is =
+      let small : lastLbaseAt s (lbase s) % 2 ^ 16 ≡ lastLbaseAt s (lbase s) = omega (arith, bounds g, can .cells) in
+      rw (small, regs0 .frame)
 
   pub without-sound : Sound (leaveWithout s n)
   without-sound = rw without-is (left-sound s g n (can .empty) (can .cells) [] s [] first0 refl f0 back0 (omega arith))
+
+  pub without-state : StateKept s (leaveWithout s n)
+  without-state = rw without-is (left-state s g n (can .empty) (can .cells) [] s [] first0 refl f0 back0)
 
   pub without-view : view (leaveWithout s n) ≡ manual.leave undefined n false (view s)
   without-view = rw without-is (left-view s g n (can .empty) (can .cells) [] s [] first0 refl f0 back0)
@@ -394,10 +410,15 @@ module _ (s : List ℕ) (g : Sound s) (n : ℕ) (can : CanLeave s n true) where
 
   with-is : leaveWith s n ≡ f1
   unfolding leaveWith setLtop setLbase
-  with-is = rw (regs1 .frame)
+  with-is =
+      let small : lastLbaseAt s (lbase s) % 2 ^ 16 ≡ lastLbaseAt s (lbase s) = omega (arith, bounds g, can .cells) in
+      rw (small, regs1 .frame)
 
   pub with-sound : Sound (leaveWith s n)
   with-sound = rw with-is (left-sound s g n (can .empty) (can .cells) (w ∷ []) (share s w) (c ∷ []) (put1 .step) tops1 f1 back1 (omega arith))
+
+  pub with-state : StateKept s (leaveWith s n)
+  with-state = rw with-is (left-state s g n (can .empty) (can .cells) (w ∷ []) (share s w) (c ∷ []) (put1 .step) tops1 f1 back1)
 
   pub with-view : view (leaveWith s n) ≡ manual.leave undefined n true (view s)
   with-view = rw with-is (left-view s g n (can .empty) (can .cells) (w ∷ []) (share s w) (c ∷ []) (put1 .step) tops1 f1 back1)

@@ -1,5 +1,6 @@
 -- The laws of effects on words, and the theorems of specs/.
 pub mod Tests
+pub mod StateWords
 pub mod Machines
 pub mod Cells
 pub mod Frames
@@ -18,6 +19,7 @@ pub mod Leave
 pub mod Effects
 pub mod Lists
 pub mod Others
+pub mod Standing
 pub mod Reading
 pub mod Seen
 pub mod Theorems

@@ -18,14 +18,15 @@ use Rattle.heap.proofs.Walks.{over-le}
 use Rattle.heap.proofs.Ways.{decide}
 use Rattle.heap.proofs.Request.{request-theorem}
 use Rattle.effects.specs.Sources.{addressOf}
-use Rattle.effects.specs.Perform.{blockOf, perform, sourceNeed, wanted, noneFor, isFull, anyFull}
+use Rattle.effects.specs.Perform.{blockOf, perform, performs, sourceNeed, wanted, noneFor, isFull, anyFull}
 use Rattle.effects.specs.Sound.{Sound}
 use Rattle.effects.specs.Fits.{Available, Fits}
 use Rattle.effects.specs.Requests.{AllFit, FirstFits, makes, asks, NoneAsks, OneRequest}
-use Rattle.effects_theorems.specs.Theorems.{Performed, PerformedAll, AsksInVain}
+use Rattle.effects_theorems.specs.Theorems.{StateKept, PerformedAll, AsksInVain}
 use Rattle.effects_theorems.proofs.Tests.{never, none-holds, one-holds, first-holds, second-holds}
+use Rattle.effects_theorems.proofs.StateWords.{state-none, state-on}
 use Rattle.effects_theorems.proofs.Element.{array-proper}
-use Rattle.effects_theorems.proofs.Effects.{x-is, x-small, perform-theorem}
+use Rattle.effects_theorems.proofs.Effects.{x-is, x-small, perform-theorem, kept-theorem}
 
 -- an effect that does not ask wants nothing
 source-plain : (source : Source) → makes source ≡ false → sourceNeed source ≡ 0
@@ -59,21 +60,38 @@ none-in-vain s blocks [] h k = k
 none-in-vain s blocks (e ∷ es) h (inl k) = k .0 (wants-nothing s e (h .0))
 none-in-vain s blocks (e ∷ es) h (inr k) = none-in-vain s blocks es (h .1) k
 
+-- each fits the segment that it meets, and is served there
+abbrev pub AllServed : List ℕ → List Effect → Type 0
+AllServed s [] = Unit {0}
+AllServed s (e ∷ es) = Fits s e × (isFull s e ≡ false) × AllServed (perform s e) es
+
+plain-served : (s : List ℕ) (es : List Effect) → AllFit s es → NoneAsks es → AllServed s es
+plain-served s [] h k = tt
+plain-served s (e ∷ es) h k = (h .0, not-full s e (wants-nothing s e (k .0)), plain-served (perform s e) es (h .1) (k .1))
+
+pub all-served : (s : List ℕ) (es : List Effect) → AllFit s es → OneRequest es → anyFull s es ≡ false → AllServed s es
+all-served s [] h k f = tt
+all-served s (e ∷ es) h k f = (h .0, none-holds (isFull s e) (anyFull s es) f .0, plain-served (perform s e) es (h .1) k)
+
 -- one after the other
-after : {s : List ℕ} {e : Effect} {es : List Effect} → Performed s e → PerformedAll (perform s e) es → PerformedAll s (e ∷ es)
-after {s} {e} {es} p q = record { sound = q .sound; seen = q .seen ∙ ap (performAll es) (p .seen) }
+in-turn : (s : List ℕ) → Sound s → (es : List Effect) → AllServed s es → PerformedAll s es
+in-turn s g [] h = record { sound = g; seen = refl }
+in-turn s g (e ∷ es) h =
+    let p = perform-theorem s g e (h .0) (h .1) in
+    let q = in-turn (perform s e) (p .sound) es (h .2) in
+    record { sound = q .sound; seen = q .seen ∙ ap (performAll es) (p .seen) }
 
-plain-performed : (s : List ℕ) → Sound s → (es : List Effect) → AllFit s es → NoneAsks es → PerformedAll s es
-plain-performed s g [] h k = record { sound = g; seen = refl }
-plain-performed s g (e ∷ es) h k =
-    let p = perform-theorem s g e (h .0) (not-full s e (wants-nothing s e (k .0))) in
-    after p (plain-performed (perform s e) (p .sound) es (h .1) (k .1))
+kept-in-turn : (s : List ℕ) → Sound s → (es : List Effect) → AllServed s es → StateKept s (performs s es)
+kept-in-turn s g [] h = state-none s
+kept-in-turn s g (e ∷ es) h =
+    state-on (kept-theorem s g e (h .0) (h .1)) (kept-in-turn (perform s e) (perform-theorem s g e (h .0) (h .1) .sound) es (h .2))
 
-pub performs-theorem : (s : List ℕ) → Sound s → (es : List Effect) → AllFit s es → OneRequest es → anyFull s es ≡ false → PerformedAll s es
-performs-theorem s g [] h k f = record { sound = g; seen = refl }
-performs-theorem s g (e ∷ es) h k f =
-    let p = perform-theorem s g e (h .0) (none-holds (isFull s e) (anyFull s es) f .0) in
-    after p (plain-performed (perform s e) (p .sound) es (h .1) k)
+module _ (s : List ℕ) (g : Sound s) (es : List Effect) (fit : AllFit s es) (once : OneRequest es) (room : anyFull s es ≡ false) where
+  pub performs-theorem : PerformedAll s es
+  performs-theorem = in-turn s g es (all-served s es fit once room)
+
+  pub all-kept-theorem : StateKept s (performs s es)
+  all-kept-theorem = kept-in-turn s g es (all-served s es fit once room)
 
 -- what is wanted is nothing, or a block
 source-size : (s : List ℕ) (source : Source) → Available s source → (sourceNeed source ≡ 0) ⊎ (3 ≤ sourceNeed source)

@@ -1,4 +1,4 @@
--- A variable that an effect does not store to is seen as before.
+-- A variable that is not stored to is seen as before, by an effect and by several one after the other.
 use Prim.Native.Nat.{ℕ, _+_, _/_, _%_, _^_}
 use mathlib.Core.Path.{_≡_, refl, sym, _∙_, ap}
 use mathlib.Core.Bool.{false}
@@ -11,13 +11,15 @@ use Rattle.view.specs.Machine.{Frame, Machine}
 use Rattle.view.specs.View.{view}
 use Rattle.manual.specs.Effects as manual
 use Rattle.manual.specs.Effects.{Effect, replaces, discards, swaps, stores, storesElement, enters, leaves, jumps, setsOrigin, look, performOn}
-use Rattle.effects.specs.Perform.{perform, isFull}
+use Rattle.effects.specs.Perform.{perform, performs, isFull, anyFull}
 use Rattle.effects.specs.Sound.{Sound}
 use Rattle.effects.specs.Fits.{InFrames, InMachine, IsVariable, Fits}
-use Rattle.effects_theorems.specs.Theorems.{StoresTo}
+use Rattle.effects.specs.Requests.{AllFit, OneRequest}
+use Rattle.effects_theorems.specs.Theorems.{StoresTo, StandsThrough, NoneStoresTo}
 use Rattle.effects_theorems.proofs.Cellwise.{look-below, in-depth, look-other}
 use Rattle.effects_theorems.proofs.Variables.{in-view}
 use Rattle.effects_theorems.proofs.Effects.{perform-theorem}
+use Rattle.effects_theorems.proofs.Lists.{AllServed, all-served}
 
 -- operands are no variables
 withTemporaries-look : (ts : List Cell) (t : Target) (m : Machine Cell) → look undefined t (manual.withTemporaries ts m) ≡ look undefined t m
@@ -67,8 +69,8 @@ stored : (s : List ℕ) (e : Effect) → Fits s e → Stored (view s) e
 stored s (replaces n source) h = tt
 stored s (discards n) h = tt
 stored s swaps h = tt
-stored s (stores t source) h = in-view s t (h .0)
-stored s (storesElement t place w n) h = in-view s t (h .1 .there)
+stored s (stores t source) h = in-view s t .0 (h .0)
+stored s (storesElement t place w n) h = in-view s t .0 (h .1 .there)
 stored s (enters n f) h = tt
 stored s (leaves n result) h = tt
 stored s (jumps place) h = tt
@@ -90,5 +92,21 @@ pub others-theorem : (s : List ℕ) → Sound s → (e : Effect) → Fits s e �
     → (StoresTo e t → ⊥) → look undefined t (view (perform s e)) ≡ look undefined t (view s)
 others-theorem s g e h f t before after d =
     let p = perform-theorem s g e h f in
-    let k : InMachine t (performOn e (view s)) = rw (p .seen) at (in-view (perform s e) t after) in
-    ap (look undefined t) (p .seen) ∙ performed-look e (view s) t (stored s e h) (in-view s t before) k d
+    let k : InMachine t (performOn e (view s)) = rw (p .seen) at (in-view (perform s e) t .0 after) in
+    ap (look undefined t) (p .seen) ∙ performed-look e (view s) t (stored s e h) (in-view s t .0 before) k d
+
+-- one after the other
+pub stands-first : (s : List ℕ) (es : List Effect) (t : Target) → StandsThrough s es t → IsVariable s t
+stands-first s [] t h = h
+stands-first s (e ∷ es) t h = h .0
+
+others-in-turn : (s : List ℕ) → Sound s → (es : List Effect) → AllServed s es → (t : Target) → StandsThrough s es t → NoneStoresTo es t
+    → look undefined t (view (performs s es)) ≡ look undefined t (view s)
+others-in-turn s g [] h t k d = refl
+others-in-turn s g (e ∷ es) h t k d =
+    others-in-turn (perform s e) (perform-theorem s g e (h .0) (h .1) .sound) es (h .2) t (k .1) (d .1)
+    ∙ others-theorem s g e (h .0) (h .1) t (k .0) (stands-first (perform s e) es t (k .1)) (d .0)
+
+pub all-others-theorem : (s : List ℕ) → Sound s → (es : List Effect) → AllFit s es → OneRequest es → anyFull s es ≡ false → (t : Target) → StandsThrough s es t
+    → NoneStoresTo es t → look undefined t (view (performs s es)) ≡ look undefined t (view s)
+all-others-theorem s g es h k f t stands none = others-in-turn s g es (all-served s es h k f) t stands none

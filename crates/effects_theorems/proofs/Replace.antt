@@ -27,6 +27,8 @@ use Rattle.effects.specs.Perform.{bottomOf, finish}
 use Rattle.effects.specs.Seen.{temporaries}
 use Rattle.effects.specs.Sound.{Sound}
 use Rattle.effects.specs.Fits.{CanReplace}
+use Rattle.effects_theorems.specs.Theorems.{StateKept}
+use Rattle.effects_theorems.proofs.StateWords.{state-on, state-step, state-set, state-top}
 use Rattle.effects_theorems.proofs.Machines.{machine-agree, cells-count, map-drop}
 use Rattle.effects_theorems.proofs.Frames.{drop-downward, frames-same, chain-same, words-kept}
 use Rattle.effects_theorems.proofs.Sound.{Bounds, bounds, Regs, kept-regs}
@@ -191,6 +193,13 @@ module _ (s : List ℕ) (g : Sound s) (n w : ℕ) (c : Cell) (s1 : List ℕ) (fi
   same3 i l u =
       finish-other s2 n w b at2 some2 fit2 short2 low2 mid2 above2 i (omega (arith, low)) (omega (arith, low, can))
       ∙ kept2 .rest i (omega (arith, low)) (inr l)
+
+  pub finish-state : StateKept s (finish s2 b w)
+  unfolding finish setLtop
+  finish-state =
+      state-on (state-step kept2 (low .low))
+      (state-on (state-top s2 (b - sbase s2) (omega (arith, fit2)) (omega (arith, fit2, short2)))
+      (state-set (set s2 0 (sbase s2 * 2 ^ 16 + (b - sbase s2))) b w (omega (arith, low, can)) (inr (omega (arith, low, can)))))
 
   -- every cell that is left is seen as before
   left3 : (v : ℕ) → 0 < count v vs → cell (finish s2 b w) v ≡ cell s1 v

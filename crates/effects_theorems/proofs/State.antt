@@ -2,7 +2,7 @@
 use Prim.Native.Nat.{ℕ, suc, _+_, _-_, _*_, _/_, _%_, _^_, _<_, _≤_}
 use mathlib.Core.Path.{_≡_, refl, sym, _∙_, ap}
 use mathlib.Core.List.{List}
-use mathlib.Core.Logic.{_≢_, inr, ⊎-elim}
+use mathlib.Core.Logic.{_≢_, inl, inr, ⊎-elim}
 use native.Mathlib.Omega.{arith}
 use lib.ListN.{getD, set, length, length-set}
 use lib.Seq.{getD-set-same, getD-set-other}
@@ -19,6 +19,8 @@ use Rattle.owners.proofs.Cells.{part-same}
 use Rattle.owners.proofs.Steps.{downward-same}
 use Rattle.owners.proofs.Elsewhere.{own-elsewhere, cell-elsewhere}
 use Rattle.effects.specs.Sound.{Sound}
+use Rattle.effects_theorems.specs.Theorems.{StateKept}
+use Rattle.effects_theorems.proofs.StateWords.{state-set}
 use Rattle.effects_theorems.proofs.Machines.{machine-agree, jump-cells, jump-map}
 use Rattle.effects_theorems.proofs.Frames.{frames-bottom, frames-next, frames-same, chain-same}
 use Rattle.effects_theorems.proofs.Sound.{Bounds, bounds, set-elsewhere}
@@ -93,6 +95,10 @@ module _ (s : List ℕ) (g : Sound s) (place : ℕ) (small : place < 2 ^ 16) whe
         chain = rw o1 (chain-same s′ (g .chain) (moved .bound) (λ k l u. other k (omega arith)));
       }
 
+  pub jump-state : StateKept s (setPctr s place)
+  unfolding setPctr
+  jump-state = state-set s i v (omega arith) (inr (omega (arith, low)))
+
   pub jump-view : view (setPctr s place) ≡ manual.jump place (view s)
   unfolding setPctr view
   jump-view =
@@ -146,6 +152,10 @@ module _ (s : List ℕ) (g : Sound s) (v : ℕ) where
         above = omega (arith, rest 0 (omega arith), o1, g .above);
         chain = rw o1 (chain-same t (g .chain) (settled .bound) (λ k l u. rest k (omega (arith, bound))));
       }
+
+  pub origin-state : StateKept s (setIorg s v)
+  unfolding setIorg
+  origin-state = state-set s 2 (flags s / 2 * 2 + v) (omega arith) (inl (omega arith))
 
   pub origin-view : view (setIorg s v) ≡ manual.setOrigin v (view s)
   unfolding setIorg view

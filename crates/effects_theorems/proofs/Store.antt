@@ -24,6 +24,8 @@ use Rattle.owners.proofs.Elsewhere.{own-elsewhere, cell-elsewhere}
 use Rattle.effects.specs.Sources.{addressOf, heldAt}
 use Rattle.effects.specs.Sound.{Sound}
 use Rattle.effects.specs.Fits.{IsVariable}
+use Rattle.effects_theorems.specs.Theorems.{StateKept}
+use Rattle.effects_theorems.proofs.StateWords.{state-on, state-step, state-set}
 use Rattle.effects_theorems.proofs.Machines.{machine-agree}
 use Rattle.effects_theorems.proofs.Frames.{chain-same, words-kept}
 use Rattle.effects_theorems.proofs.Sound.{Bounds, bounds, Regs, kept-regs, set-elsewhere}
@@ -141,6 +143,10 @@ module _ (s : List ℕ) (g : Sound s) (t : Target) (at : IsVariable s t) (w : �
     chain = rw (regs3 .frame ∙ regs0 .frame)
         (chain-same s3 (variable-chain s g w t at) (regs3 .base) (λ j l h. kept3 .rest j (omega (arith, low, regs0)) (inr l)));
   }
+
+  pub stored-state : StateKept s s3
+  stored-state =
+      state-on (state-set s i w (omega (arith, spot .state)) (inr (spot .state))) (state-step kept3 (omega (arith, low, regs0)))
 
   -- what the variable's cell holds now
   pub stored-regs : Regs s s3

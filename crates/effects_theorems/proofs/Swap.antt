@@ -2,7 +2,7 @@
 use Prim.Native.Nat.{ℕ, suc, _+_, _-_, _/_, _%_, _^_, _<_, _≤_}
 use mathlib.Core.Path.{_≡_, _∙_, ap}
 use mathlib.Core.List.{List}
-use mathlib.Core.Logic.{_≢_}
+use mathlib.Core.Logic.{_≢_, inr}
 use native.Mathlib.Omega.{arith}
 use lib.ListN.{getD, set, length, length-set}
 use lib.Seq.{getD-set-same, getD-set-other}
@@ -24,6 +24,8 @@ use Rattle.effects.specs.Sources.{operandAt}
 use Rattle.effects.specs.Perform.{swap}
 use Rattle.effects.specs.Seen.{temporaries}
 use Rattle.effects.specs.Sound.{Sound}
+use Rattle.effects_theorems.specs.Theorems.{StateKept}
+use Rattle.effects_theorems.proofs.StateWords.{state-on, state-set}
 use Rattle.effects_theorems.proofs.Machines.{machine-agree, cells-count, map-swapped, swapped-count}
 use Rattle.effects_theorems.proofs.Frames.{frames-same, chain-same}
 use Rattle.effects_theorems.proofs.Sound.{Bounds, bounds}
@@ -100,6 +102,12 @@ module _ (s : List ℕ) (g : Sound s) (two : 2 ≤ temporaries s) where
       ap (mapMachine (cell s′)) swapped-words
       ∙ machine-agree (cell s′) (cell s) (manual.swap (words s)) (λ w c. cell-elsewhere moved (g .own) w (omega (arith, c, same-count w)))
       ∙ rw (map-swapped (cell s) (words s .temporaries))
+
+  pub swap-state : StateKept s (swap s)
+  unfolding swap
+  swap-state =
+      state-on (state-set s (sbase s + ltop s) (operandAt s 1) (omega (arith, low)) (inr (omega (arith, low))))
+      (state-set (set s (sbase s + ltop s) (operandAt s 1)) (sbase s + ltop s - 1) (operandAt s 0) (omega (arith, low)) (inr (omega (arith, low, two))))
 
   pub swap-sound : Sound (swap s)
   unfolding swap

@@ -2,7 +2,7 @@
 use Prim.Native.Nat.{ℕ, zero, suc, _+_, _-_, _/_, _^_, _<_, _≤_}
 use mathlib.Core.Path.{_≡_, refl, sym, _∙_, ap}
 use mathlib.Core.List.{List, [], _∷_, map}
-use mathlib.Core.Logic.{_≢_, _⊎_, inl, inr, ⊎-elim}
+use mathlib.Core.Logic.{_↔_, _≢_, _⊎_, inl, inr, ⊎-elim}
 use native.Mathlib.Omega.{arith}
 use lib.ListN.{getD, set, length, List·getD-map}
 use lib.Seq.{set-getD, getD-set-same, getD-set-other}
@@ -268,9 +268,9 @@ module _ (s : List ℕ) (g : Sound s) where
         ∙ ap (cell s) (look-words undefinedWord))
 
 -- a variable of the words is one of the view
-pub in-view : (s : List ℕ) (t : Target) → IsVariable s t → InMachine t (view s)
+pub in-view : (s : List ℕ) (t : Target) → IsVariable s t ↔ InMachine t (view s)
 unfolding view
-in-view s t h = in-map (cell s) t (words s) .0 h
+in-view s t = in-map (cell s) t (words s)
 
 -- what an operand is
 module _ (s : List ℕ) (i : ℕ) (h : i < temporaries s) where

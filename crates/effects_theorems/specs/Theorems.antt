@@ -1,14 +1,14 @@
 -- What is proved of effects on words. Demand 2 of document 01 rests on it: what an instruction leaves is sound again, its view
 -- is the effect that the manual speaks of, every variable that is not stored to is seen as before, though arrays are shared,
 -- and (1,2) is given exactly where no free block is long enough. Proved in proofs/Theorems. Assumes nothing.
-use Prim.Native.Nat.{ℕ, _-_}
+use Prim.Native.Nat.{ℕ, _-_, _≤_, _<_}
 use mathlib.Core.Path.{_≡_}
 use mathlib.Core.Bool.{Bool, true, false}
 use mathlib.Core.Logic.{_↔_, _≢_, _⊎_}
 use mathlib.Core.List.{List, [], _∷_}
-use lib.ListN.{length}
+use lib.ListN.{getD, length}
 use Rattle.descriptor.specs.declared.Target.{Target}
-use Rattle.segment.specs.State.{sbase}
+use Rattle.segment.specs.State.{sbase, flags}
 use Rattle.segment.specs.Cells.{undefined}
 use Rattle.storage.specs.Heap.{Block}
 use Rattle.view.specs.View.{view}
@@ -41,11 +41,70 @@ StoresTo (leaves n result) u = ⊥
 StoresTo (jumps place) u = ⊥
 StoresTo (setsOrigin v) u = ⊥
 
+-- What effects leave of the state words: SBASE, the trap's word, BLOCKPTR and the three behind it. The length stays too.
+pub record StateKept (s after : List ℕ) : Type 0 where
+  pub long : length after ≡ length s
+  pub base : sbase after ≡ sbase s
+  pub rest : (i : ℕ) → 3 ≤ i → i < 8 → getD after i 0 ≡ getD s i 0
+
+-- The effect writes the flags.
+abbrev pub SetsFlags : Effect → Type 0
+SetsFlags (replaces n source) = ⊥
+SetsFlags (discards n) = ⊥
+SetsFlags swaps = ⊥
+SetsFlags (stores t source) = ⊥
+SetsFlags (storesElement t place w n) = ⊥
+SetsFlags (enters n f) = ⊥
+SetsFlags (leaves n result) = ⊥
+SetsFlags (jumps place) = ⊥
+SetsFlags (setsOrigin v) = Unit {0}
+
 -- ---- effects one after the other
 
 pub record PerformedAll (s : List ℕ) (es : List Effect) : Type 0 where
   pub sound : Sound (performs s es)
   pub seen : view (performs s es) ≡ performAll es (view s)
+
+-- The variable stands before the effects, after them, and between each two of them.
+abbrev pub StandsThrough : List ℕ → List Effect → Target → Type 0
+StandsThrough s [] t = IsVariable s t
+StandsThrough s (e ∷ es) t = IsVariable s t × StandsThrough (perform s e) es t
+
+abbrev pub NoneStoresTo : List Effect → Target → Type 0
+NoneStoresTo [] t = Unit {0}
+NoneStoresTo (e ∷ es) t = (StoresTo e t → ⊥) × NoneStoresTo es t
+
+-- The effect enters a frame; it leaves one.
+abbrev pub entersFrame : Effect → Bool
+entersFrame (replaces n source) = false
+entersFrame (discards n) = false
+entersFrame swaps = false
+entersFrame (stores t source) = false
+entersFrame (storesElement t place w n) = false
+entersFrame (enters n f) = true
+entersFrame (leaves n result) = false
+entersFrame (jumps place) = false
+entersFrame (setsOrigin v) = false
+
+abbrev pub leavesFrame : Effect → Bool
+leavesFrame (replaces n source) = false
+leavesFrame (discards n) = false
+leavesFrame swaps = false
+leavesFrame (stores t source) = false
+leavesFrame (storesElement t place w n) = false
+leavesFrame (enters n f) = false
+leavesFrame (leaves n result) = true
+leavesFrame (jumps place) = false
+leavesFrame (setsOrigin v) = false
+
+-- No frame is entered once one was left, as in every plan of the manual.
+abbrev pub NoneEnters : List Effect → Type 0
+NoneEnters [] = Unit {0}
+NoneEnters (e ∷ es) = (entersFrame e ≡ false) × NoneEnters es
+
+abbrev pub EntersFirst : List Effect → Type 0
+EntersFirst [] = Unit {0}
+EntersFirst (e ∷ es) = (leavesFrame e ≡ true → NoneEnters es) × EntersFirst es
 
 -- Some effect asks for a block, and no free block is long enough.
 abbrev pub AsksInVain : List ℕ → List Block → List Effect → Type 0
@@ -59,7 +118,17 @@ pub record EffectsTheorems : Type 0 where
   -- Every variable that stands before and after, and that is not stored to, is seen as before.
   pub others : (s : List ℕ) → Sound s → (e : Effect) → Fits s e → isFull s e ≡ false → (t : Target) → IsVariable s t → IsVariable (perform s e) t
       → (StoresTo e t → ⊥) → look undefined t (view (perform s e)) ≡ look undefined t (view s)
+  -- State words that are not the effect's stay.
+  pub kept : (s : List ℕ) → Sound s → (e : Effect) → Fits s e → isFull s e ≡ false → StateKept s (perform s e)
+  pub flagsKept : (s : List ℕ) → Sound s → (e : Effect) → Fits s e → isFull s e ≡ false → (SetsFlags e → ⊥) → flags (perform s e) ≡ flags s
   pub allPerformed : (s : List ℕ) → Sound s → (es : List Effect) → AllFit s es → OneRequest es → anyFull s es ≡ false → PerformedAll s es
+  pub allKept : (s : List ℕ) → Sound s → (es : List Effect) → AllFit s es → OneRequest es → anyFull s es ≡ false → StateKept s (performs s es)
+  -- Every variable that stands all through, and that none stores to, is seen as before.
+  pub allOthers : (s : List ℕ) → Sound s → (es : List Effect) → AllFit s es → OneRequest es → anyFull s es ≡ false → (t : Target) → StandsThrough s es t
+      → NoneStoresTo es t → look undefined t (view (performs s es)) ≡ look undefined t (view s)
+  -- Where no frame is entered once one was left, a variable that stands before and after stands all through.
+  pub stands : (s : List ℕ) → Sound s → (es : List Effect) → AllFit s es → OneRequest es → anyFull s es ≡ false → EntersFirst es → (t : Target)
+      → IsVariable s t → IsVariable (performs s es) t → StandsThrough s es t
   -- (1,2) is given exactly where a block is asked for and none is long enough.
   pub full : (s : List ℕ) (sound : Sound s) (es : List Effect) → FirstFits s es → OneRequest es → (anyFull s es ≡ true) ↔ AsksInVain s (sound .own .blocks) es
   -- What an instruction of the running function sees of the words is what it sees of the view.

@@ -114,7 +114,7 @@ planOf f seen (I.Control op) next = controlPlan f seen next op
 planOf f seen (I.Jump jump place) next = jumpPlan f seen next jump (place .0)
 planOf f seen (I.ConstantScalar w) next = loads.constantScalar seen next w
 planOf f seen (I.ConstantVector count first) next =
-    loads.constantVector seen next (wordsFrom (count % 2 ^ 8) (codeOf (segmentOf f) (f .block)) (first .0))
+    loads.constantVector seen next (wordsFrom (count % 2 ^ 8) (codeOf (segmentOf f) (f .block)) (first .0 % 2 ^ 16))
 planOf f seen (I.Call arguments alternate number) next = callPlan f seen next arguments alternate (number % 2 ^ 11)
 planOf f seen (I.Index rank) next = scalars.index seen next (rank % 2 ^ 4)
 

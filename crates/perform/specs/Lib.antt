@@ -1,2 +1,3 @@
--- What instructions come to on words.
+-- What effects and instructions come to on words.
+pub mod Done
 pub mod Carried

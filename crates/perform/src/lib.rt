@@ -1,4 +1,6 @@
 // The effects of which instructions are made, done on a lent data segment.
+pub mod frames;
+pub mod taking;
 
 // What an instruction did. After `Trapped` no word has changed.
 pub enum Outcome {
@@ -6,4 +8,10 @@ pub enum Outcome {
     Entered,
     Left,
     Trapped(u8, u8),
+}
+
+// Whether an effect that asks for storage was done; where it was not, no word has changed.
+pub enum Done {
+    Done,
+    Full,
 }

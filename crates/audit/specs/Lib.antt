@@ -1,0 +1,5 @@
+-- The demands.
+pub mod Calls
+pub mod Meets
+pub mod Demands
+pub mod ParList

@@ -1,0 +1,3 @@
+-- Lay out, and what it leaves.
+pub mod LayOut
+pub mod Fresh

@@ -1,0 +1,1 @@
+// What a lay out makes of a segment.

@@ -1,0 +1,2 @@
+-- What an accepted segment is, told by cells.
+pub mod Theorem

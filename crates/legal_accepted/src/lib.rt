@@ -1,0 +1,1 @@
+// An accepted segment is a sound one whose view is legal.

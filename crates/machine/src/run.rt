@@ -1,0 +1,33 @@
+// Runs: steps up to a budget, or a trap.
+ghost use mathlib.Core.Path.{_≡_};
+ghost use Prim.Native.Nat.{_≤_};
+ghost use lib.ListN.{length};
+ghost use Rattle.stepping.specs.Run.{ended, runOf};
+use stepping::Ran;
+use stepping::Stepped;
+use super::step::step;
+use segment::put;
+
+// At most `budget` instructions.
+pub fn run(seg: &mut [u32], regular: &[u8], other: &[u8], budget: u32) -> Ran
+    requires { ⌜ length (now seg) ≤ 16384 ⌝ }
+    ensures { λ r. ⌜ ended r (now (seg .exit)) ≡ runOf (now (regular .entry)) (now (other .entry)) (now (seg .entry)) budget ⌝ }
+{
+    put(seg, 3, 0);
+    let mut scratch = [0u32; 16384];
+    let mut steps = 0;
+    while steps < budget {
+        match step(seg, regular, other, &mut scratch) {
+            Stepped::Finished => {
+                steps += 1;
+            }
+            Stepped::Traced(_, _) => {
+                return Ran::Trapped(steps + 1);
+            }
+            Stepped::Trapped(_, _) => {
+                return Ran::Trapped(steps);
+            }
+        }
+    }
+    Ran::Done(steps)
+}

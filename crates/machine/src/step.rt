@@ -1,0 +1,117 @@
+// One step: fetch, decode, do, then the trace and step traps.
+ghost use mathlib.Core.Path.{_≡_};
+ghost use mathlib.Core.Bool.{Bool};
+ghost use Prim.Native.Nat.{_≤_, _<_, _^_};
+ghost use lib.ListN.{length};
+ghost use Rattle.procedure.specs.Directory.{selected, functionOf};
+ghost use Rattle.stepping.specs.Step as meaning;
+use stepping::Stepped;
+use super::dispatch::execute;
+use instruction::Decoded;
+use instruction::decode::decode;
+use perform::Outcome;
+use procedure::directory::Function;
+use procedure::directory::find;
+use procedure::directory::start_of;
+use procedure::header::Block;
+use procedure::header::Header;
+use procedure::header::header_at;
+use segment::stack::alternate;
+use segment::stack::function_number;
+use segment::stack::pctr;
+use segment::state::fcnctrc;
+use segment::state::fcnrtrc;
+use segment::state::lbase;
+use segment::state::set_trap;
+use segment::state::step_flag;
+
+pub fn step(seg: &mut [u32], regular: &[u8], other: &[u8], scratch: &mut [u32]) -> Stepped
+    requires { ⌜ (length (now seg) ≤ 16384) × (length (now scratch) ≡ 16384) ⌝ }
+    ensures { λ r. ⌜ meaning.after r (now (seg .exit)) ≡ meaning.stepOf (now (regular .entry)) (now (other .entry)) (now (seg .entry)) ⌝ }
+{
+    let base = lbase(seg);
+    let selector = alternate(seg, base);
+    match function(regular, other, selector, function_number(seg, base) as u16) {
+        Function::Absent => trap(seg, 3, 1),
+        Function::At(block) => step_in(seg, regular, other, selector, block, scratch),
+    }
+}
+
+fn function(regular: &[u8], other: &[u8], selector: bool, number: u16) -> Function
+    ensures { λ r. ⌜ r ≡ functionOf (selected selector (now (regular .entry)) (now (other .entry))) number ⌝ }
+{
+    if selector {
+        return find(other, number);
+    }
+    find(regular, number)
+}
+
+fn step_in(seg: &mut [u32], regular: &[u8], other: &[u8], selector: bool, block: Block, scratch: &mut [u32]) -> Stepped
+    requires { ⌜ (length (now seg) ≤ 16384) × (length (now scratch) ≡ 16384) ⌝ }
+    ensures { λ r. ⌜ meaning.after r (now (seg .exit)) ≡ meaning.stepIn (record { regular = now (regular .entry); alternate = now (other .entry); selector = selector; block = block }) (now (seg .entry)) ⌝ }
+{
+    match decode(regular, other, selector, block, pctr(seg, lbase(seg))) {
+        Decoded::Trap(class, number) => trap(seg, class, number),
+        Decoded::Instruction(i, next) => {
+            let outcome = execute(seg, regular, other, selector, block, i, next.number(), scratch);
+            settle(seg, regular, other, block.header.rtntrace, outcome)
+        }
+    }
+}
+
+// What is due after an instruction: its trap, or a trace or the step trap.
+fn settle(seg: &mut [u32], regular: &[u8], other: &[u8], rtntrace: bool, outcome: Outcome) -> Stepped
+    ensures { λ r. ⌜ meaning.after r (now (seg .exit)) ≡ meaning.settled (now (regular .entry)) (now (other .entry)) rtntrace outcome (now (seg .entry)) ⌝ }
+{
+    match outcome {
+        Outcome::Trapped(class, number) => trap(seg, class, number),
+        Outcome::Finished => finish(seg, false, 0),
+        Outcome::Entered => {
+            let traced = fcnctrc(seg) && current_header(seg, regular, other).calltrace;
+            finish(seg, traced, 2)
+        }
+        Outcome::Left => {
+            let traced = fcnrtrc(seg) && rtntrace;
+            finish(seg, traced, 3)
+        }
+    }
+}
+
+fn current_header(seg: &[u32], regular: &[u8], other: &[u8]) -> Header
+    ensures { λ r. ⌜ r ≡ meaning.currentHeader (now (regular .entry)) (now (other .entry)) (now (seg .entry)) ⌝ }
+{
+    let base = lbase(seg);
+    let number = function_number(seg, base) as u16;
+    if alternate(seg, base) {
+        return header_at(other, start_of(other, number));
+    }
+    header_at(regular, start_of(regular, number))
+}
+
+// The instruction is done; a trace goes before the step trap.
+fn finish(seg: &mut [u32], traced: bool, trace: u8) -> Stepped
+    ensures { λ r. ⌜ meaning.after r (now (seg .exit)) ≡ meaning.finished (meaning.dueIf traced trace (now (seg .entry))) (now (seg .entry)) ⌝ }
+{
+    if traced {
+        return trace_trap(seg, trace);
+    }
+    if step_flag(seg) {
+        return trace_trap(seg, 1);
+    }
+    Stepped::Finished
+}
+
+fn trace_trap(seg: &mut [u32], number: u8) -> Stepped
+    requires { ⌜ 0 < number ⌝ }
+    ensures { λ r. ⌜ meaning.after r (now (seg .exit)) ≡ meaning.finished number (now (seg .entry)) ⌝ }
+{
+    set_trap(seg, 2, number);
+    Stepped::Traced(2, number)
+}
+
+fn trap(seg: &mut [u32], class: u8, number: u8) -> Stepped
+    ensures { λ r. ⌜ meaning.after r (now (seg .exit)) ≡ meaning.trapped (now (seg .entry)) class number ⌝ }
+{
+    set_trap(seg, class, number);
+    Stepped::Trapped(class, number)
+}

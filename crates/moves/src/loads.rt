@@ -1,0 +1,160 @@
+// Instructions that push: loads, constants, REFERENCE, TEST_DEFINED, UNDEFINED, GETORIGIN.
+ghost use mathlib.Core.Path.{_≡_};
+ghost use mathlib.Core.List.{List};
+ghost use Prim.Native.Nat.{_≤_, _<_, _%_, _^_};
+ghost use lib.ListN.{length, take};
+ghost use Rattle.descriptor.specs.Fields.{integerWord};
+ghost use Rattle.descriptor.specs.Kinds.{bit};
+ghost use Rattle.manual.specs.Effects as effect;
+ghost use Rattle.manual.specs.Instructions.{wordsFrom};
+ghost use Rattle.manual.specs.Loads as plan;
+ghost use Rattle.effects.specs.Seen.{seen};
+ghost use Rattle.stack.specs.Variables.{variableSeen, Sure};
+ghost use Rattle.perform.specs.Carried.{did, carry};
+use descriptor::Descriptor;
+use descriptor::Target;
+use descriptor::address::CodeAddress;
+use elements::kinds::any_other;
+use perform::Outcome;
+use perform::Done;
+use perform::taking::jump;
+use perform::taking::replace_by_array;
+use perform::taking::replace_by_share;
+use perform::taking::replace_by_word;
+use procedure::bytes::word_at;
+use segment::state::iorg;
+use stack::operands::is_undefined;
+use stack::operands::room;
+use stack::variables::Resolved;
+use stack::variables::reference_word;
+
+// A word that names no array.
+pub fn push_word(seg: &mut [u32], w: u32, next: u32) -> Outcome
+    requires { ⌜ length (now seg) ≤ 16384 ⌝ }
+    ensures { λ r. ⌜ did r (now (seg .exit)) ≡ carry (now (seg .entry)) (plan.push (seen (now (seg .entry))) next (effect.word w)) ⌝ }
+{
+    if room(seg) < 1 {
+        return Outcome::Trapped(1, 1);
+    }
+    replace_by_word(seg, 0, w);
+    jump(seg, next);
+    Outcome::Finished
+}
+
+pub fn load(seg: &mut [u32], variable: Resolved, next: u32) -> Outcome
+    requires { ⌜ (length (now seg) ≤ 16384) × Sure (now seg) variable ⌝ }
+    ensures { λ r. ⌜ did r (now (seg .exit)) ≡ carry (now (seg .entry)) (plan.load (seen (now (seg .entry))) next (variableSeen (now (seg .entry)) variable)) ⌝ }
+{
+    match variable {
+        Resolved::Trap(class, number) => Outcome::Trapped(class, number),
+        Resolved::At(_, w) => load_word(seg, w, next),
+    }
+}
+
+// The word that the variable holds is pushed, and counted.
+fn load_word(seg: &mut [u32], w: u32, next: u32) -> Outcome {
+    if is_undefined(w) {
+        return Outcome::Trapped(10, 0);
+    }
+    if room(seg) < 1 {
+        return Outcome::Trapped(1, 1);
+    }
+    replace_by_share(seg, 0, w);
+    jump(seg, next);
+    Outcome::Finished
+}
+
+pub fn refer(seg: &mut [u32], variable: Resolved, next: u32) -> Outcome
+    requires { ⌜ length (now seg) ≤ 16384 ⌝ }
+    ensures { λ r. ⌜ did r (now (seg .exit)) ≡ carry (now (seg .entry)) (plan.referTo (seen (now (seg .entry))) next (variableSeen (now (seg .entry)) variable)) ⌝ }
+{
+    match variable {
+        Resolved::Trap(class, number) => Outcome::Trapped(class, number),
+        Resolved::At(t, _) => push_word(seg, reference_word(t), next),
+    }
+}
+
+pub fn test_defined(seg: &mut [u32], variable: Resolved, next: u32) -> Outcome
+    requires { ⌜ length (now seg) ≤ 16384 ⌝ }
+    ensures { λ r. ⌜ did r (now (seg .exit)) ≡ carry (now (seg .entry)) (plan.testDefined (seen (now (seg .entry))) next (variableSeen (now (seg .entry)) variable)) ⌝ }
+{
+    match variable {
+        Resolved::Trap(class, number) => Outcome::Trapped(class, number),
+        Resolved::At(_, w) => push_word(seg, if is_undefined(w) { 0 } else { 1 }, next),
+    }
+}
+
+pub fn push_undefined(seg: &mut [u32], next: u32) -> Outcome
+    requires { ⌜ length (now seg) ≤ 16384 ⌝ }
+    ensures { λ r. ⌜ did r (now (seg .exit)) ≡ carry (now (seg .entry)) (plan.pushUndefined (seen (now (seg .entry))) next) ⌝ }
+{
+    push_word(seg, Descriptor::UNDEFINED, next)
+}
+
+pub fn get_origin(seg: &mut [u32], next: u32) -> Outcome
+    requires { ⌜ length (now seg) ≤ 16384 ⌝ }
+    ensures { λ r. ⌜ did r (now (seg .exit)) ≡ carry (now (seg .entry)) (plan.getOrigin (seen (now (seg .entry))) next) ⌝ }
+{
+    let origin = iorg(seg);
+    push_word(seg, origin, next)
+}
+
+pub fn short_constant(seg: &mut [u32], negative: bool, magnitude: u32, next: u32) -> Outcome
+    requires { ⌜ length (now seg) ≤ 16384 ⌝ }
+    ensures { λ r. ⌜ did r (now (seg .exit)) ≡ carry (now (seg .entry)) (plan.shortConstant (seen (now (seg .entry))) next (integerWord (bit negative) (magnitude % 2 ^ 12))) ⌝ }
+{
+    push_word(seg, Descriptor::integer(negative, magnitude % 0x1000).word(), next)
+}
+
+pub fn constant_scalar(seg: &mut [u32], w: u32, next: u32) -> Outcome
+    requires { ⌜ length (now seg) ≤ 16384 ⌝ }
+    ensures { λ r. ⌜ did r (now (seg .exit)) ≡ carry (now (seg .entry)) (plan.constantScalar (seen (now (seg .entry))) next w) ⌝ }
+{
+    if Descriptor::of(w).is_scalar() {
+        return push_word(seg, w, next);
+    }
+    Outcome::Trapped(3, 5)
+}
+
+// The words stand in the code from `first` on.
+pub fn constant_vector(seg: &mut [u32], code: &[u8], count: u8, first: CodeAddress, next: u32, scratch: &mut [u32]) -> Outcome
+    requires { ⌜ (length (now seg) ≤ 16384) × (length (now scratch) ≡ 16384) ⌝ }
+    ensures { λ r. ⌜ did r (now (seg .exit)) ≡ carry (now (seg .entry)) (plan.constantVector (seen (now (seg .entry))) next (wordsFrom (count % 2 ^ 8) (now (code .entry)) (first .0 % 2 ^ 16))) ⌝ }
+{
+    let n = count as usize;
+    read_words(code, first, &mut scratch[..n]);
+    push_vector(seg, &scratch[..n], next)
+}
+
+fn push_vector(seg: &mut [u32], words: &[u32], next: u32) -> Outcome
+    requires { ⌜ (length (now seg) ≤ 16384) × (length (now words) < 2 ^ 8) ⌝ }
+    ensures { λ r. ⌜ did r (now (seg .exit)) ≡ carry (now (seg .entry)) (plan.constantVector (seen (now (seg .entry))) next (now (words .entry))) ⌝ }
+{
+    if any_other(words) {
+        return Outcome::Trapped(3, 5);
+    }
+    if room(seg) < 1 {
+        return Outcome::Trapped(1, 1);
+    }
+    let lengths = [words.len() as u32];
+    match replace_by_array(seg, 0, &lengths, words) {
+        Done::Full => Outcome::Trapped(1, 2),
+        Done::Done => {
+            jump(seg, next);
+            Outcome::Finished
+        }
+    }
+}
+
+fn read_words(code: &[u8], first: CodeAddress, out: &mut [u32])
+    requires { ⌜ length (now out) < 2 ^ 8 ⌝ }
+    ensures { λ _. ⌜ now (out .exit) ≡ wordsFrom (length (now (out .entry))) (now (code .entry)) (first .0 % 2 ^ 16) ⌝ }
+{
+    let start = first.number() % 0x1_0000;
+    let n = out.len();
+    let mut i = 0;
+    while i < n {
+        out[i] = word_at(code, start + 4 * i as u32);
+        i += 1;
+    }
+}

@@ -1,0 +1,5 @@
+-- The four operations, each by one definition of its answer and of the segment after it.
+pub mod Answers
+pub mod Run
+pub mod Load
+pub mod Look

@@ -1,0 +1,30 @@
+-- Run. Document 01's table: 10–18; then 2 and the steps where the number asked was done, 3 and the steps at a trap. Assumes
+-- nothing.
+use Prim.Native.Nat.{ℕ}
+use mathlib.Core.Bool.{cond}
+use mathlib.Core.List.{List}
+use lib.Dec.{eqb}
+use Rattle.acceptance.specs.Refusal.{refusal}
+use Rattle.stepping.specs.declared.Ran.{Ran}
+use Rattle.stepping.specs.declared.Ran.the-variants as machine
+use Rattle.stepping.specs.Run.{Outcome, runOf}
+use Rattle.operations.specs.declared.Run.{Run}
+use Rattle.operations.specs.declared.Run.the-variants.{Done, Trapped, Refused}
+
+pub record Ended : Type 0 where
+  pub answer : Run
+  pub words : List ℕ
+
+abbrev pub ended : Run → List ℕ → Ended
+ended answer s = record { answer = answer; words = s }
+
+abbrev pub answerOf : Ran → Run
+answerOf (machine.Done steps) = Done steps
+answerOf (machine.Trapped steps) = Trapped steps
+
+abbrev pub accepted : Outcome → Ended
+accepted o = ended (answerOf (o .answer)) (o .words)
+
+unfoldable pub ran : List ℕ → List ℕ → List ℕ → ℕ → Ended
+ran s regular other budget =
+    cond (eqb (refusal s regular other) 0) (accepted (runOf regular other s budget)) (ended (Refused (refusal s regular other)) s)

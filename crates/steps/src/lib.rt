@@ -1,0 +1,1 @@
+// What is proved of steps and runs on an accepted segment.

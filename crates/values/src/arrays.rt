@@ -1,0 +1,186 @@
+// SHAPE, RAVEL, CATENATE, INDEXGEN, RESHAPE.
+ghost use mathlib.Core.Path.{_≡_};
+ghost use Prim.Native.Nat.{_≤_};
+ghost use lib.ListN.{length};
+ghost use Rattle.manual.specs.Scalars as plan;
+ghost use Rattle.effects.specs.Seen.{seen};
+ghost use Rattle.perform.specs.Carried.{did, carry};
+use super::operands::copy_ravel;
+use super::operands::rank_of;
+use super::operands::single;
+use super::operands::size_of;
+use super::results::replace_by_new;
+use super::results::replace_by_vector;
+use elements::Finished;
+use elements::copies::copy;
+use elements::copies::cycle;
+use elements::copies::fill;
+use elements::copies::up_from;
+use elements::shapes;
+use perform::Outcome;
+use perform::taking::jump;
+use perform::taking::replace_by_word;
+use scalar::Answer;
+use segment::state::iorg;
+use stack::operands::Operand;
+use stack::operands::Value;
+use stack::operands::count;
+use stack::operands::elements_of;
+use stack::operands::lengths_of;
+use stack::operands::operand_at;
+use stack::operands::value_of;
+
+pub fn shape(seg: &mut [u32], next: u32) -> Outcome
+    requires { ⌜ length (now seg) ≤ 16384 ⌝ }
+    ensures { λ r. ⌜ did r (now (seg .exit)) ≡ carry (now (seg .entry)) (plan.shape (seen (now (seg .entry))) next) ⌝ }
+{
+    if count(seg) < 1 {
+        return Outcome::Trapped(3, 4);
+    }
+    let Operand::Value(v) = value_of(seg, operand_at(seg, 0)) else {
+        return Outcome::Trapped(3, 5);
+    };
+    let mut lengths = [0u32; 16];
+    let rank = rank_of(seg, v);
+    if let Value::Array(block) = v {
+        copy(lengths_of(seg, block), &mut lengths[..rank]);
+    }
+    replace_by_vector(seg, 1, &lengths[..rank], next)
+}
+
+pub fn ravel(seg: &mut [u32], next: u32, scratch: &mut [u32]) -> Outcome
+    requires { ⌜ (length (now seg) ≤ 16384) × (length (now scratch) ≡ 16384) ⌝ }
+    ensures { λ r. ⌜ did r (now (seg .exit)) ≡ carry (now (seg .entry)) (plan.ravel (seen (now (seg .entry))) next) ⌝ }
+{
+    if count(seg) < 1 {
+        return Outcome::Trapped(3, 4);
+    }
+    let Operand::Value(v) = value_of(seg, operand_at(seg, 0)) else {
+        return Outcome::Trapped(3, 5);
+    };
+    let n = size_of(seg, v);
+    copy_ravel(seg, v, &mut scratch[..n]);
+    replace_by_vector(seg, 1, &scratch[..n], next)
+}
+
+pub fn catenate(seg: &mut [u32], next: u32, scratch: &mut [u32]) -> Outcome
+    requires { ⌜ (length (now seg) ≤ 16384) × (length (now scratch) ≡ 16384) ⌝ }
+    ensures { λ r. ⌜ did r (now (seg .exit)) ≡ carry (now (seg .entry)) (plan.catenate (seen (now (seg .entry))) next) ⌝ }
+{
+    if count(seg) < 2 {
+        return Outcome::Trapped(3, 4);
+    }
+    let Operand::Value(a) = value_of(seg, operand_at(seg, 0)) else {
+        return Outcome::Trapped(3, 5);
+    };
+    let Operand::Value(b) = value_of(seg, operand_at(seg, 1)) else {
+        return Outcome::Trapped(3, 5);
+    };
+    if 1 < rank_of(seg, a) {
+        return Outcome::Trapped(5, 0);
+    }
+    if 1 < rank_of(seg, b) {
+        return Outcome::Trapped(5, 0);
+    }
+    join(seg, a, b, next, scratch)
+}
+
+fn join(seg: &mut [u32], a: Value, b: Value, next: u32, scratch: &mut [u32]) -> Outcome {
+    let m = size_of(seg, a);
+    let n = size_of(seg, b);
+    // two arrays of one segment have fewer than 65,536 elements together; no block is longer than the scratch
+    if scratch.len() < m + n {
+        return Outcome::Trapped(1, 2);
+    }
+    copy_ravel(seg, a, &mut scratch[..m]);
+    copy_ravel(seg, b, &mut scratch[m..m + n]);
+    replace_by_vector(seg, 2, &scratch[..m + n], next)
+}
+
+pub fn index_generator(seg: &mut [u32], next: u32, scratch: &mut [u32]) -> Outcome
+    requires { ⌜ (length (now seg) ≤ 16384) × (length (now scratch) ≡ 16384) ⌝ }
+    ensures { λ r. ⌜ did r (now (seg .exit)) ≡ carry (now (seg .entry)) (plan.indexGenerator (seen (now (seg .entry))) next) ⌝ }
+{
+    if count(seg) < 1 {
+        return Outcome::Trapped(3, 4);
+    }
+    let Operand::Value(v) = value_of(seg, operand_at(seg, 0)) else {
+        return Outcome::Trapped(3, 5);
+    };
+    match single(seg, v) {
+        Answer::Trap(class, number) => Outcome::Trapped(class, number),
+        Answer::Word(w) => match shapes::short(w) {
+            Answer::Trap(class, number) => Outcome::Trapped(class, number),
+            Answer::Word(n) => generate(seg, n as usize, next, scratch),
+        },
+    }
+}
+
+fn generate(seg: &mut [u32], n: usize, next: u32, scratch: &mut [u32]) -> Outcome {
+    if scratch.len() < n {
+        return Outcome::Trapped(1, 2);
+    }
+    up_from(iorg(seg), &mut scratch[..n]);
+    replace_by_vector(seg, 1, &scratch[..n], next)
+}
+
+pub fn reshape(seg: &mut [u32], next: u32, scratch: &mut [u32]) -> Outcome
+    requires { ⌜ (length (now seg) ≤ 16384) × (length (now scratch) ≡ 16384) ⌝ }
+    ensures { λ r. ⌜ did r (now (seg .exit)) ≡ carry (now (seg .entry)) (plan.reshape (seen (now (seg .entry))) next) ⌝ }
+{
+    if count(seg) < 2 {
+        return Outcome::Trapped(3, 4);
+    }
+    let Operand::Value(a) = value_of(seg, operand_at(seg, 0)) else {
+        return Outcome::Trapped(3, 5);
+    };
+    let Operand::Value(b) = value_of(seg, operand_at(seg, 1)) else {
+        return Outcome::Trapped(3, 5);
+    };
+    if 1 < rank_of(seg, a) {
+        return Outcome::Trapped(5, 0);
+    }
+    if 15 < size_of(seg, a) {
+        return Outcome::Trapped(5, 0);
+    }
+    read_lengths(seg, a, b, next, scratch)
+}
+
+fn read_lengths(seg: &mut [u32], a: Value, b: Value, next: u32, scratch: &mut [u32]) -> Outcome {
+    let mut words = [0u32; 16];
+    let mut lengths = [0u32; 16];
+    let rank = size_of(seg, a);
+    copy_ravel(seg, a, &mut words[..rank]);
+    match shapes::lengths(&words[..rank], &mut lengths[..rank]) {
+        Finished::Trap(class, number) => Outcome::Trapped(class, number),
+        Finished::Done => fill_shape(seg, &lengths[..rank], b, next, scratch),
+    }
+}
+
+fn fill_shape(seg: &mut [u32], lengths: &[u32], b: Value, next: u32, scratch: &mut [u32]) -> Outcome {
+    let n = shapes::product(lengths) as usize;
+    if 0x1_0000 <= n {
+        return Outcome::Trapped(8, 5);
+    }
+    if size_of(seg, b) == 0 && n != 0 {
+        return Outcome::Trapped(6, 0);
+    }
+    if scratch.len() < n {
+        return Outcome::Trapped(1, 2);
+    }
+    match b {
+        Value::Scalar(w) => fill(w, &mut scratch[..n]),
+        Value::Array(block) => cycle(elements_of(seg, block), &mut scratch[..n]),
+    }
+    reshaped(seg, lengths, &scratch[..n], next)
+}
+
+// No lengths make a scalar.
+fn reshaped(seg: &mut [u32], lengths: &[u32], ravel: &[u32], next: u32) -> Outcome {
+    if lengths.len() == 0 {
+        replace_by_word(seg, 2, ravel[0]);
+        jump(seg, next);
+        return Outcome::Finished;
+    }
+    replace_by_new(seg, 2, lengths, ravel, next)
+}

@@ -1,0 +1,62 @@
+// INDEX: the element that subscripts lead to.
+ghost use mathlib.Core.Path.{_≡_};
+ghost use Prim.Native.Nat.{_≤_, _%_, _^_};
+ghost use lib.ListN.{length};
+ghost use Rattle.manual.specs.Scalars as plan;
+ghost use Rattle.effects.specs.Seen.{seen};
+ghost use Rattle.perform.specs.Carried.{did, carry};
+use descriptor::address::SegmentAddress;
+use elements::Found;
+use elements::subscripts::place;
+use perform::Outcome;
+use perform::taking::jump;
+use perform::taking::replace_by_word;
+use segment::state::iorg;
+use segment::word;
+use stack::operands::Operand;
+use stack::operands::Value;
+use stack::operands::count;
+use stack::operands::elements_of;
+use stack::operands::lengths_of;
+use stack::operands::operand_at;
+use stack::operands::value_of;
+use stack::taken::Taken;
+use stack::taken::take_scalars;
+
+pub fn index(seg: &mut [u32], rank: u8, next: u32) -> Outcome
+    requires { ⌜ length (now seg) ≤ 16384 ⌝ }
+    ensures { λ r. ⌜ did r (now (seg .exit)) ≡ carry (now (seg .entry)) (plan.index (seen (now (seg .entry))) next (rank % 2 ^ 4)) ⌝ }
+{
+    let n = (rank % 16) as u32;
+    if count(seg) < n + 1 {
+        return Outcome::Trapped(3, 4);
+    }
+    let Operand::Value(a) = value_of(seg, operand_at(seg, 0)) else {
+        return Outcome::Trapped(3, 5);
+    };
+    let mut subscripts = [0u32; 16];
+    match take_scalars(seg, 1, n, false, &mut subscripts) {
+        Taken::Foreign => Outcome::Trapped(3, 5),
+        Taken::NoScalar => Outcome::Trapped(5, 0),
+        Taken::Words => match a {
+            Value::Scalar(_) => Outcome::Trapped(5, 0),
+            Value::Array(block) => element(seg, block, &subscripts[..n as usize], next),
+        },
+    }
+}
+
+fn element(seg: &mut [u32], block: SegmentAddress, subscripts: &[u32], next: u32) -> Outcome {
+    let lengths = lengths_of(seg, block);
+    if subscripts.len() != lengths.len() {
+        return Outcome::Trapped(9, 1);
+    }
+    match place(iorg(seg), subscripts, lengths) {
+        Found::Trap(class, number) => Outcome::Trapped(class, number),
+        Found::At(k) => {
+            let w = word(elements_of(seg, block), k as usize);
+            replace_by_word(seg, subscripts.len() as u32 + 1, w);
+            jump(seg, next);
+            Outcome::Finished
+        }
+    }
+}
