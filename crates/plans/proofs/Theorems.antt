@@ -88,8 +88,8 @@ module _ (s : List ℕ) (g : Sound s) (f : Running) (v : Seen) (h : Sees s (vari
   plan-fits (I.Jump J.GoFalse place) next = goIf-fits s g hd v h next false (place .0)
   plan-fits (I.ConstantScalar w) next = scalar-fits s g vars v h next w
   plan-fits (I.ConstantVector count first) next =
-      vector-fits s g vars v h next (wordsFrom (count % 2 ^ 8) (codeOf (segmentOf f) (f .block)) (first .0))
-      (omega (arith, words-length (count % 2 ^ 8) (codeOf (segmentOf f) (f .block)) (first .0)))
+      vector-fits s g vars v h next (wordsFrom (count % 2 ^ 8) (codeOf (segmentOf f) (f .block)) (first .0 % 2 ^ 16))
+      (omega (arith, words-length (count % 2 ^ 8) (codeOf (segmentOf f) (f .block)) (first .0 % 2 ^ 16)))
   plan-fits (I.Call arguments alternate number) next =
       passed (Fitting s) (not (inDirectory alternate (f .regular) (f .alternate) (number % 2 ^ 11))) 3 1 _ (λ e.
       call-fits s g hd v h next (headerOfFunction (selected alternate (f .regular) (f .alternate)) (number % 2 ^ 11)) alternate (number % 2 ^ 11) arguments)
