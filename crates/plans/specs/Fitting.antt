@@ -15,7 +15,7 @@ use Rattle.effects.specs.Sound.{Sound}
 use Rattle.effects.specs.Alike.{Runs}
 use Rattle.effects.specs.Requests.{FirstFits, AllFit, OneRequest}
 
--- The words of a segment have 32 bits. A scalar of more is no scalar to LESS, which gives its sign.
+-- The words of a segment have 32 bits, as their type says in code. LESS gives a sign, and a longer word's need be no scalar.
 abbrev pub Words : List ℕ → Type 0
 Words s = (i : ℕ) → getD s i 0 < 2 ^ 32
 
