@@ -109,7 +109,7 @@ module _ (s : List ℕ) (g : Sound s) where
   base-view : depthOfFrames (view s .frames) - 2 ≡ lbase s
   base-view = omega (arith, depth-view)
 
-  long-temporaries : length (view s .temporaries) ≡ temporaries s
+  pub long-temporaries : length (view s .temporaries) ≡ temporaries s
   unfolding view words
   long-temporaries = length-map (words s .temporaries) (cell s) ∙ downward-length s (sbase s + lbase s + 2) (ltop s - (lbase s + 1))
 
@@ -148,7 +148,7 @@ module _ (s : List ℕ) (g : Sound s) where
           (no-older (cell s) (frame s (codeWordAt s (lbase s)) (sbase s) (lastLbaseAt s (lbase s) + 2) (lbase s))
           (framesFrom (lbase s) s (lastLbaseAt s (lbase s))) (omega (arith, depth-is c (lbase s) (omega arith)))))
 
-  long-current : length (currentCells (view s .frames)) ≡ length (currentCells (words s .frames))
+  pub long-current : length (currentCells (view s .frames)) ≡ length (currentCells (words s .frames))
   unfolding view
   long-current = ap length (sym (map-current (cell s) (words s .frames))) ∙ length-map (currentCells (words s .frames)) (cell s)
 

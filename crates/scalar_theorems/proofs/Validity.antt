@@ -45,10 +45,10 @@ unfolding isScalar kindOf
 valid-float w f h = record { word = f; scalar = simp h }
 
 -- bits 30–23 clear, and not minus zero
-valid-small : (w : ℕ) → w < 2 ^ 32 → w % 2 ^ 31 ≤ 8388607 → (w ≡ 2 ^ 31 → ⊥) → Valid w
+pub valid-small : (w : ℕ) → w < 2 ^ 32 → w % 2 ^ 31 ≤ 8388607 → (w ≡ 2 ^ 31 → ⊥) → Valid w
 valid-small w f l n = record { word = f; scalar = small-scalar w f l ∙ ap not (ne-eqb w (2 ^ 31) n) }
 
-valid-integer : (s n : ℕ) → s < 2 → n < 2 ^ 23 → Valid (integerWord s n)
+pub valid-integer : (s n : ℕ) → s < 2 → n < 2 ^ 23 → Valid (integerWord s n)
 valid-integer s n p l = go (eqb n 0) refl
   where
     go : (t : Bool) → eqb n 0 ≡ t → Valid (cond t 0 (s * 2 ^ 31 + n))

@@ -1,0 +1,2 @@
+-- What is proved of the plans of instructions.
+pub mod Fitting
