@@ -44,7 +44,7 @@ pub record AllPass (s regular other : List ℕ) : Type 0 where
   pub counts : countsTest s ≡ true
 
 -- A line of the table that lets pass.
-line : (b : Bool) (rest n : ℕ) → cond b rest (suc n) ≡ 0 → (b ≡ true) × (rest ≡ 0)
+pub line : (b : Bool) (rest n : ℕ) → cond b rest (suc n) ≡ 0 → (b ≡ true) × (rest ≡ 0)
 line true rest n h = (refl, h)
 line false rest n h = absurd (omega (arith, h))
 
