@@ -10,6 +10,7 @@ use Rattle.stepping.specs.declared.Ran.{Ran}
 use Rattle.stepping.specs.declared.Ran.the-variants as R
 use Rattle.stepping.specs.Step.{after, stepOf}
 use Rattle.stepping.specs.Run.{runOf}
+use Rattle.bounded.specs.Lent.{Lent}
 use Rattle.steps.specs.Steps.{Means}
 
 -- From `s`, with so many instructions left to do and so many finished, a run answers and leaves a segment. Every step counts one
@@ -30,6 +31,10 @@ pub data Runs (regular other : List ℕ) : ℕ → ℕ → List ℕ → Ran → 
 
 pub record RunTheorem : Type 0 where
   -- a run sets word 3 to zero first
-  pub run : (s regular other : List ℕ) → Accepted s regular other → (budget : ℕ)
+  pub run : (s regular other : List ℕ) → Lent s regular other → Accepted s regular other → (budget : ℕ)
       → Runs regular other budget 0 (set s 3 0) (runOf regular other s budget .answer) (runOf regular other s budget .words)
-  pub kept : (s regular other : List ℕ) → Accepted s regular other → (budget : ℕ) → Accepted (runOf regular other s budget .words) regular other
+  -- and what it leaves is accepted again, and of 32-bit words
+  pub accepted : (s regular other : List ℕ) → Lent s regular other → Accepted s regular other → (budget : ℕ)
+      → Accepted (runOf regular other s budget .words) regular other
+  pub lent : (s regular other : List ℕ) → Lent s regular other → Accepted s regular other → (budget : ℕ)
+      → Lent (runOf regular other s budget .words) regular other

@@ -12,10 +12,11 @@ use Rattle.acceptance.specs.Structure.{Accepted}
 use Rattle.manual.specs.OrTrap.{gives, trap}
 use Rattle.manual.specs.Effects.{Effect, Plan, look, performAll}
 use Rattle.effects.specs.Fits.{IsVariable}
-use Rattle.effects_theorems.specs.Theorems.{StoresToAny, AsksInVain}
+use Rattle.effects_theorems.specs.Theorems.{NoneStoresTo, AsksInVain}
 use Rattle.stepping.specs.declared.Stepped.{Stepped}
 use Rattle.stepping.specs.declared.Stepped.the-variants.{Finished, Traced, Trapped}
-use Rattle.stepping.specs.Step.{Result, trapped, stepOf}
+use Rattle.stepping.specs.Step.{trapped, stepOf}
+use Rattle.bounded.specs.Lent.{Lent}
 use Rattle.steps.specs.Planned.{nextPlan}
 
 -- The plan of the next instruction, by the view of the segment.
@@ -33,7 +34,7 @@ pub record Does (s regular other : List ℕ) (es : List Effect) : Type 0 where
   pub counted : Counted (stepOf regular other s .answer)
   pub seen : view (stepOf regular other s .words) ≡ performAll es (view s)
   -- a variable that no effect stores to is seen as before, though it shares storage
-  pub others : (t : Target) → IsVariable s t → IsVariable (stepOf regular other s .words) t → (StoresToAny es t → ⊥)
+  pub others : (t : Target) → IsVariable s t → IsVariable (stepOf regular other s .words) t → NoneStoresTo es t
       → look undefined t (view (stepOf regular other s .words)) ≡ look undefined t (view s)
 
 pub record Means (s regular other : List ℕ) (accepted : Accepted s regular other) : Type 0 where
@@ -49,4 +50,5 @@ pub record Means (s regular other : List ℕ) (accepted : Accepted s regular oth
       → Does s regular other es
 
 pub record StepTheorem : Type 0 where
-  pub step : (s regular other : List ℕ) (accepted : Accepted s regular other) → Means s regular other accepted
+  -- of a segment of 32-bit words and procedure segments of bytes
+  pub step : (s regular other : List ℕ) → Lent s regular other → (accepted : Accepted s regular other) → Means s regular other accepted
