@@ -11,7 +11,8 @@ use Rattle.storage.specs.Owned.{ArrayIn}
 use Rattle.view.specs.View.{owners}
 use Rattle.heap.specs.Tiling.{Tiling}
 use Rattle.acceptance.specs.Refusal.{refusal}
-use Rattle.audit.specs.Calls.{Call, layOut, run, load, look, after}
+use Rattle.plans.specs.Fitting.{Words}
+use Rattle.audit.specs.Calls.{Call, layOut, run, load, look, after, LentCall, AllLent}
 use Rattle.audit.specs.Meets.{LayOutMeets, RunMeets, LoadMeets, LookMeets}
 
 -- Demands 1 and 2 for one call.
@@ -38,7 +39,7 @@ AllMeet s [] = Kept s
 AllMeet s (c ∷ calls) = Kept s × Meets s c × AllMeet (after s c) calls
 
 pub record Demands : Type 0 where
-  -- demands 1 and 2, for any words at all
-  pub each : (s : List ℕ) (c : Call) → Meets s c
+  -- demands 1 and 2, for any data segment of 32-bit words and any call
+  pub each : (s : List ℕ) → Words s → (c : Call) → LentCall c → Meets s c
   -- demand 3, from a segment that tests 10–18 accept beside some procedure segments: one claim about the list
-  pub list : (s regular other : List ℕ) → refusal s regular other ≡ 0 → (calls : List Call) → AllMeet s calls
+  pub list : (s regular other : List ℕ) → Words s → refusal s regular other ≡ 0 → (calls : List Call) → AllLent calls → AllMeet s calls
