@@ -1,3 +1,4 @@
 -- Lay out, and what it leaves.
 pub mod LayOut
 pub mod Fresh
+pub mod Examples
