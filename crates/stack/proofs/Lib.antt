@@ -1,3 +1,5 @@
 -- Laws of the crate.
+pub mod Seen
+pub mod Whole
 pub mod ValuesSeen
 pub mod Resolving

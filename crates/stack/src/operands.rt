@@ -1,14 +1,12 @@
 // The operands of an instruction: the temporaries of the current frame, counted from the top.
 ghost use mathlib.Core.Path.{_≡_};
+ghost use mathlib.Core.Bool.{true, cond};
 ghost use Prim.Native.Nat.{_+_, _-_};
 ghost use lib.ListN.{length};
 ghost use Rattle.segment.specs.State as fields;
-ghost use Rattle.effects.specs.Sources.{operandAt};
-ghost use mathlib.Core.Bool.{true, cond};
 ghost use Rattle.segment.specs.Blocks as layout;
+ghost use Rattle.effects.specs.Sources.{operandAt};
 ghost use Rattle.effects.specs.Seen.{temporaries, whole};
-ghost use Rattle.stack.specs.declared.operands.Operand.the-variants as O;
-ghost use Rattle.stack.specs.declared.operands.Value.the-variants as V;
 ghost use Rattle.stack.specs.Operands.{operandOf, isUndefined};
 use descriptor::Descriptor;
 use descriptor::Kind;
@@ -46,7 +44,11 @@ pub fn room(seg: &[u32]) -> usize
     ensures { λ r. ⌜ r ≡ length (now (seg .entry)) - (fields.sbase (now (seg .entry)) + fields.ltop (now (seg .entry)) + 1) ⌝ }
 {
     let used = ltop(seg).index(sbase(seg)) + 1;
-    if used <= seg.len() { seg.len() - used } else { 0 }
+    if used <= seg.len() {
+        seg.len() - used
+    } else {
+        0
+    }
 }
 
 // The word of the i-th operand from the top, from 0.
@@ -73,7 +75,7 @@ pub fn value_of(seg: &[u32], w: u32) -> Operand
 }
 
 fn array_at(seg: &[u32], block: SegmentAddress) -> Operand
-    ensures { λ r. ⌜ r ≡ cond (whole (now (seg .entry)) (block .0)) (O.Value (V.Array block)) O.Other ⌝ }
+    ensures { λ r. ⌜ r ≡ cond (whole (now (seg .entry)) (block .0)) (Operand.Value (Value.Array block)) Operand.Other ⌝ }
 {
     if is_whole(seg, block) {
         return Operand::Value(Value::Array(block));

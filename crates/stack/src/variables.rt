@@ -41,7 +41,10 @@ fn resolve_local(seg: &[u32], variables: u32, v: u32) -> Resolved
     if variables < v {
         return Resolved::Trap(3, 2);
     }
-    follow(seg, Target::Local(StackAddress::of(minus(lbase(seg).number(), v))))
+    follow(
+        seg,
+        Target::Local(StackAddress::of(minus(lbase(seg).number(), v))),
+    )
 }
 
 fn resolve_global(seg: &[u32], g: SegmentAddress) -> Resolved
@@ -111,7 +114,11 @@ pub fn reference_word(t: Target) -> u32
     ensures { λ r. ⌜ r ≡ sources.referenceWord t ⌝ }
 {
     match t {
-        Target::Local(a) => Descriptor::indirect_local(StackAddress::of(a.number() % 0x1_0000)).word(),
-        Target::Global(g) => Descriptor::indirect_global(SegmentAddress::of(g.number() % 0x1_0000)).word(),
+        Target::Local(a) => Descriptor::indirect_local(StackAddress::of(
+            a.number() % 0x1_0000,
+        )).word(),
+        Target::Global(g) => Descriptor::indirect_global(SegmentAddress::of(
+            g.number() % 0x1_0000,
+        )).word(),
     }
 }
