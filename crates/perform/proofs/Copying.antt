@@ -3,52 +3,81 @@ use Prim.Native.Nat.{ℕ, _<_, _≤_}
 use mathlib.Core.Path.{_≡_, refl, sym, ap, _∙_}
 use mathlib.Core.Bool.{Bool, true, false, cond}
 use mathlib.Core.List.{List}
+use native.Mathlib.Omega.{arith}
+use lib.Dec.{leb}
+use lib.ListN.{length, take, length-take}
 use borrow.Author.Tests.{le-leb, lt-leb}
 use Rattle.descriptor.specs.declared.Target.{Target}
 use Rattle.segment.specs.Blocks.{countAt, shapeAt, elementsAt, need}
 use Rattle.manual.specs.Effects.{variable, made, Effect, stores, storesElement}
-use Rattle.effects.specs.Sources.{addressOf, heldAt}
-use Rattle.effects.specs.Perform.{blockOf, storeAt, store, unshare, writeElement, replace, storeElement, perform, wanted, isFull}
+use Rattle.effects.specs.Sources.{addressOf}
+use Rattle.effects.specs.Perform.{blockOf, store, unshare, writeElement, replace, storeElement, wanted, isFull}
+use Rattle.effects.specs.Seen.{whole}
+use Rattle.stack.proofs.Whole.{whole-facts}
 use Rattle.perform.specs.declared.Done.the-variants as D
-use Rattle.perform.specs.Done.{replaceShared, answer, attempt, writing, copied}
+use Rattle.perform.specs.Done.{answer, attempt, Held, writing, copied}
 use Rattle.perform.proofs.Placing.{full-by-need}
 
-module _ (s : List ℕ) (t : Target) where
-  abbrev place : ℕ
-  place = addressOf s t
+-- the words of a list kept at the start of another
+module _ (from to : List ℕ) (n : ℕ) (all : n ≡ length from) (front : take (length from) to ≡ from) where
+  pub kept-words : take n to ≡ from
+  kept-words = rw all front
 
-  abbrev block : ℕ
-  block = blockOf s place
+  pub kept-count : n ≡ length (take n to)
+  kept-count = all ∙ ap length (sym kept-words)
 
-  abbrev copying : Effect
-  copying = stores t (made (shapeAt s block) (elementsAt s block))
+  pub kept-fits : n ≤ length to
+  kept-fits = omega (arith, simp length-take at kept-count)
+
+module _ (s : List ℕ) (t : Target) (a : ℕ) (held : Held s t a) where
+  pub held-whole : whole s a ≡ true
+  held-whole = rw (held .there) (held .readable)
+
+  -- few lengths, and no more elements than the segment has words
+  pub lengths-few : length (shapeAt s a) ≤ 16
+  lengths-few = let facts = whole-facts s a held-whole in omega arith
+
+  pub elements-few : length s ≤ 16384 → length (elementsAt s a) ≤ 16384
+  elements-few short = let facts = whole-facts s a held-whole in omega arith
 
   -- held by no other cell
-  pub alone : countAt s block < 2 → (D.Done ≡ answer s (writing t)) × (s ≡ copied s t)
+  pub alone : countAt s a < 2 → (D.Done ≡ answer s (writing t)) × (s ≡ copied s t)
   unfolding answer copied unshare
   alone few =
-      let room : isFull s (writing t) ≡ false = simp (lt-leb _ _ few) in
-      (rw room, rw room (simp (lt-leb _ _ few)))
+      let one : leb 2 (countAt s (blockOf s (addressOf s t))) ≡ false = rw (← held .there) (lt-leb _ _ few) in
+      let room : isFull s (writing t) ≡ false = simp one in
+      (rw room, rw room (simp one))
 
   -- held by another
-  module _ (shared : 2 ≤ countAt s block) where
-    shared-asks : wanted s (writing t) ≡ need (shapeAt s block) (elementsAt s block)
-    shared-asks = simp (le-leb _ _ shared)
+  abbrev copying : Effect
+  copying = stores t (made (shapeAt s a) (elementsAt s a))
+
+  module _ (shared : 2 ≤ countAt s a) where
+    shared-asks : wanted s (writing t) ≡ need (shapeAt s a) (elementsAt s a)
+    shared-asks = rw (← held .there) (simp (le-leb _ _ shared))
 
     shared-full : isFull s copying ≡ isFull s (writing t)
     shared-full =
-        full-by-need s (shapeAt s block) (elementsAt s block) copying refl
-        ∙ sym (full-by-need s (shapeAt s block) (elementsAt s block) (writing t) shared-asks)
+        full-by-need s (shapeAt s a) (elementsAt s a) copying refl
+        ∙ sym (full-by-need s (shapeAt s a) (elementsAt s a) (writing t) shared-asks)
 
-    pub answer-shared : answer s copying ≡ answer s (writing t)
+    shared-copy : store s t (made (shapeAt s a) (elementsAt s a)) ≡ unshare s (addressOf s t)
+    unfolding unshare store
+    shared-copy = rw (← held .there) (simp (le-leb _ _ shared))
+
+    same-answer : answer s copying ≡ answer s (writing t)
     unfolding answer
-    answer-shared = ap (λ (full : Bool). cond full D.Full D.Done) shared-full
+    same-answer = ap (λ (full : Bool). cond full D.Full D.Done) shared-full
 
-    pub copied-shared : attempt s copying ≡ copied s t
-    unfolding attempt copied unshare store
-    copied-shared =
-        ap (λ (full : Bool). cond full s (storeAt s place (made (shapeAt s block) (elementsAt s block)))) shared-full
-        ∙ ap (λ (many : Bool). cond (isFull s (writing t)) s (cond many (storeAt s place (made (shapeAt s block) (elementsAt s block))) s)) (sym (le-leb _ _ shared))
+    same-words : attempt s copying ≡ copied s t
+    unfolding attempt copied
+    same-words =
+        ap (λ (full : Bool). cond full s (store s t (made (shapeAt s a) (elementsAt s a)))) shared-full
+        ∙ ap (λ (after : List ℕ). cond (isFull s (writing t)) s after) shared-copy
+
+    pub copy : (lengths elements : List ℕ) → lengths ≡ shapeAt s a → elements ≡ elementsAt s a
+        → (answer s (stores t (made lengths elements)) ≡ answer s (writing t)) × (attempt s (stores t (made lengths elements)) ≡ copied s t)
+    copy lengths elements shape ravel = rw (shape, ravel) (same-answer, same-words)
 
 -- an element stored: full, or written in an array of its own, which is pushed
 module _ (s : List ℕ) (t : Target) (at w n : ℕ) where

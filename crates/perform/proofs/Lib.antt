@@ -1,3 +1,4 @@
 -- Laws of the crate.
 pub mod Placing
 pub mod Copying
+pub mod Carrying

@@ -2,7 +2,7 @@
 -- and nothing changed. proofs/Carrying has the laws that instructions go by. Assumes nothing.
 use Prim.Native.Nat.{ℕ}
 use mathlib.Core.Path.{_≡_}
-use mathlib.Core.Bool.{Bool, true, cond}
+use mathlib.Core.Bool.{true, cond}
 use mathlib.Core.List.{List}
 use lib.ListN.{set}
 use Rattle.descriptor.specs.declared.Target.{Target}

@@ -57,7 +57,15 @@ pub fn store_array(seg: &mut [u32], t: Target, shape: &[u32], ravel: &[u32]) -> 
 }
 
 // The element at that place of the variable's array is `w` from now on; n operands go, and the array is pushed.
-pub fn store_element(seg: &mut [u32], t: Target, block: SegmentAddress, at: u32, w: u32, n: u32, scratch: &mut [u32]) -> Done
+pub fn store_element(
+    seg: &mut [u32],
+    t: Target,
+    block: SegmentAddress,
+    at: u32,
+    w: u32,
+    n: u32,
+    scratch: &mut [u32],
+) -> Done
     requires { ⌜ answers.Held (now seg) t (block .0) ⌝ }
     requires { ⌜ (0 < n) × (length (now seg) ≤ 16384) × (length (now scratch) ≡ 16384) ⌝ }
     ensures { λ r. ⌜ r ≡ answers.answer (now (seg .entry)) (manual.storesElement t at w n) ⌝ }

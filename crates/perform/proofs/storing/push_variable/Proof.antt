@@ -1,6 +1,6 @@
+use mathlib.Core.Path.{_∙_}
 use native.Mathlib.Omega.{arith}
-use Rattle.effects.specs.Perform.{replace}
-use Rattle.perform.specs.Done.{replaceShared}
+use Rattle.perform.proofs.Carrying.{replace-variable}
 use borrow.Author.Needs.{needs}
 use Rattle.perform.proofs.storing.push_variable.Statement.{statement}
 use Rattle.perform.proofs.storing.push_variable.Tie as tie
@@ -15,8 +15,7 @@ same-length : tie.Need-same-length
 same-length c = search needs
 
 returns : tie.Need-returns
-unfolding replace replaceShared
-returns c = cc
+returns c = (cc) ∙ replace-variable _ _ _
 
 pub push-variable-spec : {M : Type 1} → statement M
 push-variable-spec =

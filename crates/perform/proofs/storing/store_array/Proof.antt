@@ -1,7 +1,10 @@
+use mathlib.Core.Path.{refl, _∙_}
+use native.Mathlib.Omega.{arith}
+use Rattle.manual.specs.Effects.{made, stores}
+use Rattle.perform.proofs.Placing.{long-kept, none-kept, found-done, store-block, block-below}
 use borrow.Author.Needs.{needs}
 use Rattle.perform.proofs.storing.store_array.Statement.{statement}
 use Rattle.perform.proofs.storing.store_array.Tie as tie
-use Rattle.descriptor.proofs.Descriptor.word.Reads as Descriptor-word-reads
 
 add-if1 : tie.Need-add-if1
 add-if1 c = search needs
@@ -10,7 +13,7 @@ add-if1-2 : tie.Need-add-if1-2
 add-if1-2 c = search needs
 
 returns : tie.Need-returns
-returns c = ?
+returns c = let a = c .before .before .before .before .args in long-kept (a .seg .now) (a .shape .now) (a .ravel .now) _ refl (omega arith)
 
 place-of-requires : tie.Need-place-of-requires
 place-of-requires c κs = search needs
@@ -28,7 +31,7 @@ enum-known-block : tie.Need-enum-known-block
 enum-known-block c = search needs
 
 array-requires : tie.Need-array-requires
-array-requires c κs = ?
+array-requires c κs = let a = c .before .before .before .before .before .before .before .before .before .before .before .before .before .before .before .before .args in block-below (a .seg .now) (c .before .before .before .before .before .before .before .before .before .before .before .before .before .before .before .slice-known .given) (a .shape .now) (a .ravel .now) (c .before .before .block .given .0 .0) (cc)
 
 word-requires-2 : tie.Need-word-requires-2
 word-requires-2 c κs = search needs
@@ -43,13 +46,20 @@ same-length : tie.Need-same-length
 same-length c = search needs
 
 returns-2 : tie.Need-returns-2
-returns-2 c = ?
+returns-2 c =
+    let a = c .before .before .before .before .before .before .before .before .before .before .before .before .before .before .args in
+    let kept = none-kept (a .seg .now) (a .shape .now) (a .ravel .now) (stores (a .t) (made (a .shape .now) (a .ravel .now))) refl (cc) in
+    (kept .0, (cc) ∙ kept .1)
 
 same-length-2 : tie.Need-same-length-2
 same-length-2 c = search needs
 
 returns-3 : tie.Need-returns-3
-returns-3 c = ?
+returns-3 c =
+    let a = c .before .before .before .before .before .before .before .before .before .before .before .before .before .before .before .before .before .before .before .before .before .before .before .before .before .args in
+    let block = c .before .before .before .before .before .before .before .before .before .before .before .block .given .0 .0 in
+    let done = found-done (a .seg .now) (a .shape .now) (a .ravel .now) (stores (a .t) (made (a .shape .now) (a .ravel .now))) refl block (omega arith) (cc) in
+    (done .0, (cc) ∙ store-block (a .seg .now) (a .shape .now) (a .ravel .now) block (cc) (a .t) ∙ done .1)
 
 pub store-array-spec : {M : Type 1} → statement M
 store-array-spec =

@@ -1,3 +1,5 @@
+use mathlib.Core.Path.{_∙_}
+use Rattle.perform.proofs.Copying.{element-full, element-done}
 use borrow.Author.Needs.{needs}
 use Rattle.perform.proofs.storing.store_element.Statement.{statement}
 use Rattle.perform.proofs.storing.store_element.Tie as tie
@@ -27,7 +29,7 @@ same-length-2 : tie.Need-same-length-2
 same-length-2 c = search needs
 
 returns : tie.Need-returns
-returns c = ?
+returns c = let a = c .before .before .before .before .before .before .before .before .before .before .before .before .before .args in let kept = element-full (a .seg .now) (a .t) (a .at) (a .w) (a .n) (cc) in (kept .0, (cc) ∙ kept .1)
 
 same-length-3 : tie.Need-same-length-3
 same-length-3 c = search needs
@@ -36,7 +38,7 @@ same-length-4 : tie.Need-same-length-4
 same-length-4 c = search needs
 
 returns-2 : tie.Need-returns-2
-returns-2 c = ?
+returns-2 c = let a = c .before .before .before .before .before .before .before .before .before .before .before .before .before .before .before .before .before .before .before .before .before .args in let done = element-done (a .seg .now) (a .t) (a .at) (a .w) (a .n) (cc) in (done .0, (cc) ∙ done .1)
 
 pub store-element-spec : {M : Type 1} → statement M
 store-element-spec =

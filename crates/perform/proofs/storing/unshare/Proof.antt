@@ -1,3 +1,6 @@
+use mathlib.Core.Path.{_∙_}
+use native.Mathlib.Omega.{arith}
+use Rattle.perform.proofs.Copying.{kept-words, kept-count, kept-fits, held-whole, lengths-few, elements-few, alone, copy}
 use borrow.Author.Needs.{needs}
 use Rattle.perform.proofs.storing.unshare.Statement.{statement}
 use Rattle.perform.proofs.storing.unshare.Tie as tie
@@ -9,34 +12,34 @@ same-length : tie.Need-same-length
 same-length c = search needs
 
 returns : tie.Need-returns
-returns c = ?
+returns c = alone _ _ _ (c .before .before .before .before .before .pre .0) (omega arith)
 
 lengths-of-requires : tie.Need-lengths-of-requires
-lengths-of-requires c κs = ?
+lengths-of-requires c κs = held-whole _ _ _ (c .before .before .before .before .before .before .pre .0)
 
 slice-aggregate-keep : tie.Need-slice-aggregate-keep
 slice-aggregate-keep c = search needs
 
 keep-requires : tie.Need-keep-requires
-keep-requires c κs = ?
+keep-requires c κs = rw (c .before .lengths-of .ensures) (lengths-few _ _ _ (c .before .before .before .before .before .before .before .before .pre .0))
 
 elements-of-requires : tie.Need-elements-of-requires
-elements-of-requires c κs = ?
+elements-of-requires c κs = held-whole _ _ _ (c .before .before .before .before .before .before .before .before .before .before .before .pre .0)
 
 keep-requires-2 : tie.Need-keep-requires-2
-keep-requires-2 c κs = ?
+keep-requires-2 c κs = let h = c .before .before .before .before .before .before .before .before .before .before .before .before .before .pre in rw (c .before .elements-of .ensures) (omega (arith, elements-few _ _ _ (h .0) (h .1 .0)))
 
 array-share-prefix-lengths : tie.Need-array-share-prefix-lengths
-array-share-prefix-lengths c = ?
+array-share-prefix-lengths c = kept-fits _ _ _ (c .before .before .before .before .before .before .before .before .keep .ensures .0) (c .before .before .before .before .before .before .before .before .keep .ensures .1)
 
 slice-aggregate-store-array : tie.Need-slice-aggregate-store-array
-slice-aggregate-store-array c = ?
+slice-aggregate-store-array c = kept-count _ _ _ (c .before .before .before .before .before .before .before .before .before .keep .ensures .0) (c .before .before .before .before .before .before .before .before .before .keep .ensures .1)
 
 slice-reshare-prefix-store-array : tie.Need-slice-reshare-prefix-store-array
-slice-reshare-prefix-store-array c = ?
+slice-reshare-prefix-store-array c = kept-fits _ _ _ (c .before .before .before .before .keep2 .ensures .0) (c .before .before .before .before .keep2 .ensures .1)
 
 slice-aggregate-store-array-2 : tie.Need-slice-aggregate-store-array-2
-slice-aggregate-store-array-2 c = ?
+slice-aggregate-store-array-2 c = kept-count _ _ _ (c .before .before .before .before .before .keep2 .ensures .0) (c .before .before .before .before .before .keep2 .ensures .1)
 
 store-array-requires : tie.Need-store-array-requires
 store-array-requires c κs = search needs
@@ -48,7 +51,11 @@ same-length-3 : tie.Need-same-length-3
 same-length-3 c = search needs
 
 returns-2 : tie.Need-returns-2
-returns-2 c = ?
+returns-2 c =
+    let lengths = kept-words _ _ _ (c .before .before .before .before .before .before .before .before .before .before .before .before .before .keep .ensures .0) (c .before .before .before .before .before .before .before .before .before .before .before .before .before .keep .ensures .1) ∙ c .before .before .before .before .before .before .before .before .before .before .before .before .before .before .before .lengths-of .ensures in
+    let elements = kept-words _ _ _ (c .before .before .before .before .before .before .before .before .keep2 .ensures .0) (c .before .before .before .before .before .before .before .before .keep2 .ensures .1) ∙ c .before .before .before .before .before .before .before .before .before .before .elements-of .ensures in
+    let same = copy _ _ _ (c .before .before .before .before .before .before .before .before .before .before .before .before .before .before .before .before .before .before .before .before .before .before .pre .0) (omega arith) _ _ lengths elements in
+    (c .before .before .store-array .ensures .0 ∙ same .0, c .before .before .store-array .ensures .1 ∙ same .1)
 
 pub unshare-spec : {M : Type 1} → statement M
 unshare-spec =

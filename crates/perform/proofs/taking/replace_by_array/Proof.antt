@@ -28,7 +28,7 @@ enum-known-block : tie.Need-enum-known-block
 enum-known-block c = search needs
 
 array-requires : tie.Need-array-requires
-array-requires c κs = 
+array-requires c κs =
     let a = c .before .before .before .before .before .before .before .before .before .before .before .before .before .before .args in
     block-below (a .seg .now) (c .before .before .before .before .before .before .before .before .before .before .before .before .before .slice-known .given) (a .shape .now) (a .ravel .now) (c .before .before .block .given .0 .0) (cc)
 
