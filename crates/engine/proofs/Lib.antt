@@ -1,4 +1,4 @@
 -- Laws of the crate.
 pub mod Products
-pub mod Refusing
+pub mod LayingOut
 pub mod Loading

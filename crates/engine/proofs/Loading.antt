@@ -89,30 +89,31 @@ module _ (s regular other : List ℕ) (g : ℕ) (lengths ravel : List ℕ) where
         unfolding loadRefusal
         judged b full = simp (← accepted, global, value, full)
 
-        module _ (a : SegmentAddress) (at : a .0 ≡ g) where
-          pub scalar-stored : length lengths ≡ 0 → Answers Done (storeShared s (Global a) (first ravel))
+        module _ (a : SegmentAddress) (at : a .0 ≡ g) (after : List ℕ) where
+          pub scalar-stored : length lengths ≡ 0 → after ≡ storeShared s (Global a) (first ravel) → Answers Done after
           unfolding storeShared storeAt share meaning.isFull
-          scalar-stored rank =
+          scalar-stored rank left =
               let same = done (judged false (simp rank)) in
-              (same .0, simp (scalar-array (first ravel) (one-scalar lengths ravel value rank .1), at) (simp (eq-eqb (length lengths) 0 rank) at (same .1)))
+              (same .0, left ∙ simp (scalar-array (first ravel) (one-scalar lengths ravel value rank .1), at) (simp (eq-eqb (length lengths) 0 rank) at (same .1)))
 
-          module _ (rank : length lengths ≡ 0 → ⊥) where
-            abbrev pub effect : Effect
-            effect = stores (Global a) (made lengths ravel)
+          abbrev pub effect : Effect
+          effect = stores (Global a) (made lengths ravel)
 
+          module _ (rank : length lengths ≡ 0 → ⊥) (left : after ≡ attempt s effect) where
             by-need : meaning.isFull s lengths ravel ≡ isFull s effect
             unfolding meaning.isFull
             by-need = simp (lt-ltb 0 (length lengths) (omega (arith, rank))) (sym (full-by-need s lengths ravel effect refl))
 
-            pub full : D.Full ≡ answer s effect → Answers (Refused 24) (attempt s effect)
+            pub full : D.Full ≡ answer s effect → Answers (Refused 24) after
             unfolding answer attempt
             full told =
                 let e = told-full (isFull s effect) told in
-                rw e (refused 24 (λ z. omega (arith, z)) (judged true (by-need ∙ e)))
+                let same = refused 24 (λ z. omega (arith, z)) (judged true (by-need ∙ e)) in
+                (same .0, left ∙ rw e (same .1))
 
-            pub array-stored : D.Done ≡ answer s effect → Answers Done (attempt s effect)
+            pub array-stored : D.Done ≡ answer s effect → Answers Done after
             unfolding answer attempt store
             array-stored told =
                 let e = told-done (isFull s effect) told in
                 let same = done (judged false (by-need ∙ e)) in
-                (same .0, rw (e, at) (simp (ne-eqb (length lengths) 0 rank) at (same .1)))
+                (same .0, left ∙ rw (e, at) (simp (ne-eqb (length lengths) 0 rank) at (same .1)))

@@ -63,8 +63,8 @@ module _ {lengths : List ℕ} {n rest i : ℕ} (d : Divided lengths n rest i) wh
           so-far =
               longer
               ∙ same-test _ _ _ _
-                (λ e. sym (div-eq-of-eq-mul-right positive (sym e)))
-                (λ e. ap (λ (k : ℕ). getD lengths i 0 * k) e ∙ mul-div-cancel' (getD lengths i 0) (dvd-of-mod-eq-zero (getD lengths i 0) exact));
+              (λ e. sym (div-eq-of-eq-mul-right positive (sym e)))
+              (λ e. ap (λ (k : ℕ). getD lengths i 0 * k) e ∙ mul-div-cancel' (getD lengths i 0) (dvd-of-mod-eq-zero (getD lengths i 0) exact));
           nonzero = here .1;
         }
 

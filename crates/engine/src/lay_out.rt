@@ -14,16 +14,24 @@ ghost use Rattle.acceptance.specs.Refusal.{lengthTest};
 ghost use Rattle.manual.specs.Control.{frameWord};
 ghost use Rattle.operations.specs.Answers.{answerOf};
 ghost use Rattle.layout.specs.LayOut as meaning;
-use operations::Answer;
 use descriptor::Descriptor;
 use elements::copies::fill;
+use operations::Answer;
 use procedure::directory::Function;
 use procedure::directory::find;
 use procedure::refusal::Refusal;
 use procedure::refusal::judge;
 use segment::put;
 
-pub fn lay_out(seg: &mut [u32], regular: &[u8], other: &[u8], selector: u32, function: u32, globals: u32, storage: u32) -> Answer
+pub fn lay_out(
+    seg: &mut [u32],
+    regular: &[u8],
+    other: &[u8],
+    selector: u32,
+    function: u32,
+    globals: u32,
+    storage: u32,
+) -> Answer
     ensures { λ r. ⌜ r ≡ answerOf (meaning.layOutRefusal (now (seg .entry)) (now (regular .entry)) (now (other .entry)) (record { selector = selector; function = function; globals = globals; arrayWords = storage })) ⌝ }
     ensures { λ _. ⌜ now (seg .exit) ≡ meaning.laidOut (now (seg .entry)) (now (regular .entry)) (now (other .entry)) (record { selector = selector; function = function; globals = globals; arrayWords = storage }) ⌝ }
 {
@@ -93,7 +101,14 @@ fn parts_fit(seg: &[u32], globals: u32, storage: u32, locals: u32) -> bool
     8 + globals as usize + storage as usize + locals as usize + 2 <= seg.len()
 }
 
-fn write_fresh(seg: &mut [u32], selector: u32, function: u32, globals: u32, storage: u32, locals: u32)
+fn write_fresh(
+    seg: &mut [u32],
+    selector: u32,
+    function: u32,
+    globals: u32,
+    storage: u32,
+    locals: u32,
+)
     requires { ⌜ (selector ≤ 1) × (function ≤ 2047) × (6 ≤ storage) ⌝ }
     requires { ⌜ (8 + globals + storage + locals + 2 ≤ length (now seg)) × (length (now seg) ≤ 16384) ⌝ }
     ensures { λ _. ⌜ now (seg .exit) ≡ meaning.fresh (length (now (seg .entry))) locals (frameWord (eqb selector 1) function) (record { selector = selector; function = function; globals = globals; arrayWords = storage }) ⌝ }

@@ -5,17 +5,24 @@ ghost use Rattle.segment.specs.Blocks as layout;
 ghost use Rattle.manual.specs.Values as values;
 ghost use Rattle.operations.specs.Answers.{answerOf};
 ghost use Rattle.operations.specs.Load as meaning;
-use operations::Answer;
 use super::judge::is_global;
 use super::judge::refusal_of;
 use descriptor::Target;
 use descriptor::address::SegmentAddress;
 use elements::kinds::any_other;
+use operations::Answer;
+use perform::Done;
 use perform::storing::store_array;
 use perform::storing::store_share;
-use perform::Done;
 
-pub fn load(seg: &mut [u32], regular: &[u8], other: &[u8], global: u32, lengths: &[u32], ravel: &[u32]) -> Answer
+pub fn load(
+    seg: &mut [u32],
+    regular: &[u8],
+    other: &[u8],
+    global: u32,
+    lengths: &[u32],
+    ravel: &[u32],
+) -> Answer
     ensures { λ r. ⌜ r ≡ answerOf (meaning.loadRefusal (now (seg .entry)) (now (regular .entry)) (now (other .entry)) global (now (lengths .entry)) (now (ravel .entry))) ⌝ }
     ensures { λ _. ⌜ now (seg .exit) ≡ meaning.loaded (now (seg .entry)) (now (regular .entry)) (now (other .entry)) global (now (lengths .entry)) (now (ravel .entry)) ⌝ }
 {

@@ -3,12 +3,12 @@ ghost use mathlib.Core.Path.{_≡_};
 ghost use Rattle.segment.specs.Parts as parts;
 ghost use Rattle.operations.specs.Look.{seenAs, looked};
 ghost use Rattle.descriptor.specs.Kinds.{kindOf};
-use operations::Looked;
 use super::judge::is_global;
 use super::judge::refusal_of;
 use descriptor::Descriptor;
 use descriptor::Kind;
 use descriptor::address::SegmentAddress;
+use operations::Looked;
 use segment::blocks;
 use segment::word;
 

@@ -69,27 +69,24 @@ module _ (s regular other : List ℕ) (l : Layout) where
   unfolding laidOut
   done e = (simp e, simp e)
 
+  -- tests 10, 11 and 12
   abbrev pub segments : ℕ
   segments = cond (lengthTest s) (procedureRefusal regular other) 10
 
-  pub segments-refused : (n : ℕ) → n ≡ segments → (n ≡ 0 → ⊥) → Answers (Refused n) s
+  by-segments : layOutRefusal s regular other l ≡ cond (eqb segments 0) (cond (functionTest regular other l) (cond (partsTest s regular other l) 0 19) 20) segments
   unfolding layOutRefusal
-  segments-refused n same some = refused n some (by-length (lengthTest s) same)
+  by-segments = by-length (lengthTest s) (procedureRefusal regular other) (cond (functionTest regular other l) (cond (partsTest s regular other l) 0 19) 20)
     where
-      by-length : (b : Bool) → n ≡ cond b (procedureRefusal regular other) 10
-          → cond b (cond (eqb (procedureRefusal regular other) 0) (cond (functionTest regular other l) (cond (partsTest s regular other l) 0 19) 20) (procedureRefusal regular other)) 10 ≡ n
-      by-length true same = simp (← same, ne-eqb n 0 some)
-      by-length false same = sym same
+      by-length : (b : Bool) (n rest : ℕ) → cond b (cond (eqb n 0) rest n) 10 ≡ cond (eqb (cond b n 10) 0) rest (cond b n 10)
+      by-length true n rest = refl
+      by-length false n rest = refl
+
+  pub segments-refused : (n : ℕ) → n ≡ segments → (n ≡ 0 → ⊥) → Answers (Refused n) s
+  segments-refused n same some = refused n some (by-segments ∙ simp (← same, ne-eqb n 0 some))
 
   module _ (passed : 0 ≡ segments) where
     by-parts : (f : Function) → f ≡ bottom regular other l → layOutRefusal s regular other l ≡ cond (niladic f) (cond (partsTest s regular other l) 0 19) 20
-    unfolding layOutRefusal
-    by-parts f same = rw (by-function regular other l f same) (by-length (lengthTest s) passed)
-      where
-        by-length : (b : Bool) → 0 ≡ cond b (procedureRefusal regular other) 10
-            → cond b (cond (eqb (procedureRefusal regular other) 0) (cond (niladic f) (cond (partsTest s regular other l) 0 19) 20) (procedureRefusal regular other)) 10 ≡ cond (niladic f) (cond (partsTest s regular other l) 0 19) 20
-        by-length true zero = simp (← zero)
-        by-length false zero = absurd (omega arith)
+    by-parts f same = by-segments ∙ simp (← passed, by-function regular other l f same)
 
     pub absent : F.Absent ≡ bottom regular other l → Answers (Refused 20) s
     absent same = refused 20 (λ e. omega (arith, e)) (by-parts F.Absent same)
@@ -110,8 +107,10 @@ module _ (s regular other : List ℕ) (l : Layout) where
         too-large same = refused 19 (λ e. omega (arith, e)) (judged false same)
 
         module _ (fit : true ≡ parts) where
-          pub laid : Answers Done (fresh (length s) (block .header .nlocals) (frameWord (eqb (l .selector) 1) (l .function)) l)
-          laid = rw (by-block regular other l block at) (done (judged true fit))
+          pub laid : (after : List ℕ) → after ≡ fresh (length s) (block .header .nlocals) (frameWord (eqb (l .selector) 1) (l .function)) l → Answers Done after
+          laid after left =
+              let same = done (judged true fit) in
+              (same .0, left ∙ rw (by-block regular other l block at) (same .1))
 
           -- what the writer of a fresh segment asks for
           pub room : ((l .selector ≤ 1) × (l .function ≤ 2047) × (6 ≤ l .arrayWords)) × ((baseOf l + block .header .nlocals + 2 ≤ length s) × (length s ≤ 16384))
