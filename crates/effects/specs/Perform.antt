@@ -66,17 +66,18 @@ enter s n f =
     (ltop s + n + 2))
     (ltop s + n + 1)
 
--- The current frame goes with the n variables under its two words; its result takes the place of the lowest.
+-- The current frame goes with the n variables under its two words; its result takes the place of the lowest. LBASE has sixteen
+-- bits.
 abbrev pub startOf : List ℕ → ℕ → ℕ
 startOf s n = sbase s + lbase s - n
 
 unfoldable pub leaveWith : List ℕ → ℕ → List ℕ
 leaveWith s n =
     let w = getD s (sbase s + lbase s - 1) 0 in
-    set (setLbase (setLtop (drops n (share s w) (startOf s n)) (lbase s - n)) (lastLbaseAt s (lbase s))) (startOf s n) w
+    set (setLbase (setLtop (drops n (share s w) (startOf s n)) (lbase s - n)) (lastLbaseAt s (lbase s) % 2 ^ 16)) (startOf s n) w
 
 unfoldable pub leaveWithout : List ℕ → ℕ → List ℕ
-leaveWithout s n = setLbase (setLtop (drops n s (startOf s n)) (lbase s - n - 1)) (lastLbaseAt s (lbase s))
+leaveWithout s n = setLbase (setLtop (drops n s (startOf s n)) (lbase s - n - 1)) (lastLbaseAt s (lbase s) % 2 ^ 16)
 
 abbrev pub perform : List ℕ → Effect → List ℕ
 perform s (replaces n source) = replace s n source

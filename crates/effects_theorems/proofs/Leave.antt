@@ -323,7 +323,9 @@ module _ (s : List ℕ) (g : Sound s) (n : ℕ) (can : CanLeave s n false) where
 
   without-is : leaveWithout s n ≡ f0
   unfolding leaveWithout setLtop setLbase
-  without-is = rw (regs0 .frame)
+  without-is =
+      let small : lastLbaseAt s (lbase s) % 2 ^ 16 ≡ lastLbaseAt s (lbase s) = omega (arith, bounds g, can .cells) in
+      rw (small, regs0 .frame)
 
   pub without-sound : Sound (leaveWithout s n)
   without-sound = rw without-is (left-sound s g n (can .empty) (can .cells) [] s [] first0 refl f0 back0 (omega arith))
@@ -394,7 +396,9 @@ module _ (s : List ℕ) (g : Sound s) (n : ℕ) (can : CanLeave s n true) where
 
   with-is : leaveWith s n ≡ f1
   unfolding leaveWith setLtop setLbase
-  with-is = rw (regs1 .frame)
+  with-is =
+      let small : lastLbaseAt s (lbase s) % 2 ^ 16 ≡ lastLbaseAt s (lbase s) = omega (arith, bounds g, can .cells) in
+      rw (small, regs1 .frame)
 
   pub with-sound : Sound (leaveWith s n)
   with-sound = rw with-is (left-sound s g n (can .empty) (can .cells) (w ∷ []) (share s w) (c ∷ []) (put1 .step) tops1 f1 back1 (omega arith))

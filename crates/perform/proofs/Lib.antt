@@ -2,3 +2,4 @@
 pub mod Placing
 pub mod Copying
 pub mod Carrying
+pub mod FrameWords

@@ -1,4 +1,5 @@
 // The effects of which instructions are made, done on a lent data segment.
+pub mod frames;
 pub mod storing;
 pub mod taking;
 

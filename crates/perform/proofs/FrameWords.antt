@@ -1,0 +1,25 @@
+-- The words of a frame: a run of undefined locals, and the frame's two words after it.
+use Prim.Native.Nat.{ℕ, suc, _+_, _-_, _≤_}
+use native.Mathlib.Omega.{arith}
+use mathlib.Core.Path.{_≡_, sym, ap, _∙_}
+use mathlib.Core.List.{List, [], _∷_, _++_}
+use lib.ListN.{length, take, drop, set, replicate, length-replicate, length-drop}
+use lib.Seq.{sets, length-take-le}
+use borrow.Rule.Slice.PartMut.{putMid}
+use Rattle.segment.proofs.Copies.{filled}
+
+-- a run written in two parts
+pub sets-append : (us vs s : List ℕ) (i e : ℕ) → i + length us ≡ e → sets s i (us ++ vs) ≡ sets (sets s i us) e vs
+sets-append [] vs s i e ends = let same : i ≡ e = omega arith in rw same
+sets-append (u ∷ us) vs s i e ends = sets-append us vs (set s i u) (suc i) e (omega arith)
+
+-- the part from i to e filled with one word, and two words after it
+pub laid : (s ys : List ℕ) (n c i e last f : ℕ) → i + n ≡ e → e ≤ length s → ys ≡ replicate (length (take (e - i) (drop i s))) c →
+    set (set (putMid i (e - i) s ys) e last) (e + 1) f ≡ sets s i (replicate n c ++ (last ∷ f ∷ []))
+laid s ys n c i e last f ends fits run =
+    let next : suc e ≡ e + 1 = omega arith in
+    ap (λ (t : List ℕ). set (set t e last) (e + 1) f) (filled s ys (replicate n c) i e (run ∙ ap (λ (k : ℕ). replicate k c) count) (omega (arith, length-replicate n c)) fits)
+    ∙ sym (sets-append (replicate n c) (last ∷ f ∷ []) s i e (omega (arith, length-replicate n c)) ∙ rw next)
+  where
+    count : length (take (e - i) (drop i s)) ≡ n
+    count = length-take-le (e - i) (drop i s) (omega (arith, length-drop i s)) ∙ omega arith
