@@ -2,3 +2,6 @@
 pub mod Words
 pub mod Storage
 pub mod Effects
+pub mod Decoding
+pub mod Plans
+pub mod Theorems
