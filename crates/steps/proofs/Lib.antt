@@ -1,2 +1,3 @@
 -- Steps and runs on an accepted segment, put together from the theorems on effects, plans and legal machines.
 pub mod Entering
+pub mod Current
