@@ -10,6 +10,10 @@ use lib.ListN.{length}
 use Rattle.procedure.specs.declared.directory.Function.the-variants as F
 use Rattle.procedure.specs.Headers.{blockAt}
 use Rattle.procedure.specs.Directory.{startOf, hasFunction, functionOf}
+use Rattle.instruction.specs.declared.Instruction.{Instruction}
+use Rattle.instruction.specs.declared.Decoded.{Decoded}
+use Rattle.instruction.specs.declared.Decoded.the-variants as D
+use Rattle.instruction.specs.Decoding.{decodeIn}
 use Rattle.segment.specs.State.{sbase, lbase}
 use Rattle.segment.specs.Stack.{lastLbaseAt, codeWordAt, alternate, functionNumber, pctr}
 use Rattle.segment.specs.Cells.{Cell, cell}
@@ -18,8 +22,10 @@ use Rattle.view.specs.View.{frameAt, framesFrom, words, view}
 use Rattle.storage_tests.proofs.Tests.{both}
 use Rattle.acceptance.specs.Frames.{segmentOf, known, arguments, variables}
 use Rattle.acceptance.specs.Structure.{Accepted}
+use Rattle.manual.specs.OrTrap.{gives}
+use Rattle.manual.specs.Effects.{Effect}
 use Rattle.manual.specs.Seen.{variablesOf, seenOf}
-use Rattle.manual.specs.Instructions.{Running, headerOf, planAt}
+use Rattle.manual.specs.Instructions.{Running, headerOf, planOf, planDecoded, planAt}
 use Rattle.effects.specs.Seen.{seen}
 use Rattle.effects.specs.Sound.{Sound}
 use Rattle.effects.specs.Alike.{Runs}
@@ -69,6 +75,13 @@ running s regular other =
     let p = segmentOf regular other (codeWordAt s (lbase s)) in
     record { regular = regular; alternate = other; selector = selectorOf s; block = blockAt p (startOf p (numberOf s)) }
 
+-- An instruction of which these effects are planned.
+pub record Decodes (s : List ℕ) (f : Running) (es : List Effect) : Type 0 where
+  pub instruction : Instruction
+  pub next : ℕ
+  pub byWords : planOf f (seen s) instruction next ≡ gives es
+  pub byCells : planOf f (seenOf (length s - sbase s) (view s)) instruction next ≡ gives es
+
 module _ (s regular other : List ℕ) (h : Accepted s regular other) where
   abbrev f : Running
   f = running s regular other
@@ -112,3 +125,12 @@ module _ (s regular other : List ℕ) (h : Accepted s regular other) where
   pub step-is : Sound s → stepOf regular other s ≡ settle regular other (headerOf f .rtntrace) (carry s (planned s regular other))
   unfolding stepOf stepIn
   step-is g = rw (plan-is g, function-there)
+
+  -- where effects are planned, they are those of an instruction, by the words and by the view
+  pub decodes : Sound s → (es : List Effect) → planned s regular other ≡ gives es → Decodes s f es
+  unfolding planAt
+  decodes g es e = go (decodeIn regular other (selectorOf s) (f .block) place) (sym (plan-is g) ∙ e) (sym plan-seen ∙ e)
+    where
+      go : (d : Decoded) → planDecoded f (seen s) d ≡ gives es → planDecoded f (seenOf (length s - sbase s) (view s)) d ≡ gives es → Decodes s f es
+      go (D.Instruction i next) p q = record { instruction = i; next = next .0; byWords = p; byCells = q }
+      go (D.Trap class number) p q = let z : _≡_ {A = ℕ} 0 1 = cc in absurd (omega arith)
