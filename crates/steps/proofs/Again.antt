@@ -21,7 +21,7 @@ use Rattle.legal.specs.Legal.{Legal}
 use Rattle.legal_accepted.proofs.Theorem.{legal-theorems}
 use Rattle.legal_steps.specs.Kept.{Kept}
 
-pub sound-of : {s regular other : List ℕ} → Accepted s regular other → Sound s
+abbrev pub sound-of : {s regular other : List ℕ} → Accepted s regular other → Sound s
 sound-of {s} {regular} {other} h =
     record { own = h .owned; fits = h .head .top; above = h .top; chain = legal-theorems .split s regular other h .sound .chain }
 

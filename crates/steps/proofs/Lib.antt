@@ -3,3 +3,4 @@ pub mod Entering
 pub mod Current
 pub mod Again
 pub mod Settled
+pub mod Steps
