@@ -42,14 +42,14 @@ use Rattle.steps.specs.Steps.{planned}
 
 -- ---- the first frame of the view
 
-pub record Current (s : List ℕ) (l : List (Frame Cell)) : Type 0 where
-  pub frame : Frame Cell
-  pub older : List (Frame Cell)
-  pub frames : l ≡ frame ∷ older
-  pub function : frame .function ≡ codeWordAt s (lbase s) / 2 ^ 16
-  pub place : frame .pctr ≡ pctr (codeWordAt s (lbase s))
+record Current (s : List ℕ) (l : List (Frame Cell)) : Type 0 where
+  frame : Frame Cell
+  older : List (Frame Cell)
+  frames : l ≡ frame ∷ older
+  function : frame .function ≡ codeWordAt s (lbase s) / 2 ^ 16
+  place : frame .pctr ≡ pctr (codeWordAt s (lbase s))
 
-pub current : (s : List ℕ) → Current s (view s .frames)
+current : (s : List ℕ) → Current s (view s .frames)
 unfolding view words framesFrom
 current s = go (leb (lbase s) (lastLbaseAt s (lbase s)))
   where
@@ -111,7 +111,7 @@ module _ (s regular other : List ℕ) (h : Accepted s regular other) where
   abbrev place : ℕ
   place = pctr (codeWordAt s (lbase s))
 
-  pub plan-seen : planned s regular other ≡ planAt f (seenOf (length s - sbase s) (view s)) place
+  plan-seen : planned s regular other ≡ planAt f (seenOf (length s - sbase s) (view s)) place
   unfolding nextPlan
   plan-seen =
       let c = current s in

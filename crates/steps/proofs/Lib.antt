@@ -2,5 +2,7 @@
 pub mod Entering
 pub mod Current
 pub mod Again
+pub mod Planned
 pub mod Settled
 pub mod Steps
+pub mod Runs

@@ -1,38 +1,36 @@
 -- A step of an accepted segment, by the cases of its plan.
-use Prim.Native.Nat.{ℕ, _-_, _^_, _<_, _≤_}
+use Prim.Native.Nat.{ℕ, _^_, _<_, _≤_}
 use mathlib.Core.Path.{_≡_, refl, _∙_, ap, subst}
 use mathlib.Core.Bool.{Bool, true, false}
 use mathlib.Core.List.{List}
 use mathlib.Core.Logic.{_↔_}
 use native.Mathlib.Omega.{arith}
-use lib.ListN.{set, length}
+use lib.ListN.{set}
 use Rattle.descriptor.specs.declared.Target.{Target}
-use Rattle.segment.specs.State.{sbase, setTrap}
+use Rattle.segment.specs.State.{setTrap}
 use Rattle.segment.specs.Cells.{undefined}
 use Rattle.view.specs.View.{words, view}
 use Rattle.storage_tests.proofs.Tests.{fails}
 use Rattle.acceptance.specs.Structure.{Accepted}
 use Rattle.manual.specs.OrTrap.{gives, trap}
 use Rattle.manual.specs.Effects.{Effect, Plan, look}
-use Rattle.manual.specs.Instructions.{Running, headerOf, planOf}
+use Rattle.manual.specs.Instructions.{Running, headerOf}
 use Rattle.effects.specs.Sound.{Sound}
 use Rattle.effects.specs.Seen.{seen}
 use Rattle.effects.specs.Fits.{InMachine, IsVariable}
 use Rattle.effects.specs.Perform.{performs, anyFull}
-use Rattle.effects_theorems.specs.Theorems.{EntersFirst, NoneStoresTo, AsksInVain, PerformedAll}
+use Rattle.effects_theorems.specs.Theorems.{NoneStoresTo, AsksInVain, PerformedAll}
 use Rattle.effects_theorems.proofs.State.{trap-sound, trap-words, trap-view}
 use Rattle.effects_theorems.proofs.Theorems.{effects-theorems}
-use Rattle.plans.specs.Fitting.{Words, Fitting}
-use Rattle.plans.proofs.Given.{given}
-use Rattle.plans.proofs.Theorems.{plans-fit}
-use Rattle.legal_accepted.proofs.Theorem.{legal-theorems}
-use Rattle.legal_steps.specs.Kept.{Kept}
-use Rattle.legal_steps.proofs.Theorems.{kept-theorems}
+use Rattle.plans.specs.Fitting.{Words}
+use Rattle.bounded.specs.Lent.{Lent}
+use Rattle.bounded.proofs.Words.{words-set}
+use Rattle.bounded.proofs.Theorems.{bounded-theorems}
 use Rattle.perform.specs.Carried.{outcomeOf, carry}
 use Rattle.stepping.specs.Step.{trapped, finished, due, settle, stepOf}
-use Rattle.steps.specs.Steps.{planned, Does, Means}
-use Rattle.steps.proofs.Entering.{plan-enters}
-use Rattle.steps.proofs.Current.{running, runs, runs-in, step-is, decodes}
+use Rattle.steps.specs.Steps.{planned, Does, Means, StepTheorem}
+use Rattle.steps.proofs.Current.{running, step-is}
+use Rattle.steps.proofs.Planned.{Known, plan-known}
 use Rattle.steps.proofs.Again.{sound-of, trap-accepted, effects-accepted}
 use Rattle.steps.proofs.Settled.{settled-effects, due-small, finished-counted, finished-keeps}
 
@@ -48,28 +46,15 @@ unchanged g = record { sound = g; cells = refl; seen = refl }
 trap-unchanged : {t : List ℕ} → Sound t → (v : ℕ) → Unchanged t (set t 3 v)
 trap-unchanged {t} g v = record { sound = trap-sound t g v; cells = trap-words t g v; seen = trap-view t g v }
 
-module _ (s regular other : List ℕ) (short : Words s) (h : Accepted s regular other) where
+module _ (s regular other : List ℕ) (lent : Lent s regular other) (h : Accepted s regular other) where
   abbrev f : Running
   f = running s regular other
 
   abbrev sound : Sound s
   sound = sound-of h
 
-  -- ---- the effects of a plan
-
-  record Fine (es : List Effect) : Type 0 where
-    fitting : Fitting s es
-    kept : Kept regular other (view s) es
-    first : EntersFirst es
-
-  fine : (es : List Effect) → planned s regular other ≡ gives es → Fine es
-  fine es e =
-      let d = decodes s regular other h sound es e in
-      record {
-        fitting = plans-fit .fitting s sound short f (runs s regular other h) (d .instruction) (d .next) es (d .byWords);
-        kept = kept-theorems .kept (legal-theorems .split s regular other h .legal) (runs-in s regular other h) (length s - sbase s) (d .instruction) (d .next) (d .byCells);
-        first = given EntersFirst (planOf f (seen s) (d .instruction) (d .next)) es (plan-enters f (seen s) (d .instruction) (d .next)) (d .byWords);
-      }
+  known : (es : List Effect) → planned s regular other ≡ gives es → Known s regular other es
+  known = plan-known s regular other lent h
 
   -- ---- a step, by its plan
 
@@ -94,18 +79,18 @@ module _ (s regular other : List ℕ) (short : Words s) (h : Accepted s regular 
       done-step = step-of (gives es) e ∙ rw q (settled-effects regular other (headerOf f .rtntrace) t es)
 
       performed : PerformedAll s es
-      performed = let k = fine es e .fitting in effects-theorems .allPerformed s sound es (k .all) (k .once) q
+      performed = let k = known es e .fitting in effects-theorems .allPerformed s sound es (k .all) (k .once) q
 
       done-accepted : Accepted t regular other
       done-accepted =
-          let k = fine es e .fitting in
-          effects-accepted s regular other h es performed (effects-theorems .allKept s sound es (k .all) (k .once) q) (fine es e .kept)
+          let k = known es e .fitting in
+          effects-accepted s regular other h es performed (effects-theorems .allKept s sound es (k .all) (k .once) q) (known es e .kept)
 
       others : (u : Target) → IsVariable s u → IsVariable t u → NoneStoresTo es u → look undefined u (view t) ≡ look undefined u (view s)
       others u before after none =
-          let k = fine es e .fitting in
+          let k = known es e .fitting in
           effects-theorems .allOthers s sound es (k .all) (k .once) q u
-          (effects-theorems .stands s sound es (k .all) (k .once) q (fine es e .first) u before after) none
+          (effects-theorems .stands s sound es (k .all) (k .once) q (known es e .first) u before after) none
 
       small : d ≤ 3
       small = due-small regular other (headerOf f .rtntrace) t es
@@ -127,7 +112,7 @@ module _ (s regular other : List ℕ) (short : Words s) (h : Accepted s regular 
   -- ---- what is left
 
   -- what holds of the segment, is kept by the effects of its plan, and goes by no trap
-  pub step-keeps : (P : List ℕ → Type 0) → ((t : List ℕ) → P t → (v : ℕ) → v < 2 ^ 16 → P (set t 3 v)) → P s
+  step-keeps : (P : List ℕ → Type 0) → ((t : List ℕ) → P t → (v : ℕ) → v < 2 ^ 16 → P (set t 3 v)) → P s
       → ((es : List Effect) → planned s regular other ≡ gives es → anyFull s es ≡ false → P (performs s es)) → P (stepOf regular other s .words)
   unfolding setTrap
   step-keeps P trapping start effects = go (planned s regular other) refl
@@ -154,4 +139,14 @@ module _ (s regular other : List ℕ) (short : Words s) (h : Accepted s regular 
   }
     where
       vain : (es : List Effect) → planned s regular other ≡ gives es → (anyFull s es ≡ true) ↔ AsksInVain s (h .owned .blocks) es
-      vain es e = let k = fine es e .fitting in effects-theorems .full s sound es (k .first) (k .once)
+      vain es e = let k = known es e .fitting in effects-theorems .full s sound es (k .first) (k .once)
+
+  -- words have 32 bits again
+  pub words-again : Words (stepOf regular other s .words)
+  words-again =
+      step-keeps Words (λ t k v l. words-set t k 3 v (omega arith)) (lent .words) (λ es e q.
+      let k = known es e in
+      bounded-theorems .effects s sound (lent .words) es (k .fitting .all) (k .fitting .once) q (k .small))
+
+pub step-theorem : StepTheorem
+step-theorem = record { step = means }
