@@ -7,7 +7,6 @@ use borrow.Author.Tests.{ne-eqb}
 use Rattle.segment.specs.Cells.{Cell}
 use Rattle.heap.proofs.Theorems.{heap-theorems}
 use Rattle.storage_tests.proofs.Tests.{by-eq}
-use Rattle.acceptance.specs.Refusal.{refusal}
 use Rattle.acceptance.specs.Structure.{Accepted}
 use Rattle.acceptance.proofs.Structure.{structure}
 use Rattle.stepping.specs.declared.Ran.{Ran}
@@ -15,7 +14,6 @@ use Rattle.stepping.specs.declared.Ran.the-variants as machine
 use Rattle.stepping.specs.Run.{runOf}
 use Rattle.layout.specs.LayOut.{layOutRefusal}
 use Rattle.plans.specs.Fitting.{Words}
-use Rattle.steps.specs.Runs.{RunTheorem}
 use Rattle.operations.specs.declared.Looked.{Looked}
 use Rattle.operations.specs.declared.Looked.the-variants.{Scalar, Array, Refused}
 use Rattle.operations.specs.Answers.{answerOf, statusOf, runStatus, lookStatus}
@@ -72,43 +70,37 @@ answered s (look p g) e = look-status s (looked s (p .regular) (p .other) g) (he
 
 -- ---- the demands
 
-module _ (run-theorem : RunTheorem) where
-  each : (s : List ℕ) → Words s → (c : Call) → LentCall c → Meets s c
-  each s words (layOut p l) lent = lay-out-meets s p l
-  each s words (run p budget) lent = run-meets run-theorem s words p lent budget
-  each s words (load p g lengths ravel) lent = load-meets s p g lengths ravel
-  each s words (look p g) lent = look-meets s p g
+each : (s : List ℕ) → Words s → (c : Call) → LentCall c → Meets s c
+each s words (layOut p l) lent = lay-out-meets s p l
+each s words (run p budget) lent = run-meets s words p lent budget
+each s words (load p g lengths ravel) lent = load-meets s p g lengths ravel
+each s words (look p g) lent = look-meets s p g
 
-  -- a call leaves what it found, or what is accepted beside its own procedure segments
-  good : (s : List ℕ) → Good s → (c : Call) → LentCall c → Good (after s c)
-  good s g (layOut p l) lent =
-      by-eq (layOutRefusal s (p .regular) (p .other) l) 0
-      (λ e. record { words = lay-out-words s p l e; beside = p; accepted = lay-out-meets s p l .accepted e })
-      (λ e. subst Good (sym (lay-out-meets s p l .refused e)) g)
-  good s g (run p budget) lent =
-      let meets = run-meets run-theorem s (g .words) p lent budget in
-      by-eq (refusal s (p .regular) (p .other)) 0
-      (λ e. record { words = run-words run-theorem s (g .words) p lent budget e; beside = p; accepted = meets .accepted e })
-      (λ e. subst (λ (r : Ended). Good (r .words)) (sym (meets .refused e)) g)
-  good s g (load p i lengths ravel) lent =
-      by-eq (loadRefusal s (p .regular) (p .other) i lengths ravel) 0
-      (λ e. record { words = load-words s p i lengths ravel e (g .words) (lent .2); beside = p; accepted = load-meets s p i lengths ravel .accepted e })
-      (λ e. subst Good (sym (load-meets s p i lengths ravel .refused e)) g)
-  good s g (look p i) lent = g
+-- a call that is not refused leaves what is accepted beside its own procedure segments
+left : (s : List ℕ) → Good s → (c : Call) → LentCall c → refusedBy s c ≡ 0 → Good (after s c)
+left s g (layOut p l) lent e = record { words = lay-out-words s p l e; beside = p; accepted = lay-out-meets s p l .accepted e }
+left s g (run p budget) lent e =
+    record { words = run-words s (g .words) p lent budget e; beside = p; accepted = run-meets s (g .words) p lent budget .accepted e }
+left s g (load p i lengths ravel) lent e =
+    record { words = load-words s p i lengths ravel e (g .words) (lent .2); beside = p; accepted = load-meets s p i lengths ravel .accepted e }
+left s g (look p i) lent e = g
 
-  list : (s : List ℕ) → Good s → (calls : List Call) → AllLent calls → AllMeet s calls
-  list s g [] lent = kept g
-  list s g (c ∷ calls) lent = (kept g, each s (g .words) c (lent .0), list (after s c) (good s g c (lent .0)) calls (lent .1))
+good : (s : List ℕ) → Good s → (c : Call) → LentCall c → Good (after s c)
+good s g c lent = by-eq (refusedBy s c) 0 (left s g c lent) (λ d. subst Good (sym (refused s c d .unchanged)) g)
 
-  pub demand-1 : Demand1
-  demand-1 = record { refused = refused; answered = answered; counted = λ s words p lent e budget. run-meets run-theorem s words p lent budget .steps e }
+list : (s : List ℕ) → Good s → (calls : List Call) → AllLent calls → AllMeet s calls
+list s g [] lent = kept g
+list s g (c ∷ calls) lent = (kept g, each s (g .words) c (lent .0), list (after s c) (good s g c (lent .0)) calls (lent .1))
 
-  pub demand-2 : Demand2
-  demand-2 = each
+pub demand-1 : Demand1
+demand-1 = record { refused = refused; answered = answered; counted = λ s words p lent e budget. run-meets s words p lent budget .steps e }
 
-  pub demand-3 : Demand3
-  demand-3 s regular other words e calls lent =
-      list s (record { words = words; beside = record { regular = regular; other = other }; accepted = structure .sound s regular other e }) calls lent
+pub demand-2 : Demand2
+demand-2 = each
 
-  pub demands : Demands
-  demands = record { refused = demand-1; each = demand-2; list = demand-3 }
+pub demand-3 : Demand3
+demand-3 s regular other words e calls lent =
+    list s (record { words = words; beside = record { regular = regular; other = other }; accepted = structure .sound s regular other e }) calls lent
+
+pub demands : Demands
+demands = record { refused = demand-1; each = demand-2; list = demand-3 }

@@ -28,8 +28,9 @@ use Rattle.effects_theorems.proofs.Variables.{in-view}
 use Rattle.legal_accepted.proofs.Cells.{globals-length}
 use Rattle.bounded.specs.Lent.{Lent}
 use Rattle.stepping.specs.Step.{Result, stepOf}
-use Rattle.steps.specs.Steps.{planned, Does, StepTheorem}
+use Rattle.steps.specs.Steps.{planned, Does}
 use Rattle.steps.proofs.Again.{sound-of}
+use Rattle.steps.proofs.Steps.{step-theorem}
 use Rattle.operations.specs.Load.{isGlobal}
 use Rattle.audit.specs.Calls.{held}
 use Rattle.audit.specs.ParList.{ParList}
@@ -78,7 +79,7 @@ all-globals : (es : List Effect) (m : Machine Cell) → length (performAll es m 
 all-globals [] m = refl
 all-globals (e ∷ es) m = all-globals es (performOn e m) ∙ effect-globals e m
 
-module _ (theorem : StepTheorem) (s regular other : List ℕ) (lent : Lent s regular other) (h : Accepted s regular other) (es : List Effect)
+module _ (s regular other : List ℕ) (lent : Lent s regular other) (h : Accepted s regular other) (es : List Effect)
     (e : planned s regular other ≡ gives es) where
   abbrev t : List ℕ
   t = stepOf regular other s .words
@@ -87,7 +88,7 @@ module _ (theorem : StepTheorem) (s regular other : List ℕ) (lent : Lent s reg
   done : (view t ≡ view s) ⊎ Does s regular other es
   unfolding setTrap
   done =
-      let means = theorem .step s regular other lent h in
+      let means = step-theorem .step s regular other lent h in
       ⊎-elim (λ v. inl (ap (λ (r : Result). view (r .words)) (means .full es e v) ∙ trap-view s (sound-of h) _)) (λ v. inr (means .does es e v)) (vain s (h .owned .blocks) es)
 
   unchanged : (u : Target) → IsVariable s u → IsVariable t u → NoneStoresTo es u → look undefined u (view t) ≡ look undefined u (view s)
@@ -103,5 +104,5 @@ module _ (theorem : StepTheorem) (s regular other : List ℕ) (lent : Lent s reg
       unchanged (Global (segment g)) (in-view s (Global (segment g)) .1 (b .0, there))
       (in-view t (Global (segment g)) .1 (b .0, omega (arith, there, globals-stay))) none
 
-pub par-list : StepTheorem → ParList
-par-list theorem = record { unchanged = unchanged theorem; global = global theorem }
+pub par-list : ParList
+par-list = record { unchanged = unchanged; global = global }

@@ -10,7 +10,7 @@ use Rattle.acceptance.proofs.Structure.{structure}
 use Rattle.stepping.specs.Run.{runOf}
 use Rattle.plans.specs.Fitting.{Words}
 use Rattle.bounded.specs.Lent.{Lent}
-use Rattle.steps.specs.Runs.{RunTheorem}
+use Rattle.steps.proofs.Runs.{run-theorem}
 use Rattle.operations.specs.declared.Run.the-variants as answers
 use Rattle.operations.specs.Run.{ended, accepted, ran}
 use Rattle.audit.specs.Calls.{Procedures, LentProcedures}
@@ -26,7 +26,7 @@ module _ (s : List ℕ) (p : Procedures) (budget : ℕ) where
   unfolding ran
   run-done e = simp (eq-eqb (refusal s (p .regular) (p .other)) 0 e)
 
-module _ (run-theorem : RunTheorem) (s : List ℕ) (words : Words s) (p : Procedures) (bytes : LentProcedures p) (budget : ℕ) where
+module _ (s : List ℕ) (words : Words s) (p : Procedures) (bytes : LentProcedures p) (budget : ℕ) where
   lent : Lent s (p .regular) (p .other)
   lent = record { words = words; regularBytes = bytes .0; otherBytes = bytes .1 }
 
