@@ -5,3 +5,4 @@ pub mod Look
 pub mod Load
 pub mod ParList
 pub mod Demands
+pub mod Table
