@@ -1,5 +1,5 @@
 -- A lay out does what `LayOutMeets` says, and leaves words of 32 bits.
-use Prim.Native.Nat.{ℕ, _+_, _-_, _*_, _^_, _≤_, _<_}
+use Prim.Native.Nat.{ℕ, _+_, _-_, _*_, _^_, _<_}
 use mathlib.Core.Path.{_≡_, sym, subst}
 use mathlib.Core.Logic.{_≢_}
 use mathlib.Core.List.{List}
@@ -8,7 +8,6 @@ use lib.ListN.{length, set, replicate}
 use lib.Seq.{sets}
 use borrow.Author.Tests.{ne-eqb}
 use Rattle.descriptor.specs.Fields.{undefinedWord}
-use Rattle.storage_tests.proofs.Tests.{by-eq}
 use Rattle.plans.specs.Fitting.{Words}
 use Rattle.plans.proofs.Lists.{all-replicate}
 use Rattle.bounded.proofs.Words.{words-all, words-set, words-sets}

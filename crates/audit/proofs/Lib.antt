@@ -1,8 +1,8 @@
--- Each call, and the demands.
+-- Each call, the demands, the par list, and the examples by computation.
 pub mod LayOut
 pub mod Run
 pub mod Look
 pub mod Load
-pub mod ParList
 pub mod Demands
-pub mod Table
+pub mod ParList
+pub mod Examples

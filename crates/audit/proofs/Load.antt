@@ -1,12 +1,12 @@
 -- A load does what `LoadMeets` says: it is one store of a value to a global.
-use Prim.Native.Nat.{ℕ, _+_, _^_, _≤_, _<_}
+use Prim.Native.Nat.{ℕ, _≤_, _<_}
 use mathlib.Core.Path.{_≡_, refl, sym, _∙_, ap, subst}
 use mathlib.Core.Bool.{Bool, true, false, cond, not}
-use mathlib.Core.Logic.{_≢_, _↔_, _⊎_, inl, inr, ⊎-elim}
+use mathlib.Core.Logic.{_≢_, _↔_, _⊎_, inl, ⊎-elim}
 use mathlib.Core.List.{List, [], _∷_}
 use native.Mathlib.Omega.{arith}
 use lib.Dec.{leb, ltb, eqb}
-use lib.ListN.{getD, length}
+use lib.ListN.{length}
 use borrow.Author.Tests.{leb-true, ltb-true, ltb-false, eqb-true, not-true, not-false, eq-eqb, ne-eqb, lt-ltb}
 use Rattle.descriptor.specs.declared.Target.{Target}
 use Rattle.descriptor.specs.declared.Target.the-variants.{Global}
@@ -14,7 +14,6 @@ use Rattle.descriptor.specs.Kinds.{segment, isScalar}
 use Rattle.segment.specs.Blocks.{product, need}
 use Rattle.segment.specs.Cells.{Cell, value}
 use Rattle.storage.specs.Heap.{Block, count}
-use Rattle.storage.specs.Owned.{Proper}
 use Rattle.view.specs.View.{view}
 use Rattle.heap.specs.Words.{HasRoom}
 use Rattle.heap.proofs.Counts.{hit-cases, hit-same}
@@ -25,10 +24,10 @@ use Rattle.acceptance.proofs.Structure.{line, structure}
 use Rattle.manual.specs.Values.{any}
 use Rattle.manual.specs.Effects.{Source, Effect, stores, meant, put}
 use Rattle.effects.specs.Sound.{Sound}
-use Rattle.effects.specs.Fits.{IsVariable, Available, Fits}
+use Rattle.effects.specs.Fits.{Available, Fits}
 use Rattle.effects.specs.Perform.{noneFor, store, perform, sourceNeed}
 use Rattle.effects.specs.Perform as performing
-use Rattle.effects_theorems.specs.Theorems.{Performed, StateKept, AsksInVain}
+use Rattle.effects_theorems.specs.Theorems.{Performed, AsksInVain}
 use Rattle.effects_theorems.proofs.Tests.{never, none-holds, one-holds, first-holds}
 use Rattle.effects_theorems.proofs.Variables.{in-view}
 use Rattle.effects_theorems.proofs.Theorems.{effects-theorems}

@@ -10,11 +10,11 @@ use Rattle.layout.specs.LayOut.{laidOut}
 use Rattle.operations.specs.declared.Run.the-variants.{Done, Trapped}
 use Rattle.operations.specs.Run.{Ended, ran}
 
--- A procedure segment of one function that has no argument, a local and three words of code: these bytes, and then NO_OPERATION.
+-- A procedure segment of one function that has no argument, a local and four words of code: these bytes, and then NO_OPERATION.
 abbrev pub coded : List ℕ → List ℕ
 coded code =
-    (0 ∷ 0 ∷ 0 ∷ 2 ∷ 0 ∷ 2 ∷ 0 ∷ 5 ∷ 0 ∷ 0 ∷ 0 ∷ 0 ∷ 0 ∷ 1 ∷ 0 ∷ 3 ∷ [])
-    ++ (code ++ replicate (12 - length code) 0xB2)
+    (0 ∷ 0 ∷ 0 ∷ 2 ∷ 0 ∷ 2 ∷ 0 ∷ 6 ∷ 0 ∷ 0 ∷ 0 ∷ 0 ∷ 0 ∷ 1 ∷ 0 ∷ 4 ∷ [])
+    ++ (code ++ replicate (16 - length code) 0xB2)
 
 -- 64 words, whatever stood in them, laid out with 4 globals and 24 array words.
 abbrev pub laid : List ℕ → List ℕ
