@@ -1,0 +1,3 @@
+-- Laws of the crate.
+pub mod Stacking
+pub mod Pushing
