@@ -1,3 +1,4 @@
 -- Laws of the crate.
 pub mod Stacking
 pub mod Pushing
+pub mod Vectors

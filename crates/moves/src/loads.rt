@@ -1,6 +1,6 @@
 // Instructions that push: loads, constants, REFERENCE, TEST_DEFINED, UNDEFINED, GETORIGIN.
 ghost use mathlib.Core.Path.{_≡_};
-ghost use mathlib.Core.List.{List};
+ghost use mathlib.Core.Bool.{cond};
 ghost use Prim.Native.Nat.{_≤_, _<_, _%_, _^_};
 ghost use lib.ListN.{length, take};
 ghost use Rattle.descriptor.specs.declared.Target as targets;
@@ -13,6 +13,7 @@ ghost use Rattle.manual.specs.OrTrap.{gives};
 ghost use Rattle.manual.specs.Seen.{at};
 ghost use Rattle.effects.specs.Sources.{heldAt};
 ghost use Rattle.effects.specs.Seen.{read, seen};
+ghost use Rattle.stack.specs.Operands.{isUndefined};
 ghost use Rattle.stack.specs.Variables.{variableSeen, Sure};
 ghost use Rattle.perform.specs.Carried.{did, carry};
 use descriptor::Descriptor;
@@ -87,8 +88,17 @@ pub fn test_defined(seg: &mut [u32], variable: Resolved, next: u32) -> Outcome
 {
     match variable {
         Resolved::Trap(class, number) => Outcome::Trapped(class, number),
-        Resolved::At(_, w) => push_word(seg, if is_undefined(w) { 0 } else { 1 }, next),
+        Resolved::At(_, w) => push_word(seg, defined(w), next),
     }
+}
+
+fn defined(w: u32) -> u32
+    ensures { λ r. ⌜ r ≡ cond (isUndefined w) 0 1 ⌝ }
+{
+    if is_undefined(w) {
+        return 0;
+    }
+    1
 }
 
 pub fn push_undefined(seg: &mut [u32], next: u32) -> Outcome

@@ -1,33 +1,27 @@
+use Rattle.manual.specs.Loads as plan
+use Rattle.moves.proofs.Pushing.{variable-trapped, held-loaded}
 use borrow.Author.Needs.{needs}
 use Rattle.moves.proofs.loads.load.Statement.{statement}
 use Rattle.moves.proofs.loads.load.Tie as tie
-use Rattle.moves.proofs.loads.load.Reads as reads
-use Rattle.moves.proofs.loads.load.Lts as lts
-use Rattle.moves.proofs.loads.load_word.Reads as load-word-reads
 
--- src/loads.rt:53:24
 enum-known-variable : tie.Need-enum-known-variable
 enum-known-variable c = search needs
 
--- src/loads.rt:54:25
 enum-known-variable-2 : tie.Need-enum-known-variable-2
 enum-known-variable-2 c = search needs
 
--- src/loads.rt:54:31
 load-word-requires : tie.Need-load-word-requires
 load-word-requires c κs = search needs
 
--- src/loads.rt:48:1
 returns : tie.Need-returns
-returns c = ?
+unfolding plan.load
+returns c = variable-trapped _ _ _ _ _ (c .before .variable .given .1)
 
--- src/loads.rt:48:1
 same-length : tie.Need-same-length
 same-length c = search needs
 
--- src/loads.rt:48:1
 returns-2 : tie.Need-returns-2
-returns-2 c = ?
+returns-2 c = held-loaded _ _ _ _ _ _ (c .before .before .before .before .before .before .before .before .pre .1) (c .before .before .before .before .before .variable2 .given .1) (c .before .before .load-word .ensures)
 
 pub load-spec : {M : Type 1} → statement M
 load-spec =
