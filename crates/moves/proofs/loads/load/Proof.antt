@@ -1,5 +1,6 @@
+use mathlib.Core.Path.{_∙_}
+use Rattle.moves.proofs.Variables.{variable-trapped, variable-at, variable-sure}
 use Rattle.manual.specs.Loads as plan
-use Rattle.moves.proofs.Pushing.{variable-trapped, held-loaded}
 use borrow.Author.Needs.{needs}
 use Rattle.moves.proofs.loads.load.Statement.{statement}
 use Rattle.moves.proofs.loads.load.Tie as tie
@@ -21,7 +22,9 @@ same-length : tie.Need-same-length
 same-length c = search needs
 
 returns-2 : tie.Need-returns-2
-returns-2 c = held-loaded _ _ _ _ _ _ (c .before .before .before .before .before .before .before .before .pre .1) (c .before .before .before .before .before .variable2 .given .1) (c .before .before .load-word .ensures)
+returns-2 c = let e = c .before .before .before .before .before .variable2 .given .1 in
+    c .before .before .load-word .ensures _ (variable-sure _ _ _ _ e (c .before .before .before .before .before .before .before .before .pre .1))
+    ∙ variable-at _ _ _ _ e (plan.load _ _)
 
 pub load-spec : {M : Type 1} → statement M
 load-spec =

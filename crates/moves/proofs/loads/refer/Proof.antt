@@ -1,6 +1,7 @@
+use Rattle.moves.proofs.Variables.{variable-trapped}
 use mathlib.Core.Path.{_∙_}
 use Rattle.manual.specs.Loads as plan
-use Rattle.moves.proofs.Pushing.{variable-trapped, reference-pushed}
+use Rattle.moves.proofs.Pushing.{reference-pushed}
 use borrow.Author.Needs.{needs}
 use Rattle.moves.proofs.loads.refer.Statement.{statement}
 use Rattle.moves.proofs.loads.refer.Tie as tie

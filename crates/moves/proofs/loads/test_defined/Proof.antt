@@ -1,6 +1,7 @@
+use Rattle.moves.proofs.Variables.{variable-trapped}
 use mathlib.Core.Path.{_∙_}
 use Rattle.manual.specs.Loads as plan
-use Rattle.moves.proofs.Pushing.{variable-trapped, tested}
+use Rattle.moves.proofs.Pushing.{tested}
 use borrow.Author.Needs.{needs}
 use Rattle.moves.proofs.loads.test_defined.Statement.{statement}
 use Rattle.moves.proofs.loads.test_defined.Tie as tie

@@ -1,0 +1,65 @@
+-- ASSIGN_INDEXED by the ways of the code.
+use Prim.Native.Nat.{ℕ, _+_, _%_, _^_, _≤_, _<_}
+use mathlib.Core.Path.{_≡_, refl, sym, ap, _∙_}
+use mathlib.Core.Bool.{Bool, true, false, not, _||_}
+use mathlib.Core.List.{List, [], _∷_}
+use native.Mathlib.Omega.{arith}
+use lib.Dec.{ltb, eqb}
+use lib.ListN.{length, take, getD}
+use borrow.Author.Tests.{lt-ltb, le-ltb}
+use Rattle.descriptor.specs.declared.Target.{Target}
+use Rattle.segment.specs.State.{flags, iorg}
+use Rattle.segment.specs.Cells.{Cell}
+use Rattle.manual.specs.OrTrap.{OrTrap, gives, trap, andThen, stopIf}
+use Rattle.manual.specs.Effects.{Effect, storesElement, jumps, Plan}
+use Rattle.manual.specs.Seen.{at}
+use Rattle.manual.specs.Values as values
+use Rattle.manual.specs.Scalars.{operands, isScalarCell, anyCell, scalarWords}
+use Rattle.manual.specs.Memory as plan
+use Rattle.effects.specs.Seen.{read, temporaries, seen}
+use Rattle.stack.specs.declared.operands.Value.{Value}
+use Rattle.stack.specs.declared.operands.Value.the-variants.{Scalar, Array}
+use Rattle.stack.specs.declared.operands.Operand.{Operand}
+use Rattle.stack.specs.declared.operands.Operand.the-variants as O
+use Rattle.stack.specs.Operands.{operandOf, valueSeen, held}
+use Rattle.stack.specs.Taken.{isForeignTo, takenOf}
+use Rattle.stack.proofs.Seen.{origin-seen, count-seen}
+use Rattle.stack.proofs.ValuesSeen.{value-seen}
+use Rattle.stack.proofs.Subscripts.{taken-plan, words-before, word-last}
+use Rattle.perform.specs.declared.Outcome.the-variants.{Finished, Trapped}
+use Rattle.perform.specs.Carried.{did, carry}
+
+module _ (s : List ℕ) (next rank : ℕ) (t : Target) where
+  -- The operands that are scalars: the subscripts, and the value after them.
+  abbrev cells : List Cell
+  cells = operands (seen s) 0 (rank + 1)
+
+  -- With their words, for an array of these lengths: the element's place, or a trap; and the element stored.
+  abbrev stored : List ℕ → ℕ → Plan
+  stored words k = gives (storesElement t k (getD words rank 0) (rank + 1) ∷ jumps next ∷ [])
+
+  abbrev sought : List ℕ → List ℕ → OrTrap ℕ
+  sought lengths words = stopIf (not (eqb rank (length lengths))) 9 1 (values.place (iorg (flags s)) (take rank words) lengths)
+
+  abbrev elementIn : List ℕ → List ℕ → Plan
+  elementIn lengths words = andThen (sought lengths words) (stored words)
+
+  module _ (w : ℕ) where
+    abbrev indexed : Plan
+    indexed = plan.assignIndexed (seen s) next rank (gives (at t (read s w)))
+
+    pub indexed-missing : temporaries s < rank + 1 → did (Trapped 3 4) s ≡ carry s indexed
+    unfolding plan.assignIndexed
+    indexed-missing few = rw (count-seen s, lt-ltb (temporaries s) (rank + 1) few)
+
+    module _ (enough : rank + 1 ≤ temporaries s) where
+      pub indexed-other : operandOf s w ≡ O.Other → did (Trapped 3 5) s ≡ carry s indexed
+      unfolding plan.assignIndexed
+      indexed-other e = rw (count-seen s, le-ltb (temporaries s) (rank + 1) enough, value-seen s w, e)
+
+      module _ (v : Value) (is : operandOf s w ≡ O.Value v) where
+        judged : andThen (takenOf true cells) (λ words. stopIf (eqb (values.rank (held s v)) 0) 5 0 (elementIn (held s v .shape) words)) ≡ indexed
+        unfolding plan.assignIndexed
+        judged =
+            taken-plan true (eqb (values.rank (held s v)) 0) cells (elementIn (held s v .shape))
+            ∙ rw (count-seen s, le-ltb (temporaries s) (rank + 1) enough, value-seen s w, is, ← words-before (seen s) 0 rank, ← word-last (seen s) 0 rank, origin-seen s)
