@@ -3,6 +3,7 @@ use Prim.Native.Nat.{ℕ, _+_, _%_, _^_, _≤_, _<_}
 use mathlib.Core.Path.{_≡_, refl, sym, ap, _∙_}
 use mathlib.Core.Bool.{Bool, true, false, not, _||_}
 use mathlib.Core.List.{List, [], _∷_}
+use native.Mathlib.Nat.{zero-add}
 use native.Mathlib.Omega.{arith}
 use lib.Dec.{ltb, eqb}
 use lib.ListN.{length, take, getD}
@@ -14,7 +15,7 @@ use Rattle.manual.specs.OrTrap.{OrTrap, gives, trap, andThen, stopIf}
 use Rattle.manual.specs.Effects.{Effect, storesElement, jumps, Plan}
 use Rattle.manual.specs.Seen.{at}
 use Rattle.manual.specs.Values as values
-use Rattle.manual.specs.Scalars.{operands, isScalarCell, anyCell, scalarWords}
+use Rattle.manual.specs.Scalars.{operands, isScalarCell, anyCell, scalarWord, scalarWords}
 use Rattle.manual.specs.Memory as plan
 use Rattle.effects.specs.Seen.{read, temporaries, seen}
 use Rattle.stack.specs.declared.operands.Value.{Value}
@@ -34,18 +35,24 @@ module _ (s : List ℕ) (next rank : ℕ) (t : Target) where
   abbrev cells : List Cell
   cells = operands (seen s) 0 (rank + 1)
 
-  -- With their words, for an array of these lengths: the element's place, or a trap; and the element stored.
-  abbrev stored : List ℕ → ℕ → Plan
-  stored words k = gives (storesElement t k (getD words rank 0) (rank + 1) ∷ jumps next ∷ [])
+  -- With the subscripts and the value, for an array of these lengths: the element's place, or a trap; and the element stored.
+  abbrev pub sought : ℕ → List ℕ → List ℕ → OrTrap ℕ
+  sought origin subscripts lengths = stopIf (not (eqb rank (length lengths))) 9 1 (values.place origin subscripts lengths)
 
-  abbrev sought : List ℕ → List ℕ → OrTrap ℕ
-  sought lengths words = stopIf (not (eqb rank (length lengths))) 9 1 (values.place (iorg (flags s)) (take rank words) lengths)
+  abbrev pub stored : ℕ → ℕ → Plan
+  stored x k = gives (storesElement t k x (rank + 1) ∷ jumps next ∷ [])
 
-  abbrev elementIn : List ℕ → List ℕ → Plan
-  elementIn lengths words = andThen (sought lengths words) (stored words)
+  abbrev pub elementIn : List ℕ → List ℕ → Plan
+  elementIn lengths words = andThen (sought (iorg (flags s)) (take rank words) lengths) (stored (getD words rank 0))
+
+  same-element : (lengths : List ℕ) → elementIn lengths (scalarWords cells) ≡ andThen (sought (seen s .origin) (scalarWords (operands (seen s) 0 rank)) lengths) (stored (scalarWord (seen s .operand rank)))
+  same-element lengths =
+      ap (λ (words : List ℕ). andThen (sought (iorg (flags s)) words lengths) (stored (getD (scalarWords cells) rank 0))) (words-before (seen s) 0 rank)
+      ∙ ap (λ (x : ℕ). andThen (sought (iorg (flags s)) (scalarWords (operands (seen s) 0 rank)) lengths) (stored x)) (word-last (seen s) 0 rank ∙ ap (λ (i : ℕ). scalarWord (seen s .operand i)) (zero-add rank))
+      ∙ ap (λ (origin : ℕ). andThen (sought origin (scalarWords (operands (seen s) 0 rank)) lengths) (stored (scalarWord (seen s .operand rank)))) (sym (origin-seen s))
 
   module _ (w : ℕ) where
-    abbrev indexed : Plan
+    abbrev pub indexed : Plan
     indexed = plan.assignIndexed (seen s) next rank (gives (at t (read s w)))
 
     pub indexed-missing : temporaries s < rank + 1 → did (Trapped 3 4) s ≡ carry s indexed
@@ -58,8 +65,18 @@ module _ (s : List ℕ) (next rank : ℕ) (t : Target) where
       indexed-other e = rw (count-seen s, le-ltb (temporaries s) (rank + 1) enough, value-seen s w, e)
 
       module _ (v : Value) (is : operandOf s w ≡ O.Value v) where
-        judged : andThen (takenOf true cells) (λ words. stopIf (eqb (values.rank (held s v)) 0) 5 0 (elementIn (held s v .shape) words)) ≡ indexed
+        abbrev single : Bool
+        single = eqb (values.rank (held s v)) 0
+
+        pub judged : andThen (takenOf true cells) (λ words. stopIf single 5 0 (elementIn (held s v .shape) words)) ≡ indexed
         unfolding plan.assignIndexed
         judged =
-            taken-plan true (eqb (values.rank (held s v)) 0) cells (elementIn (held s v .shape))
-            ∙ rw (count-seen s, le-ltb (temporaries s) (rank + 1) enough, value-seen s w, is, ← words-before (seen s) 0 rank, ← word-last (seen s) 0 rank, origin-seen s)
+            taken-plan true single cells (elementIn (held s v .shape))
+            ∙ ap (λ (p : Plan). stopIf (anyCell (isForeignTo true) cells) 3 5 (stopIf (single || anyCell (λ c. not (isScalarCell c)) cells) 5 0 p)) (same-element (held s v .shape))
+            ∙ rw (count-seen s, le-ltb (temporaries s) (rank + 1) enough, value-seen s w, is)
+
+        pub indexed-trapped : (class number : ℕ) → takenOf true cells ≡ trap class number → did (Trapped class number) s ≡ carry s indexed
+        indexed-trapped class number e = ap (carry s) (rw e at judged)
+
+        pub indexed-scalar : (x : ℕ) (words : List ℕ) → v ≡ Scalar x → takenOf true cells ≡ gives words → did (Trapped 5 0) s ≡ carry s indexed
+        indexed-scalar x words scalar e = ap (carry s) (rw (e, scalar) at judged)

@@ -5,3 +5,4 @@ pub mod Pushing
 pub mod Vectors
 pub mod Assigning
 pub mod Indexing
+pub mod Storing

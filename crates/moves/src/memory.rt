@@ -1,14 +1,17 @@
 // ASSIGN, ASSIGN_NORESULT, ASSIGN_INDEXED, EAT1, INTERCHANGE, NO_OPERATION.
 ghost use mathlib.Core.Path.{_≡_};
+ghost use mathlib.Core.List.{[], _∷_};
 ghost use Prim.Native.Nat.{_≤_, _<_, _%_, _^_};
 ghost use lib.ListN.{length};
 ghost use Rattle.segment.specs.Cells.{Cell};
 ghost use Rattle.manual.specs.OrTrap.{gives};
+ghost use Rattle.manual.specs.Effects.{storesElement, jumps};
 ghost use Rattle.manual.specs.Seen.{at};
 ghost use Rattle.manual.specs.Memory as plan;
 ghost use Rattle.effects.specs.Sources.{heldAt};
 ghost use Rattle.effects.specs.Seen.{read, seen};
 ghost use Rattle.stack.specs.Variables.{variableSeen, Sure};
+ghost use Rattle.perform.specs.Done.{Held};
 ghost use Rattle.perform.specs.Carried.{did, carry};
 ghost use Rattle.moves.specs.Indexed.{Indexed};
 use descriptor::Target;
@@ -126,13 +129,31 @@ fn element_in(seg: &mut [u32], rank: u32, t: Target, block: SegmentAddress, take
     }
     match place(iorg(seg), &taken[..r], lengths) {
         Found::Trap(class, number) => Outcome::Trapped(class, number),
-        Found::At(k) => match store_element(seg, t, block, k, taken[r], rank + 1, scratch) {
-            Done::Full => Outcome::Trapped(1, 2),
-            Done::Done => {
-                jump(seg, next);
-                Outcome::Finished
-            }
-        },
+        Found::At(k) => store_at(seg, t, block, k, taken[r], rank + 1, next, scratch),
+    }
+}
+
+// The element at that place is `w` from now on, and n operands go.
+fn store_at(
+    seg: &mut [u32],
+    t: Target,
+    block: SegmentAddress,
+    k: u32,
+    w: u32,
+    n: u32,
+    next: u32,
+    scratch: &mut [u32],
+) -> Outcome
+    requires { ⌜ Held (now seg) t (block .0) ⌝ }
+    requires { ⌜ (0 < n) × (length (now seg) ≤ 16384) × (length (now scratch) ≡ 16384) ⌝ }
+    ensures { λ r. ⌜ did r (now (seg .exit)) ≡ carry (now (seg .entry)) (gives (storesElement t k w n ∷ jumps next ∷ [])) ⌝ }
+{
+    match store_element(seg, t, block, k, w, n, scratch) {
+        Done::Full => Outcome::Trapped(1, 2),
+        Done::Done => {
+            jump(seg, next);
+            Outcome::Finished
+        }
     }
 }
 

@@ -1,105 +1,61 @@
+use mathlib.Core.Path.{sym, _∙_}
+use native.Mathlib.Omega.{arith}
+use lib.Seq.{length-take-le}
+use Rattle.moves.proofs.Storing.{block-whole, block-held, few-elements, other-rank, outside, element-found}
 use borrow.Author.Needs.{needs}
 use Rattle.moves.proofs.memory.element_in.Statement.{statement}
 use Rattle.moves.proofs.memory.element_in.Tie as tie
-use Rattle.moves.proofs.memory.element_in.Reads as reads
-use Rattle.moves.proofs.memory.element_in.Lts as lts
-use Rattle.elements.proofs.subscripts.place.Reads as place-reads
-use Rattle.perform.proofs.storing.store_element.Reads as store-element-reads
-use Rattle.perform.proofs.taking.jump.Reads as jump-reads
-use Rattle.segment.proofs.state.iorg.Reads as iorg-reads
-use Rattle.stack.proofs.operands.lengths_of.Reads as lengths-of-reads
 
--- src/memory.rt:123:9
 lengths-of-requires : tie.Need-lengths-of-requires
-lengths-of-requires c κs = ?
+lengths-of-requires c κs = block-whole _ _ _ _ _ (c .before .before .before .before .pre .1)
 
--- src/memory.rt:125:9
 same-length : tie.Need-same-length
 same-length c = search needs
 
--- src/memory.rt:125:9
 returns : tie.Need-returns
-returns c = ?
+returns c = other-rank _ _ _ _ _ (c .before .before .before .before .before .before .pre .1) _ (λ same. c .if1 .taken (cc))
 
--- src/memory.rt:127:17
 iorg-requires : tie.Need-iorg-requires
 iorg-requires c κs = search needs
 
--- src/memory.rt:127:28
 slice-aggregate-place : tie.Need-slice-aggregate-place
-slice-aggregate-place c = ?
+slice-aggregate-place c = sym (length-take-le _ _ (omega arith))
 
--- src/memory.rt:127:11
 place-requires : tie.Need-place-requires
-place-requires c κs = ?
+place-requires c κs = (length-take-le _ _ (omega arith) ∙ c .before .before .if1 .left, rw (c .before .before .before .lengths-of .ensures) (few-elements _ _ _ _ _ (c .before .before .before .before .before .before .before .before .pre .1)))
 
--- src/memory.rt:128:21
 enum-known-class : tie.Need-enum-known-class
 enum-known-class c = search needs
 
--- src/memory.rt:129:19
 enum-known-k : tie.Need-enum-known-k
 enum-known-k c = search needs
 
--- src/memory.rt:129:63
-mul-store-element : tie.Need-mul-store-element
-mul-store-element c = search needs
+mul-store-at : tie.Need-mul-store-at
+mul-store-at c = search needs
 
--- src/memory.rt:129:63
-shared-slice-read-store-element : tie.Need-shared-slice-read-store-element
-shared-slice-read-store-element c = search needs
+shared-slice-read-store-at : tie.Need-shared-slice-read-store-at
+shared-slice-read-store-at c = search needs
 
--- src/memory.rt:129:73
-add-store-element : tie.Need-add-store-element
-add-store-element c = search needs
+add-store-at : tie.Need-add-store-at
+add-store-at c = search needs
 
--- src/memory.rt:129:31
-store-element-requires : tie.Need-store-element-requires
-store-element-requires c κs = ?
+store-at-requires : tie.Need-store-at-requires
+store-at-requires c κs = (block-held _ _ _ _ _ (c .before .before .before .before .before .before .before .before .before .before .before .before .before .before .before .pre .1), search needs)
 
--- src/memory.rt:130:27
-enum-told : tie.Need-enum-told
-enum-told c = search needs
-
--- src/memory.rt:132:22
-enum-told-2 : tie.Need-enum-told-2
-enum-told-2 c = search needs
-
--- src/memory.rt:132:17
-jump-requires : tie.Need-jump-requires
-jump-requires c κs = search needs
-
--- src/memory.rt:117:1
 same-length-2 : tie.Need-same-length-2
 same-length-2 c = search needs
 
--- src/memory.rt:117:1
 returns-2 : tie.Need-returns-2
-returns-2 c = ?
+returns-2 c = outside _ _ _ _ _ (c .before .before .before .before .before .before .before .before .before .before .before .before .pre .1) _ (cc) _ _ _ (c .before .class .given .1) (cc)
 
--- src/memory.rt:117:1
 same-length-3 : tie.Need-same-length-3
 same-length-3 c = search needs
 
--- src/memory.rt:117:1
 same-length-4 : tie.Need-same-length-4
 same-length-4 c = search needs
 
--- src/memory.rt:117:1
 returns-3 : tie.Need-returns-3
-returns-3 c = ?
-
--- src/memory.rt:117:1
-same-length-5 : tie.Need-same-length-5
-same-length-5 c = search needs
-
--- src/memory.rt:117:1
-same-length-6 : tie.Need-same-length-6
-same-length-6 c = search needs
-
--- src/memory.rt:117:1
-returns-4 : tie.Need-returns-4
-returns-4 c = ?
+returns-3 c = c .before .before .before .before .store-at .ensures ∙ element-found _ _ _ _ _ (c .before .before .before .before .before .before .before .before .before .before .before .before .before .before .before .before .before .before .before .before .pre .1) _ (cc) _ _ (c .before .before .before .before .before .before .before .before .before .k .given .1) (cc)
 
 pub element-in-spec : {M : Type 1} → statement M
 element-in-spec =
@@ -113,18 +69,12 @@ element-in-spec =
     place-requires
     enum-known-class
     enum-known-k
-    mul-store-element
-    shared-slice-read-store-element
-    add-store-element
-    store-element-requires
-    enum-told
-    enum-told-2
-    jump-requires
+    mul-store-at
+    shared-slice-read-store-at
+    add-store-at
+    store-at-requires
     same-length-2
     returns-2
     same-length-3
     same-length-4
-    returns-3
-    same-length-5
-    same-length-6
-    returns-4)
+    returns-3)
