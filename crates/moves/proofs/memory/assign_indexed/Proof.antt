@@ -1,3 +1,4 @@
+use native.Mathlib.Omega.{arith}
 use mathlib.Core.Path.{_∙_}
 use Rattle.manual.specs.Memory as plan
 use Rattle.moves.proofs.Variables.{variable-trapped, variable-at, variable-sure}
@@ -15,7 +16,7 @@ cast-assign-element : tie.Need-cast-assign-element
 cast-assign-element c = search needs
 
 assign-element-requires : tie.Need-assign-element-requires
-assign-element-requires c κs = ?
+assign-element-requires c κs = (search needs, search needs, omega arith, variable-sure _ _ _ _ (c .before .before .before .variable2 .given .1) (c .before .before .before .before .before .before .before .pre .2))
 
 returns : tie.Need-returns
 unfolding plan.assignIndexed
@@ -28,7 +29,7 @@ same-length-2 : tie.Need-same-length-2
 same-length-2 c = search needs
 
 returns-2 : tie.Need-returns-2
-returns-2 c = ?
+returns-2 c = c .before .before .before .before .assign-element .ensures ∙ variable-at _ _ _ _ (c .before .before .before .before .before .before .before .before .variable2 .given .1) (plan.assignIndexed _ _ _)
 
 pub assign-indexed-spec : {M : Type 1} → statement M
 assign-indexed-spec =
