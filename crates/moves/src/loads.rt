@@ -1,14 +1,19 @@
 // Instructions that push: loads, constants, REFERENCE, TEST_DEFINED, UNDEFINED, GETORIGIN.
 ghost use mathlib.Core.Path.{_≡_};
-ghost use mathlib.Core.List.{List};
+ghost use mathlib.Core.Bool.{cond};
 ghost use Prim.Native.Nat.{_≤_, _<_, _%_, _^_};
 ghost use lib.ListN.{length, take};
+ghost use Rattle.descriptor.specs.declared.Target as targets;
 ghost use Rattle.descriptor.specs.Fields.{integerWord};
 ghost use Rattle.descriptor.specs.Kinds.{bit};
 ghost use Rattle.manual.specs.Effects as effect;
 ghost use Rattle.manual.specs.Instructions.{wordsFrom};
 ghost use Rattle.manual.specs.Loads as plan;
-ghost use Rattle.effects.specs.Seen.{seen};
+ghost use Rattle.manual.specs.OrTrap.{gives};
+ghost use Rattle.manual.specs.Seen.{at};
+ghost use Rattle.effects.specs.Sources.{heldAt};
+ghost use Rattle.effects.specs.Seen.{read, seen};
+ghost use Rattle.stack.specs.Operands.{isUndefined};
 ghost use Rattle.stack.specs.Variables.{variableSeen, Sure};
 ghost use Rattle.perform.specs.Carried.{did, carry};
 use descriptor::Descriptor;
@@ -52,7 +57,10 @@ pub fn load(seg: &mut [u32], variable: Resolved, next: u32) -> Outcome
 }
 
 // The word that the variable holds is pushed, and counted.
-fn load_word(seg: &mut [u32], w: u32, next: u32) -> Outcome {
+fn load_word(seg: &mut [u32], w: u32, next: u32) -> Outcome
+    requires { ⌜ length (now seg) ≤ 16384 ⌝ }
+    ensures { λ r. ⌜ ((t : targets.Target) → w ≡ heldAt (now (seg .entry)) t → did r (now (seg .exit)) ≡ carry (now (seg .entry)) (plan.load (seen (now (seg .entry))) next (gives (at t (read (now (seg .entry)) w))))) ⌝ }
+{
     if is_undefined(w) {
         return Outcome::Trapped(10, 0);
     }
@@ -80,8 +88,17 @@ pub fn test_defined(seg: &mut [u32], variable: Resolved, next: u32) -> Outcome
 {
     match variable {
         Resolved::Trap(class, number) => Outcome::Trapped(class, number),
-        Resolved::At(_, w) => push_word(seg, if is_undefined(w) { 0 } else { 1 }, next),
+        Resolved::At(_, w) => push_word(seg, defined(w), next),
     }
+}
+
+fn defined(w: u32) -> u32
+    ensures { λ r. ⌜ r ≡ cond (isUndefined w) 0 1 ⌝ }
+{
+    if is_undefined(w) {
+        return 0;
+    }
+    1
 }
 
 pub fn push_undefined(seg: &mut [u32], next: u32) -> Outcome

@@ -1,11 +1,19 @@
 // ASSIGN, ASSIGN_NORESULT, ASSIGN_INDEXED, EAT1, INTERCHANGE, NO_OPERATION.
 ghost use mathlib.Core.Path.{_≡_};
-ghost use Prim.Native.Nat.{_≤_, _%_, _^_};
+ghost use mathlib.Core.List.{[], _∷_};
+ghost use Prim.Native.Nat.{_≤_, _<_, _%_, _^_};
 ghost use lib.ListN.{length};
+ghost use Rattle.segment.specs.Cells.{Cell};
+ghost use Rattle.manual.specs.OrTrap.{gives};
+ghost use Rattle.manual.specs.Effects.{storesElement, jumps};
+ghost use Rattle.manual.specs.Seen.{at};
 ghost use Rattle.manual.specs.Memory as plan;
-ghost use Rattle.effects.specs.Seen.{seen};
+ghost use Rattle.effects.specs.Sources.{heldAt};
+ghost use Rattle.effects.specs.Seen.{read, seen};
 ghost use Rattle.stack.specs.Variables.{variableSeen, Sure};
+ghost use Rattle.perform.specs.Done.{Held};
 ghost use Rattle.perform.specs.Carried.{did, carry};
+ghost use Rattle.moves.specs.Indexed.{Indexed};
 use descriptor::Target;
 use descriptor::address::SegmentAddress;
 use elements::Found;
@@ -37,7 +45,9 @@ pub fn assign(seg: &mut [u32], variable: Resolved, next: u32) -> Outcome
     }
 }
 
-fn assign_to(seg: &mut [u32], t: Target, next: u32) -> Outcome {
+fn assign_to(seg: &mut [u32], t: Target, next: u32) -> Outcome
+    ensures { λ r. ⌜ ((c : Cell) → did r (now (seg .exit)) ≡ carry (now (seg .entry)) (plan.assign (seen (now (seg .entry))) next (gives (at t c)))) ⌝ }
+{
     if count(seg) < 1 {
         return Outcome::Trapped(3, 4);
     }
@@ -59,7 +69,9 @@ pub fn assign_no_result(seg: &mut [u32], variable: Resolved, next: u32) -> Outco
     }
 }
 
-fn move_to(seg: &mut [u32], t: Target, next: u32) -> Outcome {
+fn move_to(seg: &mut [u32], t: Target, next: u32) -> Outcome
+    ensures { λ r. ⌜ ((c : Cell) → did r (now (seg .exit)) ≡ carry (now (seg .entry)) (plan.assignNoResult (seen (now (seg .entry))) next (gives (at t c)))) ⌝ }
+{
     if count(seg) < 1 {
         return Outcome::Trapped(3, 4);
     }
@@ -83,7 +95,10 @@ pub fn assign_indexed(seg: &mut [u32], rank: u8, variable: Resolved, next: u32, 
     }
 }
 
-fn assign_element(seg: &mut [u32], rank: u32, t: Target, held: u32, next: u32, scratch: &mut [u32]) -> Outcome {
+fn assign_element(seg: &mut [u32], rank: u32, t: Target, held: u32, next: u32, scratch: &mut [u32]) -> Outcome
+    requires { ⌜ (length (now seg) ≤ 16384) × (length (now scratch) ≡ 16384) × (rank < 2 ^ 4) × (held ≡ heldAt (now seg) t) ⌝ }
+    ensures { λ r. ⌜ did r (now (seg .exit)) ≡ carry (now (seg .entry)) (plan.assignIndexed (seen (now (seg .entry))) next rank (gives (at t (read (now (seg .entry)) held)))) ⌝ }
+{
     if count(seg) < rank + 1 {
         return Outcome::Trapped(3, 4);
     }
@@ -102,7 +117,11 @@ fn assign_element(seg: &mut [u32], rank: u32, t: Target, held: u32, next: u32, s
 }
 
 // `taken` holds the subscripts and then the value.
-fn element_in(seg: &mut [u32], rank: u32, t: Target, block: SegmentAddress, taken: &[u32], next: u32, scratch: &mut [u32]) -> Outcome {
+fn element_in(seg: &mut [u32], rank: u32, t: Target, block: SegmentAddress, taken: &[u32], next: u32, scratch: &mut [u32]) -> Outcome
+    requires { ⌜ (length (now seg) ≤ 16384) × (length (now scratch) ≡ 16384) × (rank < length (now taken)) × (rank < 2 ^ 4) ⌝ }
+    requires { ⌜ Indexed (now seg) rank t block (now taken) ⌝ }
+    ensures { λ r. ⌜ did r (now (seg .exit)) ≡ carry (now (seg .entry)) (plan.assignIndexed (seen (now (seg .entry))) next rank (gives (at t (read (now (seg .entry)) (heldAt (now (seg .entry)) t))))) ⌝ }
+{
     let r = rank as usize;
     let lengths = lengths_of(seg, block);
     if r != lengths.len() {
@@ -110,13 +129,31 @@ fn element_in(seg: &mut [u32], rank: u32, t: Target, block: SegmentAddress, take
     }
     match place(iorg(seg), &taken[..r], lengths) {
         Found::Trap(class, number) => Outcome::Trapped(class, number),
-        Found::At(k) => match store_element(seg, t, block, k, taken[r], rank + 1, scratch) {
-            Done::Full => Outcome::Trapped(1, 2),
-            Done::Done => {
-                jump(seg, next);
-                Outcome::Finished
-            }
-        },
+        Found::At(k) => store_at(seg, t, block, k, taken[r], rank + 1, next, scratch),
+    }
+}
+
+// The element at that place is `w` from now on, and n operands go.
+fn store_at(
+    seg: &mut [u32],
+    t: Target,
+    block: SegmentAddress,
+    k: u32,
+    w: u32,
+    n: u32,
+    next: u32,
+    scratch: &mut [u32],
+) -> Outcome
+    requires { ⌜ Held (now seg) t (block .0) ⌝ }
+    requires { ⌜ (0 < n) × (length (now seg) ≤ 16384) × (length (now scratch) ≡ 16384) ⌝ }
+    ensures { λ r. ⌜ did r (now (seg .exit)) ≡ carry (now (seg .entry)) (gives (storesElement t k w n ∷ jumps next ∷ [])) ⌝ }
+{
+    match store_element(seg, t, block, k, w, n, scratch) {
+        Done::Full => Outcome::Trapped(1, 2),
+        Done::Done => {
+            jump(seg, next);
+            Outcome::Finished
+        }
     }
 }
 
