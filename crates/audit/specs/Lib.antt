@@ -3,3 +3,4 @@ pub mod Calls
 pub mod Meets
 pub mod Demands
 pub mod ParList
+pub mod Table

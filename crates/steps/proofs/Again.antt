@@ -31,7 +31,7 @@ view-flags s = refl
 
 module _ (s regular other : List ℕ) (h : Accepted s regular other) where
   -- what is left of the state words, where the rest is sound and legal
-  accepted-again : (t : List ℕ) → length t ≡ length s → Sound t → Legal regular other (view t) → flags t < 2 ^ 4 → trapWord t < 2 ^ 16
+  pub accepted-again : (t : List ℕ) → length t ≡ length s → Sound t → Legal regular other (view t) → flags t < 2 ^ 4 → trapWord t < 2 ^ 16
       → ((i : ℕ) → 5 ≤ i → i < 8 → getD t i 0 ≡ getD s i 0) → Accepted t regular other
   accepted-again t long sound legal f w rest =
       legal-theorems .join t regular other (record {
