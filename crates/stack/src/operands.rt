@@ -91,7 +91,7 @@ fn is_whole(seg: &[u32], block: SegmentAddress) -> bool
     if rank < 1 {
         return false;
     }
-    let size = size_at(seg, block.number()) as usize;
+    let size = size_at(seg, block) as usize;
     if seg.len() < block.index() + size {
         return false;
     }
