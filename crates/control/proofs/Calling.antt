@@ -16,7 +16,7 @@ use Rattle.manual.specs.Instructions.{Running, callPlan}
 use Rattle.manual.specs.Control.{frameWord, call}
 use Rattle.effects.specs.Perform.{perform, enter}
 use Rattle.effects.specs.Seen.{temporaries, seen}
-use Rattle.stack.proofs.Seen.{count-seen, room-seen}
+use Rattle.access.proofs.Seen.{count-seen, room-seen}
 use Rattle.perform.specs.declared.Outcome.the-variants.{Entered, Trapped}
 use Rattle.perform.specs.Carried.{did, carry}
 use Rattle.control.specs.Answers.{callIn}

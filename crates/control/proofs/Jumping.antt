@@ -21,11 +21,11 @@ use Rattle.manual.specs.Control.{jumpTo, goIf, branchTo, branch}
 use Rattle.effects.specs.Sources.{operandAt}
 use Rattle.effects.specs.Perform.{perform, performs}
 use Rattle.effects.specs.Seen.{whole, read, temporaries, seen}
-use Rattle.stack.specs.declared.operands.Operand.{Operand}
-use Rattle.stack.specs.Operands.{operandOf, valueSeen}
-use Rattle.stack.proofs.Seen.{count-seen, operand-seen}
-use Rattle.stack.proofs.ValuesSeen.{value-seen}
-use Rattle.stack.proofs.Whole.{whole-facts}
+use Rattle.access.specs.declared.operands.Operand.{Operand}
+use Rattle.access.specs.Operands.{operandOf, valueSeen}
+use Rattle.access.proofs.Seen.{count-seen, operand-seen}
+use Rattle.access.proofs.ValuesSeen.{value-seen}
+use Rattle.access.proofs.Whole.{whole-facts}
 use Rattle.perform.specs.declared.Outcome.the-variants.{Finished, Trapped}
 use Rattle.perform.specs.Carried.{did, carry}
 use Rattle.control.specs.declared.jumps.Condition.{Condition}

@@ -15,8 +15,8 @@ use Rattle.manual.specs.Loads as loads
 use Rattle.manual.specs.Control.{leaving, return}
 use Rattle.effects.specs.Perform.{perform, performs}
 use Rattle.effects.specs.Seen.{seen}
-use Rattle.stack.specs.Operands.{isUndefined}
-use Rattle.stack.proofs.ValuesSeen.{undefined-seen}
+use Rattle.access.specs.Operands.{isUndefined}
+use Rattle.access.proofs.ValuesSeen.{undefined-seen}
 use Rattle.perform.specs.declared.Outcome.the-variants.{Left, Trapped}
 use Rattle.perform.specs.Carried.{did, carry}
 use Rattle.control.specs.declared.calls.Leaving.{Leaving}

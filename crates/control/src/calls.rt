@@ -27,9 +27,9 @@ use segment::minus;
 use segment::stack::last_lbase;
 use segment::state::lbase;
 use segment::word;
-use stack::operands::count;
-use stack::operands::is_undefined;
-use stack::operands::room;
+use access::operands::count;
+use access::operands::is_undefined;
+use access::operands::room;
 
 // Whether the current function can be left.
 pub enum Leaving {

@@ -26,12 +26,12 @@ use procedure::header::Line;
 use scalar::Truth;
 use scalar::Whole;
 use segment::blocks::rank;
-use stack::operands::Operand;
-use stack::operands::Value;
-use stack::operands::count;
-use stack::operands::elements_of;
-use stack::operands::operand_at;
-use stack::operands::value_of;
+use access::operands::Operand;
+use access::operands::Value;
+use access::operands::count;
+use access::operands::elements_of;
+use access::operands::operand_at;
+use access::operands::value_of;
 
 // What GO_TRUE and GO_FALSE find in their operand.
 pub enum Condition {

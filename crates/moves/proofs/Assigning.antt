@@ -12,12 +12,12 @@ use Rattle.manual.specs.Memory as plan
 use Rattle.effects.specs.Sources.{operandAt}
 use Rattle.effects.specs.Seen.{temporaries, seen}
 use Rattle.effects.specs.Perform.{discard, perform}
-use Rattle.stack.specs.declared.operands.Value.{Value}
-use Rattle.stack.specs.declared.operands.Operand.{Operand}
-use Rattle.stack.specs.declared.operands.Operand.the-variants as O
-use Rattle.stack.specs.Operands.{operandOf, valueSeen}
-use Rattle.stack.proofs.Seen.{count-seen, operand-seen}
-use Rattle.stack.proofs.ValuesSeen.{value-seen}
+use Rattle.access.specs.declared.operands.Value.{Value}
+use Rattle.access.specs.declared.operands.Operand.{Operand}
+use Rattle.access.specs.declared.operands.Operand.the-variants as O
+use Rattle.access.specs.Operands.{operandOf, valueSeen}
+use Rattle.access.proofs.Seen.{count-seen, operand-seen}
+use Rattle.access.proofs.ValuesSeen.{value-seen}
 use Rattle.perform.specs.declared.Outcome.the-variants.{Finished, Trapped}
 use Rattle.perform.specs.Done.{storeShared}
 use Rattle.perform.specs.Carried.{did, carry}

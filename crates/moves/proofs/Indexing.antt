@@ -19,16 +19,16 @@ use Rattle.manual.specs.Scalars.{operands, isScalarCell, anyCell, scalarWord, s
 use Rattle.manual.specs.Memory as plan
 use Rattle.effects.specs.Sources.{heldAt}
 use Rattle.effects.specs.Seen.{read, temporaries, seen}
-use Rattle.stack.specs.declared.operands.Value.{Value}
-use Rattle.stack.specs.declared.operands.Value.the-variants.{Scalar, Array}
-use Rattle.stack.specs.declared.operands.Operand.the-variants as O
-use Rattle.stack.specs.Operands.{operandOf, held}
-use Rattle.stack.specs.declared.taken.Taken.{Taken}
-use Rattle.stack.specs.declared.taken.Taken.the-variants.{Words, Foreign, NoScalar}
-use Rattle.stack.specs.Taken.{isForeignTo, takenOf, taken}
-use Rattle.stack.proofs.Seen.{origin-seen, count-seen}
-use Rattle.stack.proofs.ValuesSeen.{value-seen}
-use Rattle.stack.proofs.Subscripts.{taken-plan, words-before, word-last}
+use Rattle.access.specs.declared.operands.Value.{Value}
+use Rattle.access.specs.declared.operands.Value.the-variants.{Scalar, Array}
+use Rattle.access.specs.declared.operands.Operand.the-variants as O
+use Rattle.access.specs.Operands.{operandOf, held}
+use Rattle.access.specs.declared.taken.Taken.{Taken}
+use Rattle.access.specs.declared.taken.Taken.the-variants.{Words, Foreign, NoScalar}
+use Rattle.access.specs.Taken.{isForeignTo, takenOf, taken}
+use Rattle.access.proofs.Seen.{origin-seen, count-seen}
+use Rattle.access.proofs.ValuesSeen.{value-seen}
+use Rattle.access.proofs.Subscripts.{taken-plan, words-before, word-last}
 use Rattle.perform.specs.declared.Outcome.the-variants.{Trapped}
 use Rattle.perform.specs.Carried.{did, carry}
 use Rattle.moves.specs.Indexed.{Indexed}

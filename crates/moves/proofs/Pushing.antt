@@ -18,12 +18,12 @@ use Rattle.manual.specs.Loads as plan
 use Rattle.effects.specs.Sources.{heldAt, referenceWord}
 use Rattle.effects.specs.Seen.{read, seen}
 use Rattle.effects.specs.Perform.{replace, perform}
-use Rattle.stack.specs.declared.variables.Resolved.{Resolved}
-use Rattle.stack.specs.declared.variables.Resolved.the-variants.{At}
-use Rattle.stack.specs.Operands.{isUndefined}
-use Rattle.stack.specs.Variables.{variableSeen}
-use Rattle.stack.proofs.Seen.{origin-seen, room-seen}
-use Rattle.stack.proofs.ValuesSeen.{undefined-seen}
+use Rattle.access.specs.declared.variables.Resolved.{Resolved}
+use Rattle.access.specs.declared.variables.Resolved.the-variants.{At}
+use Rattle.access.specs.Operands.{isUndefined}
+use Rattle.access.specs.Variables.{variableSeen}
+use Rattle.access.proofs.Seen.{origin-seen, room-seen}
+use Rattle.access.proofs.ValuesSeen.{undefined-seen}
 use Rattle.perform.specs.declared.Outcome.the-variants.{Finished, Trapped}
 use Rattle.perform.specs.declared.Done.the-variants.{Done, Full}
 use Rattle.perform.specs.Done.{replaceShared, answer, attempt}

@@ -7,7 +7,7 @@ use Rattle.manual.specs.Effects.{jumps}
 use Rattle.manual.specs.Memory as plan
 use Rattle.effects.specs.Seen.{temporaries, seen}
 use Rattle.effects.specs.Perform.{discard, swap, perform}
-use Rattle.stack.proofs.Seen.{count-seen}
+use Rattle.access.proofs.Seen.{count-seen}
 use Rattle.perform.specs.declared.Outcome.the-variants.{Finished, Trapped}
 use Rattle.perform.specs.Carried.{did, carry}
 

@@ -25,11 +25,11 @@ use Rattle.elements.specs.declared.Found.the-variants as found
 use Rattle.elements.specs.Answers.{placeNamed}
 use Rattle.effects.specs.Sources.{heldAt}
 use Rattle.effects.specs.Seen.{whole}
-use Rattle.stack.specs.declared.operands.Value.the-variants.{Array}
-use Rattle.stack.specs.declared.operands.Operand.the-variants as operand
-use Rattle.stack.specs.Operands.{operandOfKind, operandOf}
-use Rattle.stack.proofs.Whole.{whole-facts}
-use Rattle.stack.proofs.ValuesSeen.{array-whole}
+use Rattle.access.specs.declared.operands.Value.the-variants.{Array}
+use Rattle.access.specs.declared.operands.Operand.the-variants as operand
+use Rattle.access.specs.Operands.{operandOfKind, operandOf}
+use Rattle.access.proofs.Whole.{whole-facts}
+use Rattle.access.proofs.ValuesSeen.{array-whole}
 use Rattle.perform.specs.declared.Outcome.the-variants.{Trapped}
 use Rattle.perform.specs.Done.{Held}
 use Rattle.perform.specs.Carried.{did, carry}

@@ -8,9 +8,9 @@ use Rattle.manual.specs.Effects.{Plan}
 use Rattle.manual.specs.Seen.{Variable, at}
 use Rattle.effects.specs.Sources.{heldAt}
 use Rattle.effects.specs.Seen.{read}
-use Rattle.stack.specs.declared.variables.Resolved.{Resolved}
-use Rattle.stack.specs.declared.variables.Resolved.the-variants.{At, Trap}
-use Rattle.stack.specs.Variables.{variableSeen, Sure}
+use Rattle.access.specs.declared.variables.Resolved.{Resolved}
+use Rattle.access.specs.declared.variables.Resolved.the-variants.{At, Trap}
+use Rattle.access.specs.Variables.{variableSeen, Sure}
 use Rattle.perform.specs.declared.Outcome.the-variants.{Trapped}
 use Rattle.perform.specs.Carried.{did, carry}
 

@@ -10,10 +10,10 @@ use Rattle.manual.specs.OrTrap.{gives}
 use Rattle.manual.specs.Scalars.{operands}
 use Rattle.effects.specs.Sources.{heldAt}
 use Rattle.effects.specs.Seen.{temporaries, seen}
-use Rattle.stack.specs.declared.operands.Value.the-variants as values
-use Rattle.stack.specs.declared.operands.Operand.the-variants as operand
-use Rattle.stack.specs.Operands.{operandOf}
-use Rattle.stack.specs.Taken.{takenOf}
+use Rattle.access.specs.declared.operands.Value.the-variants as values
+use Rattle.access.specs.declared.operands.Operand.the-variants as operand
+use Rattle.access.specs.Operands.{operandOf}
+use Rattle.access.specs.Taken.{takenOf}
 
 -- The variable holds the array of that block; the subscripts, and after them the value, are operands, scalars all of them.
 pub record Indexed (s : List ℕ) (rank : ℕ) (t : Target) (block : SegmentAddress) (words : List ℕ) : Type 0 where

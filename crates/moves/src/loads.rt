@@ -13,8 +13,8 @@ ghost use Rattle.manual.specs.OrTrap.{gives};
 ghost use Rattle.manual.specs.Seen.{at};
 ghost use Rattle.effects.specs.Sources.{heldAt};
 ghost use Rattle.effects.specs.Seen.{read, seen};
-ghost use Rattle.stack.specs.Operands.{isUndefined};
-ghost use Rattle.stack.specs.Variables.{variableSeen, Sure};
+ghost use Rattle.access.specs.Operands.{isUndefined};
+ghost use Rattle.access.specs.Variables.{variableSeen, Sure};
 ghost use Rattle.perform.specs.Carried.{did, carry};
 use descriptor::Descriptor;
 use descriptor::Target;
@@ -28,10 +28,10 @@ use perform::taking::replace_by_share;
 use perform::taking::replace_by_word;
 use procedure::bytes::word_at;
 use segment::state::iorg;
-use stack::operands::is_undefined;
-use stack::operands::room;
-use stack::variables::Resolved;
-use stack::variables::reference_word;
+use access::operands::is_undefined;
+use access::operands::room;
+use access::variables::Resolved;
+use access::variables::reference_word;
 
 // A word that names no array.
 pub fn push_word(seg: &mut [u32], w: u32, next: u32) -> Outcome

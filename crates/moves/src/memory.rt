@@ -10,7 +10,7 @@ ghost use Rattle.manual.specs.Seen.{at};
 ghost use Rattle.manual.specs.Memory as plan;
 ghost use Rattle.effects.specs.Sources.{heldAt};
 ghost use Rattle.effects.specs.Seen.{read, seen};
-ghost use Rattle.stack.specs.Variables.{variableSeen, Sure};
+ghost use Rattle.access.specs.Variables.{variableSeen, Sure};
 ghost use Rattle.perform.specs.Done.{Held};
 ghost use Rattle.perform.specs.Carried.{did, carry};
 ghost use Rattle.moves.specs.Indexed.{Indexed};
@@ -26,15 +26,15 @@ use perform::taking::discard;
 use perform::taking::jump;
 use perform::taking::swap;
 use segment::state::iorg;
-use stack::operands::Operand;
-use stack::operands::Value;
-use stack::operands::count;
-use stack::operands::lengths_of;
-use stack::operands::operand_at;
-use stack::operands::value_of;
-use stack::taken::Taken;
-use stack::taken::take_scalars;
-use stack::variables::Resolved;
+use access::operands::Operand;
+use access::operands::Value;
+use access::operands::count;
+use access::operands::lengths_of;
+use access::operands::operand_at;
+use access::operands::value_of;
+use access::taken::Taken;
+use access::taken::take_scalars;
+use access::variables::Resolved;
 
 pub fn assign(seg: &mut [u32], variable: Resolved, next: u32) -> Outcome
     ensures { λ r. ⌜ did r (now (seg .exit)) ≡ carry (now (seg .entry)) (plan.assign (seen (now (seg .entry))) next (variableSeen (now (seg .entry)) variable)) ⌝ }

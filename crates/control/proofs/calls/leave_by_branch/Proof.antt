@@ -1,6 +1,6 @@
 use Prim.Native.Nat.{ℕ, _-_}
 use mathlib.Core.Path.{sym, ap, _∙_}
-use Rattle.stack.proofs.Seen.{count-seen}
+use Rattle.access.proofs.Seen.{count-seen}
 use Rattle.control.proofs.Leaving.{dropping-trap, dropping-left}
 use borrow.Author.Needs.{needs}
 use Rattle.control.proofs.calls.leave_by_branch.Statement.{statement}

@@ -1,5 +1,5 @@
 use mathlib.Core.Path.{sym, _∙_}
-use Rattle.stack.proofs.Seen.{count-seen}
+use Rattle.access.proofs.Seen.{count-seen}
 use Rattle.control.proofs.Leaving.{return-trap, return-left}
 use borrow.Author.Needs.{needs}
 use Rattle.control.proofs.calls.return_from.Statement.{statement}

@@ -2,9 +2,9 @@ use mathlib.Core.Path.{ap, _∙_}
 use native.Mathlib.Omega.{arith}
 use Rattle.procedure.specs.Headers.{lineOf}
 use Rattle.effects.specs.Sources.{operandAt}
-use Rattle.stack.specs.declared.operands.Operand.the-variants as operands
-use Rattle.stack.specs.declared.operands.Value.the-variants as values
-use Rattle.stack.proofs.ValuesSeen.{array-whole}
+use Rattle.access.specs.declared.operands.Operand.the-variants as operands
+use Rattle.access.specs.declared.operands.Value.the-variants as values
+use Rattle.access.proofs.ValuesSeen.{array-whole}
 use Rattle.perform.specs.Carried.{carry}
 use Rattle.control.proofs.Jumping.{branch-none, branch-is}
 use borrow.Author.Needs.{needs}

@@ -2,9 +2,9 @@ use Prim.Native.Nat.{ℕ}
 use mathlib.Core.Path.{ap, _∙_}
 use mathlib.Core.List.{List, []}
 use Rattle.manual.specs.Values.{value, truthOfValue}
-use Rattle.stack.specs.declared.operands.Operand.the-variants as operands
-use Rattle.stack.specs.declared.operands.Value.the-variants as values
-use Rattle.stack.proofs.ValuesSeen.{array-whole}
+use Rattle.access.specs.declared.operands.Operand.the-variants as operands
+use Rattle.access.specs.declared.operands.Value.the-variants as values
+use Rattle.access.proofs.ValuesSeen.{array-whole}
 use Rattle.control.proofs.Jumping.{truth-by}
 use borrow.Author.Needs.{needs}
 use Rattle.control.proofs.jumps.condition_of.Statement.{statement}
