@@ -2,7 +2,7 @@
 ghost use mathlib.Core.Path.{_≡_};
 ghost use mathlib.Core.Bool.{cond};
 ghost use Prim.Native.Nat.{_≤_, _<_, _%_, _^_};
-ghost use lib.ListN.{length, take};
+ghost use lib.ListN.{length};
 ghost use Rattle.descriptor.specs.declared.Target as targets;
 ghost use Rattle.descriptor.specs.Fields.{integerWord};
 ghost use Rattle.descriptor.specs.Kinds.{bit};
@@ -17,11 +17,10 @@ ghost use Rattle.access.specs.Operands.{isUndefined};
 ghost use Rattle.access.specs.Variables.{variableSeen, Sure};
 ghost use Rattle.perform.specs.Carried.{did, carry};
 use descriptor::Descriptor;
-use descriptor::Target;
 use descriptor::address::CodeAddress;
 use elements::kinds::any_other;
-use perform::Outcome;
 use perform::Done;
+use perform::Outcome;
 use perform::taking::jump;
 use perform::taking::replace_by_array;
 use perform::taking::replace_by_share;
@@ -120,7 +119,11 @@ pub fn short_constant(seg: &mut [u32], negative: bool, magnitude: u32, next: u32
     requires { ⌜ length (now seg) ≤ 16384 ⌝ }
     ensures { λ r. ⌜ did r (now (seg .exit)) ≡ carry (now (seg .entry)) (plan.shortConstant (seen (now (seg .entry))) next (integerWord (bit negative) (magnitude % 2 ^ 12))) ⌝ }
 {
-    push_word(seg, Descriptor::integer(negative, magnitude % 0x1000).word(), next)
+    push_word(
+        seg,
+        Descriptor::integer(negative, magnitude % 0x1000).word(),
+        next,
+    )
 }
 
 pub fn constant_scalar(seg: &mut [u32], w: u32, next: u32) -> Outcome
@@ -134,7 +137,14 @@ pub fn constant_scalar(seg: &mut [u32], w: u32, next: u32) -> Outcome
 }
 
 // The words stand in the code from `first` on.
-pub fn constant_vector(seg: &mut [u32], code: &[u8], count: u8, first: CodeAddress, next: u32, scratch: &mut [u32]) -> Outcome
+pub fn constant_vector(
+    seg: &mut [u32],
+    code: &[u8],
+    count: u8,
+    first: CodeAddress,
+    next: u32,
+    scratch: &mut [u32],
+) -> Outcome
     requires { ⌜ (length (now seg) ≤ 16384) × (length (now scratch) ≡ 16384) ⌝ }
     ensures { λ r. ⌜ did r (now (seg .exit)) ≡ carry (now (seg .entry)) (plan.constantVector (seen (now (seg .entry))) next (wordsFrom (count % 2 ^ 8) (now (code .entry)) (first .0 % 2 ^ 16))) ⌝ }
 {

@@ -18,10 +18,10 @@ use descriptor::Target;
 use descriptor::address::SegmentAddress;
 use elements::Found;
 use elements::subscripts::place;
+use perform::Done;
 use perform::Outcome;
 use perform::storing::store_element;
 use perform::storing::store_share;
-use perform::Done;
 use perform::taking::discard;
 use perform::taking::jump;
 use perform::taking::swap;
@@ -85,7 +85,13 @@ fn move_to(seg: &mut [u32], t: Target, next: u32) -> Outcome
     Outcome::Finished
 }
 
-pub fn assign_indexed(seg: &mut [u32], rank: u8, variable: Resolved, next: u32, scratch: &mut [u32]) -> Outcome
+pub fn assign_indexed(
+    seg: &mut [u32],
+    rank: u8,
+    variable: Resolved,
+    next: u32,
+    scratch: &mut [u32],
+) -> Outcome
     requires { ⌜ (length (now seg) ≤ 16384) × (length (now scratch) ≡ 16384) × Sure (now seg) variable ⌝ }
     ensures { λ r. ⌜ did r (now (seg .exit)) ≡ carry (now (seg .entry)) (plan.assignIndexed (seen (now (seg .entry))) next (rank % 2 ^ 4) (variableSeen (now (seg .entry)) variable)) ⌝ }
 {
@@ -95,7 +101,14 @@ pub fn assign_indexed(seg: &mut [u32], rank: u8, variable: Resolved, next: u32, 
     }
 }
 
-fn assign_element(seg: &mut [u32], rank: u32, t: Target, held: u32, next: u32, scratch: &mut [u32]) -> Outcome
+fn assign_element(
+    seg: &mut [u32],
+    rank: u32,
+    t: Target,
+    held: u32,
+    next: u32,
+    scratch: &mut [u32],
+) -> Outcome
     requires { ⌜ (length (now seg) ≤ 16384) × (length (now scratch) ≡ 16384) × (rank < 2 ^ 4) × (held ≡ heldAt (now seg) t) ⌝ }
     ensures { λ r. ⌜ did r (now (seg .exit)) ≡ carry (now (seg .entry)) (plan.assignIndexed (seen (now (seg .entry))) next rank (gives (at t (read (now (seg .entry)) held)))) ⌝ }
 {
@@ -117,7 +130,15 @@ fn assign_element(seg: &mut [u32], rank: u32, t: Target, held: u32, next: u32, s
 }
 
 // `taken` holds the subscripts and then the value.
-fn element_in(seg: &mut [u32], rank: u32, t: Target, block: SegmentAddress, taken: &[u32], next: u32, scratch: &mut [u32]) -> Outcome
+fn element_in(
+    seg: &mut [u32],
+    rank: u32,
+    t: Target,
+    block: SegmentAddress,
+    taken: &[u32],
+    next: u32,
+    scratch: &mut [u32],
+) -> Outcome
     requires { ⌜ (length (now seg) ≤ 16384) × (length (now scratch) ≡ 16384) × (rank < length (now taken)) × (rank < 2 ^ 4) ⌝ }
     requires { ⌜ Indexed (now seg) rank t block (now taken) ⌝ }
     ensures { λ r. ⌜ did r (now (seg .exit)) ≡ carry (now (seg .entry)) (plan.assignIndexed (seen (now (seg .entry))) next rank (gives (at t (read (now (seg .entry)) (heldAt (now (seg .entry)) t))))) ⌝ }

@@ -47,8 +47,7 @@ loop-less c = omega arith
 
 loop-again : tie.Need-loop-again Inv-loop μ-loop
 loop-again c =
-    let inv = c .before .before .loop .inv in
-    (
+    let inv = c .before .before .loop .inv in (
       omega arith,
       omega arith,
       omega arith,
