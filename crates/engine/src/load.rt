@@ -1,7 +1,5 @@
 // Load: a value into a global.
 ghost use mathlib.Core.Path.{_≡_};
-ghost use mathlib.Core.Bool.{true};
-ghost use Prim.Native.Nat.{_≤_, _<_};
 ghost use lib.Dec.{ltb, eqb};
 ghost use Rattle.segment.specs.Blocks as layout;
 ghost use Rattle.manual.specs.Values as values;

@@ -1,6 +1,5 @@
 // Look: what a global holds. An array's lengths and elements are handed back as parts of the lent segment.
 ghost use mathlib.Core.Path.{_≡_};
-ghost use lib.ListN.{getD};
 ghost use Rattle.segment.specs.Parts as parts;
 ghost use Rattle.operations.specs.Look.{seenAs, looked};
 ghost use Rattle.descriptor.specs.Kinds.{kindOf};

@@ -97,7 +97,7 @@ module _ (s regular other : List ℕ) (l : Layout) (h : Passed s regular other l
 
   seen : view after ≡ freshView locals l
   seen =
-      let w = word-made (h .function) in
+      let w = word-made l (h .function .selector) in
       laid-view (h .room) words (omega (arith, w)) (omega (arith, w))
 
 pub fresh-theorem : FreshTheorem

@@ -79,22 +79,25 @@ module _ (regular other : List ℕ) (l : Layout) where
     unfolding laidOut
     laid-out h = simp (eq-eqb (layOutRefusal s regular other l) 0 h)
 
+pub word-made : (l : Layout) → l .selector ≤ 1 → wordOf l ≡ l .selector * 2 ^ 27 + l .function * 2 ^ 16 + 8
+word-made l small =
+    by-eq (l .selector) 1
+    (λ e. rw (eq-eqb (l .selector) 1 e) (omega (arith, e)))
+    (λ e. rw (ne-eqb (l .selector) 1 e) (omega (arith, e, small)))
+
 module _ {regular other : List ℕ} {l : Layout} (h : BottomFunction regular other l) where
-  pub word-made : wordOf l ≡ l .selector * 2 ^ 27 + l .function * 2 ^ 16 + 8
-  word-made =
-      by-eq (l .selector) 1
-      (λ e. rw (eq-eqb (l .selector) 1 e) (omega (arith, e)))
-      (λ e. rw (ne-eqb (l .selector) 1 e) (omega (arith, e, h .selector)))
+  made : wordOf l ≡ l .selector * 2 ^ 27 + l .function * 2 ^ 16 + 8
+  made = word-made l (h .selector)
 
   word-alternate : alternate (wordOf l) ≡ l .selector
-  word-alternate = rw word-made (omega (arith, h .selector, h .number))
+  word-alternate = rw made (omega (arith, h .selector, h .number))
 
   word-function : functionNumber (wordOf l) ≡ l .function
-  word-function = rw word-made (omega (arith, h .selector, h .number))
+  word-function = rw made (omega (arith, h .selector, h .number))
 
   pub word-known : known regular other (wordOf l) ≡ true
   unfolding known
-  word-known = passes (lt-ltb (wordOf l) (2 ^ 28) (omega (arith, word-made, h .selector, h .number))) (rw (word-alternate, word-function) (h .present))
+  word-known = passes (lt-ltb (wordOf l) (2 ^ 28) (omega (arith, made, h .selector, h .number))) (rw (word-alternate, word-function) (h .present))
 
   pub word-arguments : arguments regular other (wordOf l) ≡ 0
   unfolding arguments

@@ -16,7 +16,6 @@ use Rattle.manual.specs.OrTrap.{gives, trap}
 use Rattle.manual.specs.Effects.{Effect, Plan, look}
 use Rattle.manual.specs.Instructions.{Running, headerOf}
 use Rattle.effects.specs.Sound.{Sound}
-use Rattle.effects.specs.Seen.{seen}
 use Rattle.effects.specs.Fits.{InMachine, IsVariable}
 use Rattle.effects.specs.Perform.{performs, anyFull}
 use Rattle.effects_theorems.specs.Theorems.{NoneStoresTo, AsksInVain, PerformedAll}

@@ -1,0 +1,120 @@
+-- The table of lay out: its answer, and the segment after it, where the tests up to one are known.
+use Prim.Native.Nat.{ℕ, _+_, _<_, _≤_}
+use mathlib.Core.Path.{_≡_, refl, sym, ap, _∙_}
+use mathlib.Core.Bool.{Bool, true, false, cond}
+use mathlib.Core.List.{List}
+use native.Mathlib.Omega.{arith}
+use lib.ListN.{length}
+use lib.Dec.{leb, eqb}
+use borrow.Author.Tests.{eq-eqb, ne-eqb}
+use Rattle.procedure.specs.declared.header.Block.{Block}
+use Rattle.procedure.specs.declared.directory.Function.{Function}
+use Rattle.procedure.specs.declared.directory.Function.the-variants as F
+use Rattle.procedure.specs.Headers.{blockAt}
+use Rattle.procedure.specs.Directory.{hasFunction, startOf, functionOf}
+use Rattle.procedure.specs.Refusal.{procedureRefusal}
+use Rattle.manual.specs.Control.{frameWord}
+use Rattle.storage_tests.specs.Tests.{_and_}
+use Rattle.acceptance.specs.Refusal.{lengthTest}
+use Rattle.layout.specs.LayOut.{Layout, chosen, localsOf, functionTest, baseOf, partsTest, layOutRefusal, fresh, laidOut}
+use Rattle.layout.proofs.Passed.{passed as passes}
+use Rattle.operations.specs.declared.Answer.{Answer}
+use Rattle.operations.specs.declared.Answer.the-variants.{Done, Refused}
+use Rattle.operations.specs.Answers.{answerOf}
+
+-- ---- the bottom function
+
+abbrev bottom : List ℕ → List ℕ → Layout → Function
+bottom regular other l = cond (leb (l .selector) 1 and leb (l .function) 2047) (functionOf (chosen regular other l) (l .function)) F.Absent
+
+abbrev niladic : Function → Bool
+niladic F.Absent = false
+niladic (F.At block) = eqb (block .header .nargs) 0
+
+by-tests : (a b c : Bool) (block : Block) → (a and b and c and eqb (block .header .nargs) 0) ≡ niladic (cond (a and b) (cond c (F.At block) F.Absent) F.Absent)
+by-tests true true true block = refl
+by-tests true true false block = refl
+by-tests true false c block = refl
+by-tests false b c block = refl
+
+same-block : (a c : Bool) (x block : Block) → F.At block ≡ cond a (cond c (F.At x) F.Absent) F.Absent → block ≡ x
+same-block true true x block at = cc
+same-block true false x block at = cc
+same-block false c x block at = cc
+
+module _ (regular other : List ℕ) (l : Layout) where
+  by-function : (f : Function) → f ≡ bottom regular other l → functionTest regular other l ≡ niladic f
+  unfolding functionTest functionOf
+  by-function f same =
+      by-tests (leb (l .selector) 1) (leb (l .function) 2047) (hasFunction (chosen regular other l) (l .function)) (blockAt (chosen regular other l) (startOf (chosen regular other l) (l .function)))
+      ∙ ap niladic (sym same)
+
+  by-block : (block : Block) → F.At block ≡ bottom regular other l → block .header .nlocals ≡ localsOf regular other l
+  unfolding functionOf
+  by-block block at = ap (λ (b : Block). b .header .nlocals) (same-block (leb (l .selector) 1 and leb (l .function) 2047) (hasFunction (chosen regular other l) (l .function)) _ block at)
+
+-- ---- the table
+
+module _ (s regular other : List ℕ) (l : Layout) where
+  -- what lay out answers, and what it leaves
+  abbrev pub Answers : Answer → List ℕ → Type 0
+  Answers answer after = (answer ≡ answerOf (layOutRefusal s regular other l)) × (after ≡ laidOut s regular other l)
+
+  refused : (n : ℕ) → (n ≡ 0 → ⊥) → layOutRefusal s regular other l ≡ n → Answers (Refused n) s
+  unfolding laidOut
+  refused n some e = (simp (e, ne-eqb n 0 some), simp (e, ne-eqb n 0 some))
+
+  done : layOutRefusal s regular other l ≡ 0
+      → Answers Done (fresh (length s) (localsOf regular other l) (frameWord (eqb (l .selector) 1) (l .function)) l)
+  unfolding laidOut
+  done e = (simp e, simp e)
+
+  abbrev pub segments : ℕ
+  segments = cond (lengthTest s) (procedureRefusal regular other) 10
+
+  pub segments-refused : (n : ℕ) → n ≡ segments → (n ≡ 0 → ⊥) → Answers (Refused n) s
+  unfolding layOutRefusal
+  segments-refused n same some = refused n some (by-length (lengthTest s) same)
+    where
+      by-length : (b : Bool) → n ≡ cond b (procedureRefusal regular other) 10
+          → cond b (cond (eqb (procedureRefusal regular other) 0) (cond (functionTest regular other l) (cond (partsTest s regular other l) 0 19) 20) (procedureRefusal regular other)) 10 ≡ n
+      by-length true same = simp (← same, ne-eqb n 0 some)
+      by-length false same = sym same
+
+  module _ (passed : 0 ≡ segments) where
+    by-parts : (f : Function) → f ≡ bottom regular other l → layOutRefusal s regular other l ≡ cond (niladic f) (cond (partsTest s regular other l) 0 19) 20
+    unfolding layOutRefusal
+    by-parts f same = rw (by-function regular other l f same) (by-length (lengthTest s) passed)
+      where
+        by-length : (b : Bool) → 0 ≡ cond b (procedureRefusal regular other) 10
+            → cond b (cond (eqb (procedureRefusal regular other) 0) (cond (niladic f) (cond (partsTest s regular other l) 0 19) 20) (procedureRefusal regular other)) 10 ≡ cond (niladic f) (cond (partsTest s regular other l) 0 19) 20
+        by-length true zero = simp (← zero)
+        by-length false zero = absurd (omega arith)
+
+    pub absent : F.Absent ≡ bottom regular other l → Answers (Refused 20) s
+    absent same = refused 20 (λ e. omega (arith, e)) (by-parts F.Absent same)
+
+    module _ (block : Block) (at : F.At block ≡ bottom regular other l) where
+      pub has-arguments : 0 < block .header .nargs → Answers (Refused 20) s
+      has-arguments some = refused 20 (λ e. omega (arith, e)) (by-parts (F.At block) at ∙ simp (ne-eqb (block .header .nargs) 0 (λ e. omega (arith, e))))
+
+      abbrev pub parts : Bool
+      parts = leb (l .globals) 4088 and leb 6 (l .arrayWords) and leb (baseOf l + block .header .nlocals + 2) (length s)
+
+      module _ (none : block .header .nargs ≤ 0) where
+        judged : (b : Bool) → b ≡ parts → layOutRefusal s regular other l ≡ cond b 0 19
+        unfolding partsTest
+        judged b same = by-parts (F.At block) at ∙ simp (eq-eqb (block .header .nargs) 0 (omega arith), ← by-block regular other l block at, ← same)
+
+        pub too-large : false ≡ parts → Answers (Refused 19) s
+        too-large same = refused 19 (λ e. omega (arith, e)) (judged false same)
+
+        module _ (fit : true ≡ parts) where
+          pub laid : Answers Done (fresh (length s) (block .header .nlocals) (frameWord (eqb (l .selector) 1) (l .function)) l)
+          laid = rw (by-block regular other l block at) (done (judged true fit))
+
+          -- what the writer of a fresh segment asks for
+          pub room : ((l .selector ≤ 1) × (l .function ≤ 2047) × (6 ≤ l .arrayWords)) × ((baseOf l + block .header .nlocals + 2 ≤ length s) × (length s ≤ 16384))
+          room =
+              let p = passes regular other l s (judged true fit) in
+              ((p .function .selector, p .function .number, p .room .storage), (rw (by-block regular other l block at) (p .room .stack), p .room .longest))

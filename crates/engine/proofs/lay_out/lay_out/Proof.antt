@@ -1,0 +1,104 @@
+use mathlib.Core.Path.{sym, _∙_}
+use native.Mathlib.Omega.{arith}
+use borrow.Author.Tests.{not-true, not-false}
+use Rattle.layout.specs.LayOut.{Layout}
+use Rattle.engine.proofs.Refusing.{segments-refused, absent, has-arguments, too-large, laid, room}
+use borrow.Author.Needs.{needs}
+use Rattle.engine.proofs.lay_out.lay_out.Statement.{statement}
+use Rattle.engine.proofs.lay_out.lay_out.Tie as tie
+
+segments-refusal-requires : tie.Need-segments-refusal-requires
+segments-refusal-requires c κs = search needs
+
+same-length : tie.Need-same-length
+same-length c = search needs
+
+returns : tie.Need-returns
+returns c =
+    let a = c .before .before .before .before .before .before .args in
+    let l : Layout = record { selector = a .selector; function = a .function; globals = a .globals; arrayWords = a .storage } in
+    segments-refused (a .seg .now) (a .regular .now) (a .other .now) l _ (c .before .segments-refusal .ensures) (c .if1 .taken)
+
+bottom-function-requires : tie.Need-bottom-function-requires
+bottom-function-requires c κs = search needs
+
+enum-told : tie.Need-enum-told
+enum-told c = search needs
+
+enum-known-block : tie.Need-enum-known-block
+enum-known-block c = search needs
+
+same-length-2 : tie.Need-same-length-2
+same-length-2 c = search needs
+
+returns-2 : tie.Need-returns-2
+returns-2 c =
+    let a = c .before .before .before .before .before .before .before .before .before .before .before .before .before .args in
+    let l : Layout = record { selector = a .selector; function = a .function; globals = a .globals; arrayWords = a .storage } in
+    has-arguments (a .seg .now) (a .regular .now) (a .other .now) l (sym (c .before .before .before .before .before .before .before .if1 .left) ∙ c .before .before .before .before .before .before .before .before .segments-refusal .ensures) (c .before .before .before .before .block .given .0 .0) (sym (c .before .before .before .before .block .given .1) ∙ c .before .before .before .before .before .before .bottom-function .ensures) (c .if2 .taken)
+
+cast-parts-fit : tie.Need-cast-parts-fit
+cast-parts-fit c = search needs
+
+parts-fit-requires : tie.Need-parts-fit-requires
+parts-fit-requires c κs = search needs
+
+same-length-3 : tie.Need-same-length-3
+same-length-3 c = search needs
+
+returns-3 : tie.Need-returns-3
+returns-3 c =
+    let a = c .before .before .before .before .before .before .before .before .before .before .before .before .before .before .before .before .before .args in
+    let l : Layout = record { selector = a .selector; function = a .function; globals = a .globals; arrayWords = a .storage } in
+    too-large (a .seg .now) (a .regular .now) (a .other .now) l (sym (c .before .before .before .before .before .before .before .before .before .before .before .if1 .left) ∙ c .before .before .before .before .before .before .before .before .before .before .before .before .segments-refusal .ensures) (c .before .before .before .before .before .before .before .before .block .given .0 .0) (sym (c .before .before .before .before .before .before .before .before .block .given .1) ∙ c .before .before .before .before .before .before .before .before .before .before .bottom-function .ensures) (omega arith) (sym (not-true _ (c .if3 .taken)) ∙ c .before .parts-fit .ensures)
+
+cast-write-fresh : tie.Need-cast-write-fresh
+cast-write-fresh c = search needs
+
+write-fresh-requires : tie.Need-write-fresh-requires
+write-fresh-requires c κs =
+    let a = c .before .before .before .before .before .before .before .before .before .before .before .before .before .before .before .before .before .before .before .args in
+    let l : Layout = record { selector = a .selector; function = a .function; globals = a .globals; arrayWords = a .storage } in
+    room (a .seg .now) (a .regular .now) (a .other .now) l (sym (c .before .before .before .before .before .before .before .before .before .before .before .before .before .if1 .left) ∙ c .before .before .before .before .before .before .before .before .before .before .before .before .before .before .segments-refusal .ensures) (c .before .before .before .before .before .before .before .before .before .before .block .given .0 .0) (sym (c .before .before .before .before .before .before .before .before .before .before .block .given .1) ∙ c .before .before .before .before .before .before .before .before .before .before .before .before .bottom-function .ensures) (omega arith) (sym (not-false _ (c .before .before .if3 .left)) ∙ c .before .before .before .parts-fit .ensures)
+
+same-length-4 : tie.Need-same-length-4
+same-length-4 c = search needs
+
+returns-4 : tie.Need-returns-4
+returns-4 c =
+    let a = c .before .before .before .before .before .before .before .before .before .args in
+    let l : Layout = record { selector = a .selector; function = a .function; globals = a .globals; arrayWords = a .storage } in
+    absent (a .seg .now) (a .regular .now) (a .other .now) l (sym (c .before .before .before .if1 .left) ∙ c .before .before .before .before .segments-refusal .ensures) (sym (c .enum-told .given .1) ∙ c .before .before .bottom-function .ensures)
+
+same-length-5 : tie.Need-same-length-5
+same-length-5 c = search needs
+
+returns-5 : tie.Need-returns-5
+returns-5 c =
+    let a = c .before .before .before .before .before .before .before .before .before .before .before .before .before .before .before .before .before .before .before .before .before .before .args in
+    let l : Layout = record { selector = a .selector; function = a .function; globals = a .globals; arrayWords = a .storage } in
+    let done = laid (a .seg .now) (a .regular .now) (a .other .now) l (sym (c .before .before .before .before .before .before .before .before .before .before .before .before .before .before .before .before .if1 .left) ∙ c .before .before .before .before .before .before .before .before .before .before .before .before .before .before .before .before .before .segments-refusal .ensures) (c .before .before .before .before .before .before .before .before .before .before .before .before .before .block .given .0 .0) (sym (c .before .before .before .before .before .before .before .before .before .before .before .before .before .block .given .1) ∙ c .before .before .before .before .before .before .before .before .before .before .before .before .before .before .before .bottom-function .ensures) (omega arith) (sym (not-false _ (c .before .before .before .before .before .if3 .left)) ∙ c .before .before .before .before .before .before .parts-fit .ensures) in
+    (done .0, c .before .before .write-fresh .ensures ∙ done .1)
+
+pub lay-out-spec : {M : Type 1} → statement M
+lay-out-spec =
+    tie.close
+    (tie.spec
+    segments-refusal-requires
+    same-length
+    returns
+    bottom-function-requires
+    enum-told
+    enum-known-block
+    same-length-2
+    returns-2
+    cast-parts-fit
+    parts-fit-requires
+    same-length-3
+    returns-3
+    cast-write-fresh
+    write-fresh-requires
+    same-length-4
+    returns-4
+    same-length-5
+    returns-5)

@@ -1,0 +1,111 @@
+use mathlib.Core.Path.{sym, _∙_}
+use native.Mathlib.Omega.{arith}
+use borrow.Author.Tests.{not-true, not-false}
+use Rattle.engine.proofs.Loading.{one-scalar, unaccepted, no-global, no-value, scalar-stored, full, array-stored}
+use borrow.Author.Needs.{needs}
+use Rattle.engine.proofs.load.load.Statement.{statement}
+use Rattle.engine.proofs.load.load.Tie as tie
+
+refusal-of-requires : tie.Need-refusal-of-requires
+refusal-of-requires c κs = search needs
+
+same-length : tie.Need-same-length
+same-length c = search needs
+
+returns : tie.Need-returns
+returns c = 
+    let a = c .before .before .before .before .before .before .before .before .args in
+    unaccepted (a .seg .now) (a .regular .now) (a .other .now) (a .global) (a .lengths .now) (a .ravel .now) _ (c .before .refusal-of .ensures) (c .if1 .taken)
+
+is-global-requires : tie.Need-is-global-requires
+is-global-requires c κs = search needs
+
+same-length-2 : tie.Need-same-length-2
+same-length-2 c = search needs
+
+returns-2 : tie.Need-returns-2
+returns-2 c = 
+    let a = c .before .before .before .before .before .before .before .before .before .before .before .args in
+    no-global (a .seg .now) (a .regular .now) (a .other .now) (a .global) (a .lengths .now) (a .ravel .now) (sym (c .before .before .before .if1 .left) ∙ c .before .before .before .before .refusal-of .ensures) (sym (c .before .is-global .ensures) ∙ not-true _ (c .if2 .taken))
+
+is-value-requires : tie.Need-is-value-requires
+is-value-requires c κs = search needs
+
+same-length-3 : tie.Need-same-length-3
+same-length-3 c = search needs
+
+returns-3 : tie.Need-returns-3
+returns-3 c = 
+    let a = c .before .before .before .before .before .before .before .before .before .before .before .before .before .args in
+    no-value (a .seg .now) (a .regular .now) (a .other .now) (a .global) (a .lengths .now) (a .ravel .now) (sym (c .before .before .before .before .before .if1 .left) ∙ c .before .before .before .before .before .before .refusal-of .ensures) (sym (c .before .before .before .is-global .ensures) ∙ not-false _ (c .before .before .if2 .left)) (sym (c .before .is-value .ensures) ∙ not-true _ (c .if3 .taken))
+
+of-requires : tie.Need-of-requires
+of-requires c κs = search needs
+
+shared-slice-read-store-share : tie.Need-shared-slice-read-store-share
+shared-slice-read-store-share c = let a = c .before .before .before .before .before .before .before .before .before .before .before .before .before .before .before .before .before .args in omega (arith, one-scalar (a .lengths .now) (a .ravel .now) (sym (c .before .before .before .before .before .is-value .ensures) ∙ not-false _ (c .before .before .before .before .if3 .left)) (c .before .before .if4 .taken) .0)
+
+store-share-requires : tie.Need-store-share-requires
+store-share-requires c κs = search needs
+
+same-length-4 : tie.Need-same-length-4
+same-length-4 c = search needs
+
+returns-4 : tie.Need-returns-4
+returns-4 c = 
+    let a = c .before .before .before .before .before .before .before .before .before .before .before .before .before .before .before .before .before .before .before .before .args in
+    let done = scalar-stored (a .seg .now) (a .regular .now) (a .other .now) (a .global) (a .lengths .now) (a .ravel .now) (sym (c .before .before .before .before .before .before .before .before .before .before .before .before .if1 .left) ∙ c .before .before .before .before .before .before .before .before .before .before .before .before .before .refusal-of .ensures) (sym (c .before .before .before .before .before .before .before .before .before .before .is-global .ensures) ∙ not-false _ (c .before .before .before .before .before .before .before .before .before .if2 .left)) (sym (c .before .before .before .before .before .before .before .before .is-value .ensures) ∙ not-false _ (c .before .before .before .before .before .before .before .if3 .left)) (c .before .before .before .before .before .before .of .result) (c .before .before .before .before .before .before .of .ensures) (c .before .before .before .before .before .if4 .taken) in
+    (done .0, (cc) ∙ done .1)
+
+store-array-requires : tie.Need-store-array-requires
+store-array-requires c κs = search needs
+
+enum-told : tie.Need-enum-told
+enum-told c = search needs
+
+enum-told-2 : tie.Need-enum-told-2
+enum-told-2 c = search needs
+
+same-length-5 : tie.Need-same-length-5
+same-length-5 c = search needs
+
+returns-5 : tie.Need-returns-5
+returns-5 c = 
+    let a = c .before .before .before .before .before .before .before .before .before .before .before .before .before .before .before .before .before .before .before .before .before .args in
+    let done = full (a .seg .now) (a .regular .now) (a .other .now) (a .global) (a .lengths .now) (a .ravel .now) (sym (c .before .before .before .before .before .before .before .before .before .before .before .before .before .if1 .left) ∙ c .before .before .before .before .before .before .before .before .before .before .before .before .before .before .refusal-of .ensures) (sym (c .before .before .before .before .before .before .before .before .before .before .before .is-global .ensures) ∙ not-false _ (c .before .before .before .before .before .before .before .before .before .before .if2 .left)) (sym (c .before .before .before .before .before .before .before .before .before .is-value .ensures) ∙ not-false _ (c .before .before .before .before .before .before .before .before .if3 .left)) (c .before .before .before .before .before .before .before .of .result) (c .before .before .before .before .before .before .before .of .ensures) (c .before .before .before .before .before .before .if4 .left) (sym (c .enum-told .given .1) ∙ c .before .before .before .before .store-array .ensures .0) in
+    (done .0, (cc) ∙ done .1)
+
+same-length-6 : tie.Need-same-length-6
+same-length-6 c = search needs
+
+returns-6 : tie.Need-returns-6
+returns-6 c = 
+    let a = c .before .before .before .before .before .before .before .before .before .before .before .before .before .before .before .before .before .before .before .before .before .args in
+    let done = array-stored (a .seg .now) (a .regular .now) (a .other .now) (a .global) (a .lengths .now) (a .ravel .now) (sym (c .before .before .before .before .before .before .before .before .before .before .before .before .before .if1 .left) ∙ c .before .before .before .before .before .before .before .before .before .before .before .before .before .before .refusal-of .ensures) (sym (c .before .before .before .before .before .before .before .before .before .before .before .is-global .ensures) ∙ not-false _ (c .before .before .before .before .before .before .before .before .before .before .if2 .left)) (sym (c .before .before .before .before .before .before .before .before .before .is-value .ensures) ∙ not-false _ (c .before .before .before .before .before .before .before .before .if3 .left)) (c .before .before .before .before .before .before .before .of .result) (c .before .before .before .before .before .before .before .of .ensures) (c .before .before .before .before .before .before .if4 .left) (sym (c .enum-told2 .given .1) ∙ c .before .before .before .before .store-array .ensures .0) in
+    (done .0, (cc) ∙ done .1)
+
+pub load-spec : {M : Type 1} → statement M
+load-spec =
+    tie.close
+    (tie.spec
+    refusal-of-requires
+    same-length
+    returns
+    is-global-requires
+    same-length-2
+    returns-2
+    is-value-requires
+    same-length-3
+    returns-3
+    of-requires
+    shared-slice-read-store-share
+    store-share-requires
+    same-length-4
+    returns-4
+    store-array-requires
+    enum-told
+    enum-told-2
+    same-length-5
+    returns-5
+    same-length-6
+    returns-6)
