@@ -36,7 +36,7 @@ pub fn counts_test(seg: &[u32], table: &mut [u16]) -> bool
     ensures { λ r. ⌜ r ≡ countsTest (now (seg .entry)) ⌝ }
 {
     tally_cells(seg, table);
-    counts_from(seg, blockptr(seg).number(), dummy(seg) as u32, table)
+    counts_from(seg, blockptr(seg).number(), dummy(seg).number(), table)
 }
 
 // Every array from `from` up to `end` by its tally.
@@ -50,28 +50,29 @@ fn counts_from(seg: &[u32], from: u32, end: u32, table: &[u16]) -> bool
         if end <= a {
             return true;
         }
-        if !is_counted(seg, a, table) {
+        let block = SegmentAddress::of(a);
+        if !is_counted(seg, block, table) {
             return false;
         }
-        a += span_at(seg, a);
+        a += span_at(seg, block);
         left -= 1;
     }
     true
 }
 
-// The count of the array at `a`; a free block has none.
-fn is_counted(seg: &[u32], a: u32, table: &[u16]) -> bool
-    requires { ⌜ getD (now table) a 0 ≡ count (arrayWord a) (owners (now seg)) ⌝ }
-    ensures { λ r. ⌜ r ≡ cond (freeAt (now (seg .entry)) a) true (countTest (now (seg .entry)) (owners (now (seg .entry))) a) ⌝ }
+// The count of an array; a free block has none.
+fn is_counted(seg: &[u32], block: SegmentAddress, table: &[u16]) -> bool
+    requires { ⌜ getD (now table) (block .0) 0 ≡ count (arrayWord (block .0)) (owners (now seg)) ⌝ }
+    ensures { λ r. ⌜ r ≡ cond (freeAt (now (seg .entry)) (block .0)) true (countTest (now (seg .entry)) (owners (now (seg .entry))) (block .0)) ⌝ }
 {
-    if free_at(seg, a) {
+    if free_at(seg, block) {
         return true;
     }
-    let counted = count(seg, SegmentAddress::of(a));
+    let counted = count(seg, block);
     if counted < 1 {
         return false;
     }
-    counted == mark_at(table, a as usize)
+    counted == mark_at(table, block.index())
 }
 
 // All cells go into the table: the globals, the temporaries, the cells of the frames.

@@ -4,11 +4,10 @@ use Prim.Native.Nat.{ℕ, _^_, _<_}
 use mathlib.Core.Path.{_≡_}
 use mathlib.Core.Bool.{false}
 use mathlib.Core.List.{List, [], _∷_}
-use Rattle.instruction.specs.declared.Instruction.{Instruction}
 use Rattle.manual.specs.OrTrap.{gives}
 use Rattle.manual.specs.Effects.{Source, variable, operand, word, undefinedValue, reference, made, Effect, replaces, discards, swaps, stores, storesElement, enters, leaves, jumps, setsOrigin}
 use Rattle.manual.specs.Seen.{variablesOf}
-use Rattle.manual.specs.Instructions.{Running, headerOf, planOf}
+use Rattle.manual.specs.Instructions.{Running, headerOf, planAt}
 use Rattle.effects.specs.Seen.{seen}
 use Rattle.effects.specs.Sound.{Sound}
 use Rattle.effects.specs.Alike.{Runs}
@@ -44,6 +43,7 @@ AllSmall (e ∷ es) = Small e × AllSmall es
 pub record BoundedTheorems : Type 0 where
   pub effect : (s : List ℕ) → Sound s → Words s → (e : Effect) → Fits s e → isFull s e ≡ false → Small e → Words (perform s e)
   pub effects : (s : List ℕ) → Sound s → Words s → (es : List Effect) → AllFit s es → OneRequest es → anyFull s es ≡ false → AllSmall es → Words (performs s es)
+  -- of an instruction that is decoded: its words are those of the code
   pub plan : (s : List ℕ) → Sound s → Words s → (f : Running) → Bytes (f .regular) → Bytes (f .alternate)
       → Runs s (variablesOf (headerOf f)) (headerOf f .result)
-      → (i : Instruction) (next : ℕ) (es : List Effect) → planOf f (seen s) i next ≡ gives es → AllSmall es
+      → (place : ℕ) (es : List Effect) → planAt f (seen s) place ≡ gives es → AllSmall es

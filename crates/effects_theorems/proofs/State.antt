@@ -1,4 +1,4 @@
--- PCTR of the current frame, and the index origin.
+-- PCTR of the current frame, the index origin, and the trap.
 use Prim.Native.Nat.{ℕ, suc, _+_, _-_, _*_, _/_, _%_, _^_, _<_, _≤_}
 use mathlib.Core.Path.{_≡_, refl, sym, _∙_, ap}
 use mathlib.Core.List.{List}
@@ -10,7 +10,7 @@ use Rattle.segment.specs.State.{sbase, ltop, lbase, flags, blockptr, setIorg}
 use Rattle.segment.specs.Blocks.{part}
 use Rattle.segment.specs.Stack.{lastLbaseAt, codeWordAt, downward, setPctr}
 use Rattle.segment.specs.Cells.{cell}
-use Rattle.view.specs.Machine.{mapMachine}
+use Rattle.view.specs.Machine.{Machine, mapMachine}
 use Rattle.view.specs.View.{framesFrom, words, view}
 use Rattle.manual.specs.Effects as manual
 use Rattle.heap.proofs.Counts.{order}
@@ -106,32 +106,32 @@ module _ (s : List ℕ) (g : Sound s) (place : ℕ) (small : place < 2 ^ 16) whe
       ∙ rw (jump-map place (cell s′) (words s .frames))
       (ap (manual.jump place) (machine-agree (cell s′) (cell s) (words s) (λ w k. cell-elsewhere moved (g .own) w k)))
 
--- word 2 alone
-module _ (s : List ℕ) (g : Sound s) (v : ℕ) where
+-- the flags, or the trap's word
+abbrev withFlags : {A : Type 0} → ℕ → Machine A → Machine A
+withFlags v m = record { flags = v; temporaries = m .temporaries; frames = m .frames; globals = m .globals }
+
+module _ (s : List ℕ) (g : Sound s) (i v : ℕ) (from : 2 ≤ i) (to : i < 4) where
   abbrev t : List ℕ
-  t = set s 2 (flags s / 2 * 2 + v)
+  t = set s i v
 
   bound : Bounds s
   bound = bounds g
 
-  rest : (j : ℕ) → j ≢ 2 → getD t j 0 ≡ getD s j 0
+  rest : (j : ℕ) → j ≢ i → getD t j 0 ≡ getD s j 0
   rest j h = rw getD-set-other
-
-  there : getD t 2 0 ≡ flags s / 2 * 2 + v
-  there = let l : 2 < length s = omega (arith, bound) in rw getD-set-same
 
   settled : Elsewhere s t
   settled = record {
-    long = length-set s 2 (flags s / 2 * 2 + v);
+    long = length-set s i v;
     bound = ap (λ (w : ℕ). w / 2 ^ 16) (rest 0 (omega arith));
     turn = ap (λ (w : ℕ). w % 2 ^ 16) (rest 1 (omega arith));
     start = rest 4 (omega arith);
     inner = λ j l u. rest j (omega (arith, bound));
   }
 
-  origin-words : words t ≡ manual.setOrigin v (words s)
+  pub state-words : words t ≡ withFlags (flags t) (words s)
   unfolding words
-  origin-words =
+  state-words =
       let o0 : getD t 0 0 ≡ getD s 0 0 = rest 0 (omega arith) in
       let o1 : getD t 1 0 ≡ getD s 1 0 = rest 1 (omega arith) in
       let o4 : getD t 4 0 ≡ getD s 4 0 = rest 4 (omega arith) in
@@ -140,25 +140,52 @@ module _ (s : List ℕ) (g : Sound s) (v : ℕ) where
       (sbase s + lbase s + 2) (ltop s - (lbase s + 1)) (λ k l u. rest k (omega arith)) in
       let fr : framesFrom (suc (lbase s)) t (lbase s) ≡ framesFrom (suc (lbase s)) s (lbase s) = frames-same (suc (lbase s)) s t (lbase s) (settled .bound)
       (λ k l u. rest k (omega (arith, bound))) in
-      rw (o0, o1, o4, there, gl, tm, fr)
+      rw (o0, o1, o4, gl, tm, fr)
 
-  pub origin-sound : Sound (setIorg s v)
-  unfolding setIorg
-  origin-sound =
+  pub state-sound : Sound t
+  state-sound =
       let o1 : lbase t ≡ lbase s = ap (λ (w : ℕ). w / 2 ^ 16) (rest 1 (omega arith)) in
       record {
-        own = rw origin-words (own-elsewhere settled (g .own));
+        own = rw state-words (own-elsewhere settled (g .own));
         fits = omega (arith, rest 0 (omega arith), settled .long, g .fits);
         above = omega (arith, rest 0 (omega arith), o1, g .above);
         chain = rw o1 (chain-same t (g .chain) (settled .bound) (λ k l u. rest k (omega (arith, bound))));
       }
+
+  pub state-view : view t ≡ withFlags (flags t) (view s)
+  unfolding view
+  state-view =
+      ap (mapMachine (cell t)) state-words
+      ∙ ap (withFlags (flags t)) (machine-agree (cell t) (cell s) (words s) (λ w k. cell-elsewhere settled (g .own) w k))
+
+module _ (s : List ℕ) (g : Sound s) (v : ℕ) where
+  pub origin-sound : Sound (setIorg s v)
+  unfolding setIorg
+  origin-sound = state-sound s g 2 (flags s / 2 * 2 + v) (omega arith) (omega arith)
 
   pub origin-state : StateKept s (setIorg s v)
   unfolding setIorg
   origin-state = state-set s 2 (flags s / 2 * 2 + v) (omega arith) (inl (omega arith))
 
   pub origin-view : view (setIorg s v) ≡ manual.setOrigin v (view s)
-  unfolding setIorg view
+  unfolding setIorg view words
   origin-view =
-      ap (mapMachine (cell t)) origin-words
-      ∙ ap (manual.setOrigin v) (machine-agree (cell t) (cell s) (words s) (λ w k. cell-elsewhere settled (g .own) w k))
+      let l : 2 < length s = omega (arith, bounds g) in
+      let w : flags (set s 2 (flags s / 2 * 2 + v)) ≡ flags s / 2 * 2 + v = rw getD-set-same in
+      state-view s g 2 (flags s / 2 * 2 + v) (omega arith) (omega arith) ∙ ap (λ (f : ℕ). withFlags f (view s)) w
+
+-- the trap's word is no part of the machine
+module _ (s : List ℕ) (g : Sound s) (v : ℕ) where
+  same-flags : flags (set s 3 v) ≡ flags s
+  same-flags = rest s g 3 v (omega arith) (omega arith) 2 (omega arith)
+
+  pub trap-sound : Sound (set s 3 v)
+  trap-sound = state-sound s g 3 v (omega arith) (omega arith)
+
+  pub trap-words : words (set s 3 v) ≡ words s
+  unfolding words
+  trap-words = state-words s g 3 v (omega arith) (omega arith) ∙ ap (λ (f : ℕ). withFlags f (words s)) same-flags
+
+  pub trap-view : view (set s 3 v) ≡ view s
+  unfolding view words
+  trap-view = state-view s g 3 v (omega arith) (omega arith) ∙ ap (λ (f : ℕ). withFlags f (view s)) same-flags

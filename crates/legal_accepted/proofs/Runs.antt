@@ -54,7 +54,7 @@ result-local regular other w h k e =
     let n = in-directory (segmentOf regular other w) (functionNumber w) (both (ltb w (2 ^ 28)) (hasFunction (segmentOf regular other w) (functionNumber w)) k .1) in
     omega (arith, p .functions (functionNumber w) (n .0) (n .1) .result-local e)
 
-function-known : (s regular other older : List ℕ) (base : ℕ) → Chain s regular other base older → known regular other (codeWordAt s base) ≡ true
+pub function-known : (s regular other older : List ℕ) (base : ℕ) → Chain s regular other base older → known regular other (codeWordAt s base) ≡ true
 function-known s regular other [] base h = h .function
 function-known s regular other (next ∷ older) base h = h .0 .function
 

@@ -1,32 +1,36 @@
 // Instructions that push: loads, constants, REFERENCE, TEST_DEFINED, UNDEFINED, GETORIGIN.
 ghost use mathlib.Core.Path.{_≡_};
-ghost use mathlib.Core.List.{List};
+ghost use mathlib.Core.Bool.{cond};
 ghost use Prim.Native.Nat.{_≤_, _<_, _%_, _^_};
-ghost use lib.ListN.{length, take};
+ghost use lib.ListN.{length};
+ghost use Rattle.descriptor.specs.declared.Target as targets;
 ghost use Rattle.descriptor.specs.Fields.{integerWord};
 ghost use Rattle.descriptor.specs.Kinds.{bit};
 ghost use Rattle.manual.specs.Effects as effect;
 ghost use Rattle.manual.specs.Instructions.{wordsFrom};
 ghost use Rattle.manual.specs.Loads as plan;
-ghost use Rattle.effects.specs.Seen.{seen};
-ghost use Rattle.stack.specs.Variables.{variableSeen, Sure};
+ghost use Rattle.manual.specs.OrTrap.{gives};
+ghost use Rattle.manual.specs.Seen.{at};
+ghost use Rattle.effects.specs.Sources.{heldAt};
+ghost use Rattle.effects.specs.Seen.{read, seen};
+ghost use Rattle.access.specs.Operands.{isUndefined};
+ghost use Rattle.access.specs.Variables.{variableSeen, Sure};
 ghost use Rattle.perform.specs.Carried.{did, carry};
 use descriptor::Descriptor;
-use descriptor::Target;
 use descriptor::address::CodeAddress;
 use elements::kinds::any_other;
-use perform::Outcome;
 use perform::Done;
+use perform::Outcome;
 use perform::taking::jump;
 use perform::taking::replace_by_array;
 use perform::taking::replace_by_share;
 use perform::taking::replace_by_word;
 use procedure::bytes::word_at;
 use segment::state::iorg;
-use stack::operands::is_undefined;
-use stack::operands::room;
-use stack::variables::Resolved;
-use stack::variables::reference_word;
+use access::operands::is_undefined;
+use access::operands::room;
+use access::variables::Resolved;
+use access::variables::reference_word;
 
 // A word that names no array.
 pub fn push_word(seg: &mut [u32], w: u32, next: u32) -> Outcome
@@ -52,7 +56,10 @@ pub fn load(seg: &mut [u32], variable: Resolved, next: u32) -> Outcome
 }
 
 // The word that the variable holds is pushed, and counted.
-fn load_word(seg: &mut [u32], w: u32, next: u32) -> Outcome {
+fn load_word(seg: &mut [u32], w: u32, next: u32) -> Outcome
+    requires { ⌜ length (now seg) ≤ 16384 ⌝ }
+    ensures { λ r. ⌜ ((t : targets.Target) → w ≡ heldAt (now (seg .entry)) t → did r (now (seg .exit)) ≡ carry (now (seg .entry)) (plan.load (seen (now (seg .entry))) next (gives (at t (read (now (seg .entry)) w))))) ⌝ }
+{
     if is_undefined(w) {
         return Outcome::Trapped(10, 0);
     }
@@ -80,8 +87,17 @@ pub fn test_defined(seg: &mut [u32], variable: Resolved, next: u32) -> Outcome
 {
     match variable {
         Resolved::Trap(class, number) => Outcome::Trapped(class, number),
-        Resolved::At(_, w) => push_word(seg, if is_undefined(w) { 0 } else { 1 }, next),
+        Resolved::At(_, w) => push_word(seg, defined(w), next),
     }
+}
+
+fn defined(w: u32) -> u32
+    ensures { λ r. ⌜ r ≡ cond (isUndefined w) 0 1 ⌝ }
+{
+    if is_undefined(w) {
+        return 0;
+    }
+    1
 }
 
 pub fn push_undefined(seg: &mut [u32], next: u32) -> Outcome
@@ -103,7 +119,11 @@ pub fn short_constant(seg: &mut [u32], negative: bool, magnitude: u32, next: u32
     requires { ⌜ length (now seg) ≤ 16384 ⌝ }
     ensures { λ r. ⌜ did r (now (seg .exit)) ≡ carry (now (seg .entry)) (plan.shortConstant (seen (now (seg .entry))) next (integerWord (bit negative) (magnitude % 2 ^ 12))) ⌝ }
 {
-    push_word(seg, Descriptor::integer(negative, magnitude % 0x1000).word(), next)
+    push_word(
+        seg,
+        Descriptor::integer(negative, magnitude % 0x1000).word(),
+        next,
+    )
 }
 
 pub fn constant_scalar(seg: &mut [u32], w: u32, next: u32) -> Outcome
@@ -117,7 +137,14 @@ pub fn constant_scalar(seg: &mut [u32], w: u32, next: u32) -> Outcome
 }
 
 // The words stand in the code from `first` on.
-pub fn constant_vector(seg: &mut [u32], code: &[u8], count: u8, first: CodeAddress, next: u32, scratch: &mut [u32]) -> Outcome
+pub fn constant_vector(
+    seg: &mut [u32],
+    code: &[u8],
+    count: u8,
+    first: CodeAddress,
+    next: u32,
+    scratch: &mut [u32],
+) -> Outcome
     requires { ⌜ (length (now seg) ≤ 16384) × (length (now scratch) ≡ 16384) ⌝ }
     ensures { λ r. ⌜ did r (now (seg .exit)) ≡ carry (now (seg .entry)) (plan.constantVector (seen (now (seg .entry))) next (wordsFrom (count % 2 ^ 8) (now (code .entry)) (first .0 % 2 ^ 16))) ⌝ }
 {

@@ -1,32 +1,40 @@
 // ASSIGN, ASSIGN_NORESULT, ASSIGN_INDEXED, EAT1, INTERCHANGE, NO_OPERATION.
 ghost use mathlib.Core.Path.{_≡_};
-ghost use Prim.Native.Nat.{_≤_, _%_, _^_};
+ghost use mathlib.Core.List.{[], _∷_};
+ghost use Prim.Native.Nat.{_≤_, _<_, _%_, _^_};
 ghost use lib.ListN.{length};
+ghost use Rattle.segment.specs.Cells.{Cell};
+ghost use Rattle.manual.specs.OrTrap.{gives};
+ghost use Rattle.manual.specs.Effects.{storesElement, jumps};
+ghost use Rattle.manual.specs.Seen.{at};
 ghost use Rattle.manual.specs.Memory as plan;
-ghost use Rattle.effects.specs.Seen.{seen};
-ghost use Rattle.stack.specs.Variables.{variableSeen, Sure};
+ghost use Rattle.effects.specs.Sources.{heldAt};
+ghost use Rattle.effects.specs.Seen.{read, seen};
+ghost use Rattle.access.specs.Variables.{variableSeen, Sure};
+ghost use Rattle.perform.specs.Done.{Held};
 ghost use Rattle.perform.specs.Carried.{did, carry};
+ghost use Rattle.moves.specs.Indexed.{Indexed};
 use descriptor::Target;
 use descriptor::address::SegmentAddress;
 use elements::Found;
 use elements::subscripts::place;
+use perform::Done;
 use perform::Outcome;
 use perform::storing::store_element;
 use perform::storing::store_share;
-use perform::Done;
 use perform::taking::discard;
 use perform::taking::jump;
 use perform::taking::swap;
 use segment::state::iorg;
-use stack::operands::Operand;
-use stack::operands::Value;
-use stack::operands::count;
-use stack::operands::lengths_of;
-use stack::operands::operand_at;
-use stack::operands::value_of;
-use stack::taken::Taken;
-use stack::taken::take_scalars;
-use stack::variables::Resolved;
+use access::operands::Operand;
+use access::operands::Value;
+use access::operands::count;
+use access::operands::lengths_of;
+use access::operands::operand_at;
+use access::operands::value_of;
+use access::taken::Taken;
+use access::taken::take_scalars;
+use access::variables::Resolved;
 
 pub fn assign(seg: &mut [u32], variable: Resolved, next: u32) -> Outcome
     ensures { λ r. ⌜ did r (now (seg .exit)) ≡ carry (now (seg .entry)) (plan.assign (seen (now (seg .entry))) next (variableSeen (now (seg .entry)) variable)) ⌝ }
@@ -37,7 +45,9 @@ pub fn assign(seg: &mut [u32], variable: Resolved, next: u32) -> Outcome
     }
 }
 
-fn assign_to(seg: &mut [u32], t: Target, next: u32) -> Outcome {
+fn assign_to(seg: &mut [u32], t: Target, next: u32) -> Outcome
+    ensures { λ r. ⌜ ((c : Cell) → did r (now (seg .exit)) ≡ carry (now (seg .entry)) (plan.assign (seen (now (seg .entry))) next (gives (at t c)))) ⌝ }
+{
     if count(seg) < 1 {
         return Outcome::Trapped(3, 4);
     }
@@ -59,7 +69,9 @@ pub fn assign_no_result(seg: &mut [u32], variable: Resolved, next: u32) -> Outco
     }
 }
 
-fn move_to(seg: &mut [u32], t: Target, next: u32) -> Outcome {
+fn move_to(seg: &mut [u32], t: Target, next: u32) -> Outcome
+    ensures { λ r. ⌜ ((c : Cell) → did r (now (seg .exit)) ≡ carry (now (seg .entry)) (plan.assignNoResult (seen (now (seg .entry))) next (gives (at t c)))) ⌝ }
+{
     if count(seg) < 1 {
         return Outcome::Trapped(3, 4);
     }
@@ -73,7 +85,13 @@ fn move_to(seg: &mut [u32], t: Target, next: u32) -> Outcome {
     Outcome::Finished
 }
 
-pub fn assign_indexed(seg: &mut [u32], rank: u8, variable: Resolved, next: u32, scratch: &mut [u32]) -> Outcome
+pub fn assign_indexed(
+    seg: &mut [u32],
+    rank: u8,
+    variable: Resolved,
+    next: u32,
+    scratch: &mut [u32],
+) -> Outcome
     requires { ⌜ (length (now seg) ≤ 16384) × (length (now scratch) ≡ 16384) × Sure (now seg) variable ⌝ }
     ensures { λ r. ⌜ did r (now (seg .exit)) ≡ carry (now (seg .entry)) (plan.assignIndexed (seen (now (seg .entry))) next (rank % 2 ^ 4) (variableSeen (now (seg .entry)) variable)) ⌝ }
 {
@@ -83,7 +101,17 @@ pub fn assign_indexed(seg: &mut [u32], rank: u8, variable: Resolved, next: u32, 
     }
 }
 
-fn assign_element(seg: &mut [u32], rank: u32, t: Target, held: u32, next: u32, scratch: &mut [u32]) -> Outcome {
+fn assign_element(
+    seg: &mut [u32],
+    rank: u32,
+    t: Target,
+    held: u32,
+    next: u32,
+    scratch: &mut [u32],
+) -> Outcome
+    requires { ⌜ (length (now seg) ≤ 16384) × (length (now scratch) ≡ 16384) × (rank < 2 ^ 4) × (held ≡ heldAt (now seg) t) ⌝ }
+    ensures { λ r. ⌜ did r (now (seg .exit)) ≡ carry (now (seg .entry)) (plan.assignIndexed (seen (now (seg .entry))) next rank (gives (at t (read (now (seg .entry)) held)))) ⌝ }
+{
     if count(seg) < rank + 1 {
         return Outcome::Trapped(3, 4);
     }
@@ -102,7 +130,19 @@ fn assign_element(seg: &mut [u32], rank: u32, t: Target, held: u32, next: u32, s
 }
 
 // `taken` holds the subscripts and then the value.
-fn element_in(seg: &mut [u32], rank: u32, t: Target, block: SegmentAddress, taken: &[u32], next: u32, scratch: &mut [u32]) -> Outcome {
+fn element_in(
+    seg: &mut [u32],
+    rank: u32,
+    t: Target,
+    block: SegmentAddress,
+    taken: &[u32],
+    next: u32,
+    scratch: &mut [u32],
+) -> Outcome
+    requires { ⌜ (length (now seg) ≤ 16384) × (length (now scratch) ≡ 16384) × (rank < length (now taken)) × (rank < 2 ^ 4) ⌝ }
+    requires { ⌜ Indexed (now seg) rank t block (now taken) ⌝ }
+    ensures { λ r. ⌜ did r (now (seg .exit)) ≡ carry (now (seg .entry)) (plan.assignIndexed (seen (now (seg .entry))) next rank (gives (at t (read (now (seg .entry)) (heldAt (now (seg .entry)) t))))) ⌝ }
+{
     let r = rank as usize;
     let lengths = lengths_of(seg, block);
     if r != lengths.len() {
@@ -110,13 +150,31 @@ fn element_in(seg: &mut [u32], rank: u32, t: Target, block: SegmentAddress, take
     }
     match place(iorg(seg), &taken[..r], lengths) {
         Found::Trap(class, number) => Outcome::Trapped(class, number),
-        Found::At(k) => match store_element(seg, t, block, k, taken[r], rank + 1, scratch) {
-            Done::Full => Outcome::Trapped(1, 2),
-            Done::Done => {
-                jump(seg, next);
-                Outcome::Finished
-            }
-        },
+        Found::At(k) => store_at(seg, t, block, k, taken[r], rank + 1, next, scratch),
+    }
+}
+
+// The element at that place is `w` from now on, and n operands go.
+fn store_at(
+    seg: &mut [u32],
+    t: Target,
+    block: SegmentAddress,
+    k: u32,
+    w: u32,
+    n: u32,
+    next: u32,
+    scratch: &mut [u32],
+) -> Outcome
+    requires { ⌜ Held (now seg) t (block .0) ⌝ }
+    requires { ⌜ (0 < n) × (length (now seg) ≤ 16384) × (length (now scratch) ≡ 16384) ⌝ }
+    ensures { λ r. ⌜ did r (now (seg .exit)) ≡ carry (now (seg .entry)) (gives (storesElement t k w n ∷ jumps next ∷ [])) ⌝ }
+{
+    match store_element(seg, t, block, k, w, n, scratch) {
+        Done::Full => Outcome::Trapped(1, 2),
+        Done::Done => {
+            jump(seg, next);
+            Outcome::Finished
+        }
     }
 }
 

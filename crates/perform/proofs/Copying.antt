@@ -13,7 +13,7 @@ use Rattle.manual.specs.Effects.{variable, made, Effect, stores, storesElement}
 use Rattle.effects.specs.Sources.{addressOf}
 use Rattle.effects.specs.Perform.{blockOf, store, unshare, writeElement, replace, storeElement, wanted, isFull}
 use Rattle.effects.specs.Seen.{whole}
-use Rattle.stack.proofs.Whole.{whole-facts}
+use Rattle.access.proofs.Whole.{whole-facts}
 use Rattle.perform.specs.declared.Done.the-variants as D
 use Rattle.perform.specs.Done.{answer, attempt, Held, writing, copied}
 use Rattle.perform.proofs.Placing.{full-by-need}

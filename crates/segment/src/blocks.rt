@@ -1,7 +1,6 @@
 // The blocks of array storage: the tags and links of the block at a word, and what an array's block holds.
 ghost use mathlib.Core.Path.{_≡_};
-ghost use Prim.Native.Nat.{_+_, _-_, _≤_};
-ghost use lib.ListN.{length};
+ghost use Prim.Native.Nat.{_<_, _^_};
 ghost use Rattle.segment.specs.Blocks as layout;
 ghost use Rattle.segment.specs.Parts as parts;
 use super::high;
@@ -10,55 +9,58 @@ use super::minus;
 use super::word;
 use descriptor::address::SegmentAddress;
 
-pub fn free_at(seg: &[u32], a: u32) -> bool
-    ensures { λ r. ⌜ r ≡ layout.freeAt (now (seg .entry)) a ⌝ }
+pub fn free_at(seg: &[u32], block: SegmentAddress) -> bool
+    ensures { λ r. ⌜ r ≡ layout.freeAt (now (seg .entry)) (block .0) ⌝ }
 {
-    0x8000_0000 <= word(seg, a as usize)
+    0x8000_0000 <= word(seg, block.index())
 }
 
-pub fn prev_free_at(seg: &[u32], a: u32) -> bool
-    ensures { λ r. ⌜ r ≡ layout.prevFreeAt (now (seg .entry)) a ⌝ }
+pub fn prev_free_at(seg: &[u32], block: SegmentAddress) -> bool
+    ensures { λ r. ⌜ r ≡ layout.prevFreeAt (now (seg .entry)) (block .0) ⌝ }
 {
-    0x4000_0000 <= word(seg, a as usize) % 0x8000_0000
+    0x4000_0000 <= word(seg, block.index()) % 0x8000_0000
 }
 
-pub fn slop_at(seg: &[u32], a: u32) -> u32
-    ensures { λ r. ⌜ r ≡ layout.slopAt (now (seg .entry)) a ⌝ }
+pub fn slop_at(seg: &[u32], block: SegmentAddress) -> u32
+    ensures { λ r. ⌜ r ≡ layout.slopAt (now (seg .entry)) (block .0) ⌝ }
 {
-    word(seg, a as usize) / 0x1_0000 % 4
+    word(seg, block.index()) / 0x1_0000 % 4
 }
 
-pub fn size_at(seg: &[u32], a: u32) -> u16
-    ensures { λ r. ⌜ r ≡ layout.sizeAt (now (seg .entry)) a ⌝ }
+pub fn size_at(seg: &[u32], block: SegmentAddress) -> u16
+    ensures { λ r. ⌜ r ≡ layout.sizeAt (now (seg .entry)) (block .0) ⌝ }
 {
-    low(word(seg, a as usize))
+    low(word(seg, block.index()))
 }
 
 // The words that an array's block covers, its slop among them.
-pub fn span_at(seg: &[u32], a: u32) -> u32
-    ensures { λ r. ⌜ r ≡ layout.spanAt (now (seg .entry)) a ⌝ }
+pub fn span_at(seg: &[u32], block: SegmentAddress) -> u32
+    ensures { λ r. ⌜ r ≡ layout.spanAt (now (seg .entry)) (block .0) ⌝ }
 {
-    let w = word(seg, a as usize);
+    let w = word(seg, block.index());
     w % 0x1_0000 + w / 0x1_0000 % 4
 }
 
-// The links of a free block or the dummy.
-pub fn next_at(seg: &[u32], a: u32) -> u16
-    ensures { λ r. ⌜ r ≡ layout.nextAt (now (seg .entry)) a ⌝ }
+// The links of a free block or the dummy: addresses of 16 bits.
+pub fn next_at(seg: &[u32], block: SegmentAddress) -> SegmentAddress
+    ensures { λ r. ⌜ r .0 ≡ layout.nextAt (now (seg .entry)) (block .0) ⌝ }
+    ensures { λ r. ⌜ r .0 < 2 ^ 16 ⌝ }
 {
-    high(word(seg, a as usize + 1))
+    SegmentAddress::of(high(word(seg, block.index() + 1)) as u32)
 }
 
-pub fn last_at(seg: &[u32], a: u32) -> u16
-    ensures { λ r. ⌜ r ≡ layout.lastAt (now (seg .entry)) a ⌝ }
+pub fn last_at(seg: &[u32], block: SegmentAddress) -> SegmentAddress
+    ensures { λ r. ⌜ r .0 ≡ layout.lastAt (now (seg .entry)) (block .0) ⌝ }
+    ensures { λ r. ⌜ r .0 < 2 ^ 16 ⌝ }
 {
-    low(word(seg, a as usize + 1))
+    SegmentAddress::of(low(word(seg, block.index() + 1)) as u32)
 }
 
-pub fn dummy(seg: &[u32]) -> u16
-    ensures { λ r. ⌜ r ≡ layout.dummy (now (seg .entry)) ⌝ }
+pub fn dummy(seg: &[u32]) -> SegmentAddress
+    ensures { λ r. ⌜ r .0 ≡ layout.dummy (now (seg .entry)) ⌝ }
+    ensures { λ r. ⌜ r .0 < 2 ^ 16 ⌝ }
 {
-    minus(high(word(seg, 0)) as u32, 3) as u16
+    SegmentAddress::of(minus(high(word(seg, 0)) as u32, 3))
 }
 
 // How many cells point to the array.
@@ -86,7 +88,7 @@ pub fn elements(seg: &[u32], block: SegmentAddress) -> &[u32]
     ensures { λ r. ⌜ now r ≡ parts.elementsPart (now (seg .entry)) (block .0) ⌝ }
 {
     let rank = rank(seg, block);
-    let size = size_at(seg, block.number());
+    let size = size_at(seg, block);
     within(
         seg,
         block.index() + 2 + rank,

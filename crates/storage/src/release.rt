@@ -12,7 +12,7 @@ use descriptor::address::SegmentAddress;
 use segment::blocks::free_at;
 use segment::blocks::prev_free_at;
 use segment::blocks::size_at;
-use segment::blocks::slop_at;
+use segment::blocks::span_at;
 use segment::minus;
 
 // All SIZE + SLOP words of the block are freed.
@@ -21,11 +21,11 @@ pub fn release(seg: &mut [u32], block: SegmentAddress)
     ensures { λ _. ⌜ now (seg .exit) ≡ releases.release (now (seg .entry)) (block .0) ⌝ }
 {
     let a = block.number();
-    let n = size_at(seg, a) as u32 + slop_at(seg, a);
-    let after = a + n;
-    if prev_free_at(seg, a) {
-        let before = size_at(seg, minus(a, 1)) as u32;
-        let p = minus(a, before) as u16;
+    let n = span_at(seg, block);
+    let after = SegmentAddress::of(a + n);
+    if prev_free_at(seg, block) {
+        let before = size_at(seg, SegmentAddress::of(minus(a, 1))) as u32;
+        let p = SegmentAddress::of(minus(a, before));
         if free_at(seg, after) {
             join_both(seg, p, before + n, after);
         } else {
@@ -33,17 +33,17 @@ pub fn release(seg: &mut [u32], block: SegmentAddress)
         }
     } else {
         if free_at(seg, after) {
-            join_after(seg, a as u16, n, after);
+            join_after(seg, block, n, after);
         } else {
-            join_none(seg, a as u16, n, after);
+            join_none(seg, block, n, after);
         }
     }
 }
 
 // The four ways: n words are freed from the free block before, or from the array itself; q is the block after.
-fn join_both(seg: &mut [u32], p: u16, n: u32, q: u32)
-    requires { ⌜ n < 2 ^ 30 ⌝ }
-    ensures { λ _. ⌜ now (seg .exit) ≡ releases.joinBoth (now (seg .entry)) p n q ⌝ }
+fn join_both(seg: &mut [u32], p: SegmentAddress, n: u32, q: SegmentAddress)
+    requires { ⌜ (p .0 < 2 ^ 16) × (n < 2 ^ 30) ⌝ }
+    ensures { λ _. ⌜ now (seg .exit) ≡ releases.joinBoth (now (seg .entry)) (p .0) n (q .0) ⌝ }
 {
     let size = size_at(seg, q);
     unlink(seg, q);
@@ -51,29 +51,29 @@ fn join_both(seg: &mut [u32], p: u16, n: u32, q: u32)
     move_rover(seg, q, p);
 }
 
-fn join_before(seg: &mut [u32], p: u16, n: u32, q: u32)
-    requires { ⌜ n < 2 ^ 30 ⌝ }
-    ensures { λ _. ⌜ now (seg .exit) ≡ releases.joinBefore (now (seg .entry)) p n q ⌝ }
+fn join_before(seg: &mut [u32], p: SegmentAddress, n: u32, q: SegmentAddress)
+    requires { ⌜ (p .0 < 2 ^ 16) × (n < 2 ^ 30) ⌝ }
+    ensures { λ _. ⌜ now (seg .exit) ≡ releases.joinBefore (now (seg .entry)) (p .0) n (q .0) ⌝ }
 {
     mark_free(seg, p, n);
     set_prev_free(seg, q);
 }
 
-fn join_after(seg: &mut [u32], a: u16, n: u32, q: u32)
-    requires { ⌜ n < 2 ^ 30 ⌝ }
-    ensures { λ _. ⌜ now (seg .exit) ≡ releases.joinAfter (now (seg .entry)) a n q ⌝ }
+fn join_after(seg: &mut [u32], block: SegmentAddress, n: u32, q: SegmentAddress)
+    requires { ⌜ (block .0 < 2 ^ 16) × (n < 2 ^ 30) ⌝ }
+    ensures { λ _. ⌜ now (seg .exit) ≡ releases.joinAfter (now (seg .entry)) (block .0) n (q .0) ⌝ }
 {
     let size = size_at(seg, q);
-    relink(seg, q, a);
-    mark_free(seg, a, n + size as u32);
-    move_rover(seg, q, a);
+    relink(seg, q, block);
+    mark_free(seg, block, n + size as u32);
+    move_rover(seg, q, block);
 }
 
-fn join_none(seg: &mut [u32], a: u16, n: u32, q: u32)
-    requires { ⌜ n < 2 ^ 30 ⌝ }
-    ensures { λ _. ⌜ now (seg .exit) ≡ releases.joinNone (now (seg .entry)) a n q ⌝ }
+fn join_none(seg: &mut [u32], block: SegmentAddress, n: u32, q: SegmentAddress)
+    requires { ⌜ (block .0 < 2 ^ 16) × (n < 2 ^ 30) ⌝ }
+    ensures { λ _. ⌜ now (seg .exit) ≡ releases.joinNone (now (seg .entry)) (block .0) n (q .0) ⌝ }
 {
-    insert(seg, a);
-    mark_free(seg, a, n);
+    insert(seg, block);
+    mark_free(seg, block, n);
     set_prev_free(seg, q);
 }

@@ -1,6 +1,6 @@
 // Requests: a free block is found along the ring and given, its high end or all of it.
 ghost use mathlib.Core.Path.{_≡_};
-ghost use Prim.Native.Nat.{_≤_, _<_};
+ghost use Prim.Native.Nat.{_≤_, _<_, _^_};
 ghost use Rattle.segment.specs.Blocks.{sizeAt};
 ghost use Rattle.storage.specs.Request as requests;
 ghost use Rattle.storage.specs.Found.{found};
@@ -25,69 +25,74 @@ pub fn request(seg: &mut [u32], size: usize) -> Found
     ensures { λ _. ⌜ now (seg .exit) ≡ requests.request (now (seg .entry)) size ⌝ }
 {
     let f = find(seg, size);
-    if f == 0 {
+    if f.number() == 0 {
         return Found::Full;
     }
-    Found::At(SegmentAddress::of(give(seg, f, size as u16)))
+    Found::At(give(seg, f, size as u16))
 }
 
 // The first free block with room, from ROVER along NEXT; 0 where there is none. Each block is looked at once.
-fn find(seg: &[u32], size: usize) -> u16
-    ensures { λ r. ⌜ r ≡ requests.find (now (seg .entry)) size ⌝ }
+fn find(seg: &[u32], size: usize) -> SegmentAddress
+    ensures { λ r. ⌜ r .0 ≡ requests.find (now (seg .entry)) size ⌝ }
+    ensures { λ r. ⌜ r .0 < 2 ^ 16 ⌝ }
 {
-    let stop = rover(seg).number() as u16;
+    let stop = rover(seg);
     let mut at = stop;
     let mut left = seg.len();
     while 0 < left {
-        if size <= size_at(seg, at as u32) as usize {
+        if size <= size_at(seg, at) as usize {
             return at;
         }
-        let next = next_at(seg, at as u32);
-        if next == stop {
-            return 0;
+        let next = next_at(seg, at);
+        if next.number() == stop.number() {
+            return SegmentAddress::of(0);
         }
         at = next;
         left -= 1;
     }
-    0
+    SegmentAddress::of(0)
 }
 
 // The free block at f serves the request: where the block given starts.
-fn give(seg: &mut [u32], f: u16, size: u16) -> u32
-    requires { ⌜ size ≤ sizeAt (now seg) f ⌝ }
-    ensures { λ r. ⌜ r ≡ requests.given (now (seg .entry)) f size ⌝ }
-    ensures { λ _. ⌜ now (seg .exit) ≡ requests.give (now (seg .entry)) f size ⌝ }
+fn give(seg: &mut [u32], f: SegmentAddress, size: u16) -> SegmentAddress
+    requires { ⌜ (f .0 < 2 ^ 16) × (size ≤ sizeAt (now seg) (f .0)) ⌝ }
+    ensures { λ r. ⌜ r .0 ≡ requests.given (now (seg .entry)) (f .0) size ⌝ }
+    ensures { λ _. ⌜ now (seg .exit) ≡ requests.give (now (seg .entry)) (f .0) size ⌝ }
 {
-    let next = next_at(seg, f as u32);
-    let over = size_at(seg, f as u32) - size;
+    let next = next_at(seg, f);
+    let over = size_at(seg, f) - size;
     if 3 <= over {
         split(seg, f, over, size);
-        set_rover(seg, SegmentAddress::of(next as u32));
-        f as u32 + over as u32
+        set_rover(seg, next);
+        SegmentAddress::of(f.number() + over as u32)
     } else {
         whole(seg, f, over, size);
-        set_rover(seg, SegmentAddress::of(next as u32));
-        f as u32
+        set_rover(seg, next);
+        f
     }
 }
 
 // The free block at f shrinks to `rest` words, and its high end is given.
-fn split(seg: &mut [u32], f: u16, rest: u16, size: u16)
-    requires { ⌜ 0 < rest ⌝ }
-    ensures { λ _. ⌜ now (seg .exit) ≡ requests.split (now (seg .entry)) f rest size ⌝ }
+fn split(seg: &mut [u32], f: SegmentAddress, rest: u16, size: u16)
+    requires { ⌜ (f .0 < 2 ^ 16) × (0 < rest) ⌝ }
+    ensures { λ _. ⌜ now (seg .exit) ≡ requests.split (now (seg .entry)) (f .0) rest size ⌝ }
 {
-    let a = f as u32 + rest as u32;
-    put(seg, f as usize, 0x8000_0000 + rest as u32);
+    let a = f.number() + rest as u32;
+    put(seg, f.index(), 0x8000_0000 + rest as u32);
     put(seg, a as usize - 1, rest as u32);
     put(seg, a as usize, 0x4000_0000 + size as u32);
-    clear_prev_free(seg, a + size as u32);
+    clear_prev_free(seg, SegmentAddress::of(a + size as u32));
 }
 
 // The free block at f leaves the ring and is given whole, with `slop` words over.
-fn whole(seg: &mut [u32], f: u16, slop: u16, size: u16)
-    ensures { λ _. ⌜ now (seg .exit) ≡ requests.whole (now (seg .entry)) f slop size ⌝ }
+fn whole(seg: &mut [u32], f: SegmentAddress, slop: u16, size: u16)
+    requires { ⌜ f .0 < 2 ^ 16 ⌝ }
+    ensures { λ _. ⌜ now (seg .exit) ≡ requests.whole (now (seg .entry)) (f .0) slop size ⌝ }
 {
-    unlink(seg, f as u32);
-    put(seg, f as usize, slop as u32 * 0x1_0000 + size as u32);
-    clear_prev_free(seg, f as u32 + size as u32 + slop as u32);
+    unlink(seg, f);
+    put(seg, f.index(), slop as u32 * 0x1_0000 + size as u32);
+    clear_prev_free(
+        seg,
+        SegmentAddress::of(f.number() + size as u32 + slop as u32),
+    );
 }

@@ -131,43 +131,45 @@ fn clear_cells(seg: &mut [u32], from: u32, n: u32)
 
 fn write_walk(seg: &[u32]) {
     let mut a = segment::state::blockptr(seg).number();
-    let end = segment::blocks::dummy(seg) as u32;
+    let end = segment::blocks::dummy(seg);
     let mut left = seg.len();
     while 0 < left {
-        if end <= a {
+        if end.number() <= a {
             break;
         }
-        write_block(seg, a);
-        a += segment::blocks::span_at(seg, a);
+        let block = SegmentAddress::of(a);
+        write_block(seg, block);
+        a += segment::blocks::span_at(seg, block);
         left -= 1;
     }
     write_address(seg, end);
     write_links(b"d", seg, end);
 }
 
-fn write_block(seg: &[u32], a: u32) {
-    write_address(seg, a);
-    if segment::blocks::free_at(seg, a) {
-        write_number(b"f", segment::blocks::size_at(seg, a) as u32);
-        write_links(b"", seg, a);
+fn write_block(seg: &[u32], block: SegmentAddress) {
+    write_address(seg, block);
+    let size = segment::blocks::size_at(seg, block) as u32;
+    if segment::blocks::free_at(seg, block) {
+        write_number(b"f", size);
+        write_links(b"", seg, block);
         return;
     }
-    write_number(b"a", segment::blocks::size_at(seg, a) as u32);
-    write_number(b"+", segment::blocks::slop_at(seg, a));
-    write_array(seg, SegmentAddress::of(a));
+    write_number(b"a", size);
+    write_number(b"+", segment::blocks::slop_at(seg, block));
+    write_array(seg, block);
 }
 
-fn write_address(seg: &[u32], a: u32) {
-    write_number(b" ", a);
-    if segment::blocks::prev_free_at(seg, a) {
+fn write_address(seg: &[u32], block: SegmentAddress) {
+    write_number(b" ", block.number());
+    if segment::blocks::prev_free_at(seg, block) {
         io::write_all(STDOUT_FILENO, b"^");
     }
 }
 
-fn write_links(name: &[u8], seg: &[u32], a: u32) {
+fn write_links(name: &[u8], seg: &[u32], block: SegmentAddress) {
     io::write_all(STDOUT_FILENO, name);
-    write_number(b">", segment::blocks::next_at(seg, a) as u32);
-    write_number(b"<", segment::blocks::last_at(seg, a) as u32);
+    write_number(b">", segment::blocks::next_at(seg, block).number());
+    write_number(b"<", segment::blocks::last_at(seg, block).number());
 }
 
 fn write_array(seg: &[u32], block: SegmentAddress) {

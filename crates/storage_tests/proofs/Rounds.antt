@@ -1,6 +1,6 @@
 -- The round of the ring: a member at a time, and what the loop keeps.
 use Prim.Native.Nat.{ℕ, zero, suc, _+_, _-_, _<_, _≤_}
-use mathlib.Core.Path.{_≡_, refl, sym, _∙_}
+use mathlib.Core.Path.{_≡_, refl, sym, _∙_, ap}
 use mathlib.Core.Bool.{Bool, true, false}
 use mathlib.Core.List.{List, [], _∷_}
 use mathlib.Core.Logic.{⊎-elim}
@@ -11,7 +11,7 @@ use borrow.Author.Tests.{le-leb, lt-leb, eq-eqb, ne-eqb}
 use Rattle.segment.specs.State.{rover}
 use Rattle.segment.specs.Blocks.{nextAt, lastAt, dummy}
 use Rattle.storage.specs.Heap.{hit, count}
-use Rattle.heap.proofs.Counts.{hit-cases}
+use Rattle.heap.proofs.Counts.{hit-cases, hit-eq, hit-not}
 use Rattle.storage_tests.specs.Tests.{_and_}
 use Rattle.storage_tests.specs.Blocks.{freeStarts}
 use Rattle.storage_tests.specs.Ring.{without, linked, roundFrom, ringTest}
@@ -106,6 +106,14 @@ module _ (s : List ℕ) (end : ℕ) (frees marks : List ℕ) (at left : ℕ) (h 
             tally = λ x. omega (arith, lower-at marks next x z, without-count x next (h .rest) p, h .tally x);
             same = h .same ∙ step-on s end at (h .rest) left some (rw e at k) (rw e at p) ∙ rw (← e);
           }
+
+-- ROVER on the ring
+module _ (marks : List ℕ) (at end : ℕ) where
+  pub on-dummy : at ≡ end → true ≡ leb 1 (hit at end + getD marks at 0)
+  on-dummy e = sym (le-leb 1 (hit at end + getD marks at 0) (omega (arith, hit-eq at end e)))
+
+  pub on-mark : (at ≡ end → ⊥) → leb 1 (getD marks at 0) ≡ leb 1 (hit at end + getD marks at 0)
+  on-mark e = let k : getD marks at 0 ≡ hit at end + getD marks at 0 = omega (arith, hit-not at end e) in ap (leb 1) k
 
 -- test 15, with the values that the code has in hand
 pub on-round : (s : List ℕ) → leb 1 (count (rover s) (dummy s ∷ freeStarts s)) ≡ true → ringTest s ≡ roundFrom (length (freeStarts s)) s (dummy s) (dummy s) (freeStarts s)

@@ -7,12 +7,20 @@ ghost use Rattle.segment.specs.Blocks.{sizeAt};
 ghost use Rattle.storage_tests.specs.Tests.{every};
 ghost use Rattle.storage_tests.specs.Answer.{insideTest, capped, elementCount};
 use descriptor::Descriptor;
+use descriptor::address::SegmentAddress;
 
 // More elements than any SIZE allows.
 const TOO_MANY: u64 = 0x1_0000;
 
-// The inside of the block at `a`; a free one has none to be tested.
-pub fn inside_test(seg: &[u32], a: usize) -> bool
+// The inside of a block; a free one has none to be tested.
+pub fn inside_test(seg: &[u32], block: SegmentAddress) -> bool
+    requires { ⌜ (block .0 + 1 < length (now seg)) × (block .0 + sizeAt (now seg) (block .0) ≤ length (now seg)) ⌝ }
+    ensures { λ r. ⌜ r ≡ insideTest (now (seg .entry)) (block .0) ⌝ }
+{
+    inside_at(seg, block.index())
+}
+
+fn inside_at(seg: &[u32], a: usize) -> bool
     requires { ⌜ (a + 1 < length (now seg)) × (a + sizeAt (now seg) a ≤ length (now seg)) ⌝ }
     ensures { λ r. ⌜ r ≡ insideTest (now (seg .entry)) a ⌝ }
 {

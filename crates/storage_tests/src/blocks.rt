@@ -12,6 +12,7 @@ ghost use Rattle.storage_tests.specs.Marks.{Clear, Marked};
 ghost use Rattle.storage_tests.specs.Answer.{blocksAnswer};
 use super::arrays::inside_test;
 use super::marks::raise;
+use descriptor::address::SegmentAddress;
 use segment::blocks::free_at;
 use segment::state::blockptr;
 use segment::state::sbase;
@@ -54,10 +55,11 @@ fn walk(seg: &[u32], from: usize, end: usize, arrays: &mut [u16], frees: &mut [u
         if end - a < span {
             return Blocks::Improper;
         }
-        if !inside_test(seg, a) {
+        let block = SegmentAddress::of(a as u32);
+        if !inside_test(seg, block) {
             return Blocks::Improper;
         }
-        before = free_at(seg, a as u32);
+        before = free_at(seg, block);
         found += mark(a, before, arrays, frees);
         a += span;
     }

@@ -11,11 +11,11 @@ ghost use Rattle.storage_tests.specs.Ring.{linked, roundFrom, ringTest};
 ghost use Rattle.storage_tests.specs.Marks.{Tally};
 use super::marks::lower;
 use super::marks::mark_at;
+use descriptor::address::SegmentAddress;
 use segment::blocks::dummy;
 use segment::blocks::last_at;
 use segment::blocks::next_at;
-use segment::low;
-use segment::word;
+use segment::state::rover;
 
 // The table has the free blocks marked, `count` of them. Where the test passes, no mark is left.
 pub fn ring_test(seg: &[u32], count: usize, marks: &mut [u16]) -> bool
@@ -24,50 +24,51 @@ pub fn ring_test(seg: &[u32], count: usize, marks: &mut [u16]) -> bool
     ensures { λ _. ⌜ (ringTest (now (seg .entry)) ≡ true → Tally (now (marks .exit)) []) ⌝ }
 {
     let end = dummy(seg);
-    if !on_ring(low(word(seg, 1)), end, marks) {
+    if !on_ring(rover(seg), end, marks) {
         return false;
     }
     round(seg, end, count, marks)
 }
 
-fn on_ring(rover: u16, end: u16, marks: &[u16]) -> bool
-    ensures { λ r. ⌜ r ≡ leb 1 (hit rover end + getD (now (marks .entry)) rover 0) ⌝ }
+fn on_ring(rover: SegmentAddress, end: SegmentAddress, marks: &[u16]) -> bool
+    ensures { λ r. ⌜ r ≡ leb 1 (hit (rover .0) (end .0) + getD (now (marks .entry)) (rover .0) 0) ⌝ }
 {
-    if rover == end {
+    if rover.number() == end.number() {
         return true;
     }
-    1 <= mark_at(marks, rover as usize)
+    1 <= mark_at(marks, rover.index())
 }
 
 // NEXT leads from the dummy through every marked block, each once, and back.
-fn round(seg: &[u32], end: u16, count: usize, marks: &mut [u16]) -> bool
+fn round(seg: &[u32], end: SegmentAddress, count: usize, marks: &mut [u16]) -> bool
     requires { ⌜ (count ≡ length (freeStarts (now seg))) × Tally (now marks) (freeStarts (now seg)) ⌝ }
-    ensures { λ r. ⌜ r ≡ roundFrom (length (freeStarts (now (seg .entry)))) (now (seg .entry)) end end (freeStarts (now (seg .entry))) ⌝ }
+    ensures { λ r. ⌜ r ≡ roundFrom (length (freeStarts (now (seg .entry)))) (now (seg .entry)) (end .0) (end .0) (freeStarts (now (seg .entry))) ⌝ }
     ensures { λ r. ⌜ (r ≡ true → Tally (now (marks .exit)) []) ⌝ }
 {
     let mut at = end;
     let mut left = count;
     while 0 < left {
-        let next = next_at(seg, at as u32);
+        let next = next_at(seg, at);
         if !linked_to(seg, at, next) {
             return false;
         }
-        if mark_at(marks, next as usize) == 0 {
+        let place = next.index();
+        if mark_at(marks, place) == 0 {
             return false;
         }
-        lower(marks, next as usize);
+        lower(marks, place);
         at = next;
         left -= 1;
     }
     linked_to(seg, at, end)
 }
 
-fn linked_to(seg: &[u32], a: u16, b: u16) -> bool
-    ensures { λ r. ⌜ r ≡ linked (now (seg .entry)) a b ⌝ }
+fn linked_to(seg: &[u32], a: SegmentAddress, b: SegmentAddress) -> bool
+    ensures { λ r. ⌜ r ≡ linked (now (seg .entry)) (a .0) (b .0) ⌝ }
 {
-    if next_at(seg, a as u32) != b {
+    if next_at(seg, a).number() != b.number() {
         return false;
     }
-    let back = last_at(seg, b as u32);
-    back == a
+    let back = last_at(seg, b);
+    back.number() == a.number()
 }

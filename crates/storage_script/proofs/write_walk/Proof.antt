@@ -17,11 +17,14 @@ number-requires c κs = search needs
 dummy-requires : tie.Need-dummy-requires Inv-loop μ-loop
 dummy-requires c κs = search needs
 
-cast-end : tie.Need-cast-end Inv-loop μ-loop
-cast-end c = search needs
-
 loop-holds : tie.Need-loop-holds Inv-loop μ-loop
 loop-holds c = search needs
+
+number-requires-2 : tie.Need-number-requires-2 Inv-loop μ-loop
+number-requires-2 c κs = search needs
+
+of-requires : tie.Need-of-requires Inv-loop μ-loop
+of-requires c κs = search needs
 
 write-block-requires : tie.Need-write-block-requires Inv-loop μ-loop
 write-block-requires c κs = search needs
@@ -62,8 +65,9 @@ write-walk-spec =
     blockptr-requires
     number-requires
     dummy-requires
-    cast-end
     loop-holds
+    number-requires-2
+    of-requires
     write-block-requires
     span-at-requires
     add-a

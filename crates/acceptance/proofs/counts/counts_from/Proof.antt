@@ -1,10 +1,9 @@
 use borrow.Author.Needs.{needs}
 use mathlib.Core.Path.{_≡_, refl, sym, _∙_}
-use Prim.Native.Nat.{_-_}
+use mathlib.Core.Bool.{false}
 use native.Mathlib.Omega.{arith}
 use borrow.Author.Tests.{not-true, not-false}
 use lib.ListN.{length}
-use mathlib.Core.Bool.{false}
 use Rattle.view.specs.View.{owners}
 use Rattle.storage_tests.specs.Tests.{every}
 use Rattle.storage_tests.specs.Blocks.{startsFrom}
@@ -19,19 +18,53 @@ Inv-loop seg from end table a₀ left₀ a left = every (countTest seg (owners s
 abbrev μ-loop : tie.MeasureT-loop
 μ-loop seg from end table a₀ left₀ a left = left
 
+loop-holds : tie.Need-loop-holds Inv-loop μ-loop
+loop-holds c = refl
+
+returns : tie.Need-returns Inv-loop μ-loop
+returns c = sym (c .before .before .loop .inv ∙ arrays-end _ _ _ _ _ (c .before .loop-test .taken) (c .if1 .taken))
+
+of-requires : tie.Need-of-requires Inv-loop μ-loop
+of-requires c κs = search needs
+
+is-counted-requires : tie.Need-is-counted-requires Inv-loop μ-loop
+is-counted-requires c κs = rw (c .of .ensures) (c .before .before .before .before .before .before .pre .2 _ (omega arith) (omega arith))
+
+returns-2 : tie.Need-returns-2 Inv-loop μ-loop
+returns-2 c = sym (c .before .before .before .before .before .loop .inv ∙ array-fails _ _ _ _ _ (c .before .before .before .before .loop-test .taken) (c .before .before .before .if1 .left) (rw (c .before .before .of .ensures) at (c .before .is-counted .ensures)) (not-true _ (c .if2 .taken)))
+
+span-at-requires : tie.Need-span-at-requires Inv-loop μ-loop
+span-at-requires c κs = search needs
+
+add-a : tie.Need-add-a Inv-loop μ-loop
+add-a c = search needs
+
+sub-left : tie.Need-sub-left Inv-loop μ-loop
+sub-left c = search needs
+
+loop-less : tie.Need-loop-less Inv-loop μ-loop
+loop-less c = search needs
+
+loop-again : tie.Need-loop-again Inv-loop μ-loop
+loop-again c = c .before .before .before .before .before .before .loop .inv ∙ rw (c .span-at .ensures, c .before .before .before .of .ensures) (array-passes _ _ _ _ _ (c .before .before .before .before .before .loop-test .taken) (c .before .before .before .before .if1 .left) (rw (c .before .before .before .of .ensures) at (c .before .before .is-counted .ensures)) (not-false _ (c .before .if2 .left)))
+
+returns-3 : tie.Need-returns-3 Inv-loop μ-loop
+returns-3 c = sym (c .before .loop .inv ∙ arrays-none _ _ _ _ _ (c .loop-test .left))
+
 pub counts-from-spec : {M : Type 1} → statement M
 counts-from-spec =
     tie.close
     (tie.spec
     Inv-loop
     μ-loop
-    (λ c. refl)
-    (λ c. sym ((c .before .before .loop .inv) ∙ arrays-end _ _ _ _ _ (c .before .loop-test .taken) (c .if1 .taken)))
-    (λ c κs. (c .before .before .before .before .before .pre .2) _ (omega arith) (omega arith))
-    (λ c. sym ((c .before .before .before .before .loop .inv) ∙ array-fails _ _ _ _ _ (c .before .before .before .loop-test .taken) (c .before .before .if1 .left) (c .before .is-counted .ensures) (not-true _ (c .if2 .taken))))
-    (λ c κs. search needs)
-    (λ c. search needs)
-    (λ c. search needs)
-    (λ c. search needs)
-    (λ c. (c .before .before .before .before .before .loop .inv) ∙ rw (c .span-at .ensures) (array-passes _ _ _ _ _ (c .before .before .before .before .loop-test .taken) (c .before .before .before .if1 .left) (c .before .before .is-counted .ensures) (not-false _ (c .before .if2 .left))))
-    (λ c. sym ((c .before .loop .inv) ∙ arrays-none _ _ _ _ _ (c .loop-test .left))))
+    loop-holds
+    returns
+    of-requires
+    is-counted-requires
+    returns-2
+    span-at-requires
+    add-a
+    sub-left
+    loop-less
+    loop-again
+    returns-3)

@@ -4,15 +4,37 @@ use Rattle.acceptance.specs.Counts.{countTest}
 use Rattle.acceptance.proofs.counts.is_counted.Statement.{statement}
 use Rattle.acceptance.proofs.counts.is_counted.Tie as tie
 
-pub is-counted-spec : {M : Type 1} → statement M
+free-at-requires : tie.Need-free-at-requires
+free-at-requires c κs = search needs
+
+returns : tie.Need-returns
+returns c = simp (← (c .before .free-at .ensures), c .if1 .taken)
+
+count-requires : tie.Need-count-requires
+count-requires c κs = search needs
+
+returns-2 : tie.Need-returns-2
 unfolding countTest
+returns-2 c = simp (← (c .before .before .before .free-at .ensures), c .before .before .if1 .left, ← (c .before .count .ensures), lt-leb _ _ (c .if2 .taken))
+
+index-requires : tie.Need-index-requires
+index-requires c κs = search needs
+
+mark-at-requires : tie.Need-mark-at-requires
+mark-at-requires c κs = search needs
+
+returns-3 : tie.Need-returns-3
+unfolding countTest
+returns-3 c = simp (← (c .before .before .before .before .before .free-at .ensures), c .before .before .before .before .if1 .left, ← (c .before .before .before .count .ensures), le-leb _ _ (c .before .before .if2 .left), c .mark-at .ensures, c .before .index .ensures, c .before .before .before .before .before .before .before .before .pre)
+
+pub is-counted-spec : {M : Type 1} → statement M
 is-counted-spec =
     tie.close
     (tie.spec
-    (λ c κs. search needs)
-    (λ c. simp (← (c .before .free-at .ensures), (c .if1 .taken)))
-    (λ c κs. search needs)
-    (λ c κs. search needs)
-    (λ c. simp (← (c .before .before .before .before .free-at .ensures), (c .before .before .before .if1 .left), ← (rw (c .before .before .of .ensures) at (c .before .count .ensures)), lt-leb _ _ (c .if2 .taken)))
-    (λ c κs. search needs)
-    (λ c. simp (← (c .before .before .before .before .before .free-at .ensures), (c .before .before .before .before .if1 .left), ← (rw (c .before .before .before .of .ensures) at (c .before .before .count .ensures)), le-leb _ _ (c .before .if2 .left), (c .mark-at .ensures), (c .before .before .before .before .before .before .before .before .pre))))
+    free-at-requires
+    returns
+    count-requires
+    returns-2
+    index-requires
+    mark-at-requires
+    returns-3)

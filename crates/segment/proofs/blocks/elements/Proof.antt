@@ -6,9 +6,6 @@ use Rattle.segment.proofs.blocks.elements.Tie as tie
 rank-requires : tie.Need-rank-requires
 rank-requires c κs = search needs
 
-number-requires : tie.Need-number-requires
-number-requires c κs = search needs
-
 size-at-requires : tie.Need-size-at-requires
 size-at-requires c κs = search needs
 
@@ -48,7 +45,6 @@ elements-spec =
     tie.close
     (tie.spec
     rank-requires
-    number-requires
     size-at-requires
     index-requires
     add-within

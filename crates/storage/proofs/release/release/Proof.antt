@@ -7,20 +7,14 @@ use Rattle.storage.proofs.release.release.Tie as tie
 number-requires : tie.Need-number-requires
 number-requires c κs = search needs
 
-size-at-requires : tie.Need-size-at-requires
-size-at-requires c κs = search needs
+span-at-requires : tie.Need-span-at-requires
+span-at-requires c κs = search needs
 
-cast-n : tie.Need-cast-n
-cast-n c = search needs
+add-of : tie.Need-add-of
+add-of c = search needs
 
-slop-at-requires : tie.Need-slop-at-requires
-slop-at-requires c κs = search needs
-
-add-n : tie.Need-add-n
-add-n c = search needs
-
-add-after : tie.Need-add-after
-add-after c = search needs
+of-requires : tie.Need-of-requires
+of-requires c κs = search needs
 
 prev-free-at-requires : tie.Need-prev-free-at-requires
 prev-free-at-requires c κs = search needs
@@ -28,8 +22,11 @@ prev-free-at-requires c κs = search needs
 minus-requires : tie.Need-minus-requires
 minus-requires c κs = search needs
 
-size-at-requires-2 : tie.Need-size-at-requires-2
-size-at-requires-2 c κs = search needs
+of-requires-2 : tie.Need-of-requires-2
+of-requires-2 c κs = search needs
+
+size-at-requires : tie.Need-size-at-requires
+size-at-requires c κs = search needs
 
 cast-before : tie.Need-cast-before
 cast-before c = search needs
@@ -37,8 +34,8 @@ cast-before c = search needs
 minus-requires-2 : tie.Need-minus-requires-2
 minus-requires-2 c κs = search needs
 
-cast-p : tie.Need-cast-p
-cast-p c = search needs
+of-requires-3 : tie.Need-of-requires-3
+of-requires-3 c κs = search needs
 
 free-at-requires : tie.Need-free-at-requires
 free-at-requires c κs = search needs
@@ -58,14 +55,8 @@ join-before-requires c κs = search needs
 free-at-requires-2 : tie.Need-free-at-requires-2
 free-at-requires-2 c κs = search needs
 
-cast-join-after : tie.Need-cast-join-after
-cast-join-after c = search needs
-
 join-after-requires : tie.Need-join-after-requires
 join-after-requires c κs = search needs
-
-cast-join-none : tie.Need-cast-join-none
-cast-join-none c = search needs
 
 join-none-requires : tie.Need-join-none-requires
 join-none-requires c κs = search needs
@@ -99,26 +90,23 @@ release-spec =
     tie.close
     (tie.spec
     number-requires
-    size-at-requires
-    cast-n
-    slop-at-requires
-    add-n
-    add-after
+    span-at-requires
+    add-of
+    of-requires
     prev-free-at-requires
     minus-requires
-    size-at-requires-2
+    of-requires-2
+    size-at-requires
     cast-before
     minus-requires-2
-    cast-p
+    of-requires-3
     free-at-requires
     add-join-both
     join-both-requires
     add-join-before
     join-before-requires
     free-at-requires-2
-    cast-join-after
     join-after-requires
-    cast-join-none
     join-none-requires
     same-length
     returns

@@ -9,7 +9,7 @@ use Rattle.storage.proofs.request.find.Statement.{statement}
 use Rattle.storage.proofs.request.find.Tie as tie
 
 abbrev Inv-loop : tie.InvT-loop
-Inv-loop seg size stop at₀ left₀ at left = (stop ≡ rover seg) × (find seg size ≡ findFrom left seg size stop at) × (at < 2 ^ 16)
+Inv-loop seg size stop at₀ left₀ at left = (stop .0 ≡ rover seg) × (find seg size ≡ findFrom left seg size (stop .0) (at .0)) × (at .0 < 2 ^ 16)
 
 abbrev μ-loop : tie.MeasureT-loop
 μ-loop seg size stop at₀ left₀ at left = left
@@ -17,18 +17,9 @@ abbrev μ-loop : tie.MeasureT-loop
 rover-requires : tie.Need-rover-requires Inv-loop μ-loop
 rover-requires c κs = search needs
 
-number-requires : tie.Need-number-requires Inv-loop μ-loop
-number-requires c κs = search needs
-
-cast-stop : tie.Need-cast-stop Inv-loop μ-loop
-cast-stop c = search needs
-
 loop-holds : tie.Need-loop-holds Inv-loop μ-loop
 unfolding find
 loop-holds c = ((cc), (cc), omega arith)
-
-cast-size-at : tie.Need-cast-size-at Inv-loop μ-loop
-cast-size-at c = search needs
 
 size-at-requires : tie.Need-size-at-requires Inv-loop μ-loop
 size-at-requires c κs = search needs
@@ -37,16 +28,22 @@ cast-if1 : tie.Need-cast-if1 Inv-loop μ-loop
 cast-if1 c = search needs
 
 returns : tie.Need-returns Inv-loop μ-loop
-returns c = sym (c .before .before .before .loop .inv .1 ∙ find-here _ _ _ _ _ (omega arith) (omega arith))
-
-cast-next-at : tie.Need-cast-next-at Inv-loop μ-loop
-cast-next-at c = search needs
+returns c = (sym (c .before .before .before .loop .inv .1 ∙ find-here _ _ _ _ _ (omega arith) (omega arith)), omega arith)
 
 next-at-requires : tie.Need-next-at-requires Inv-loop μ-loop
 next-at-requires c κs = search needs
 
+number-requires : tie.Need-number-requires Inv-loop μ-loop
+number-requires c κs = search needs
+
+number-requires-2 : tie.Need-number-requires-2 Inv-loop μ-loop
+number-requires-2 c κs = search needs
+
+of-requires : tie.Need-of-requires Inv-loop μ-loop
+of-requires c κs = search needs
+
 returns-2 : tie.Need-returns-2 Inv-loop μ-loop
-returns-2 c = sym (c .before .before .before .before .before .loop .inv .1 ∙ find-round _ _ _ _ _ (omega arith) (omega arith) (cc))
+returns-2 c = ((cc) ∙ sym (c .before .before .before .before .before .before .before .before .loop .inv .1 ∙ find-round _ _ _ _ _ (omega arith) (omega arith) (cc)), omega arith)
 
 sub-left : tie.Need-sub-left Inv-loop μ-loop
 sub-left c = search needs
@@ -55,10 +52,15 @@ loop-less : tie.Need-loop-less Inv-loop μ-loop
 loop-less c = search needs
 
 loop-again : tie.Need-loop-again Inv-loop μ-loop
-loop-again c = (c .before .before .before .before .before .loop .inv .0, c .before .before .before .before .before .loop .inv .1 ∙ find-on _ _ _ _ _ (omega arith) (omega arith) (λ e. c .if2 .left (c .before .next-at .ensures ∙ e)) ∙ rw (← c .before .next-at .ensures), omega arith)
+loop-again c =
+    let inv = c .before .before .before .before .before .before .before .loop .inv in
+    (inv .0, inv .1 ∙ find-on _ _ _ _ _ (omega arith) (omega arith) (λ e. c .if2 .left ((cc) ∙ e ∙ (cc))) ∙ rw (← c .before .before .before .next-at .ensures .0), omega arith)
+
+of-requires-2 : tie.Need-of-requires-2 Inv-loop μ-loop
+of-requires-2 c κs = search needs
 
 returns-3 : tie.Need-returns-3 Inv-loop μ-loop
-returns-3 c = sym (c .before .loop .inv .1 ∙ find-none _ _ _ _ _ (omega arith))
+returns-3 c = ((cc) ∙ sym (c .before .before .loop .inv .1 ∙ find-none _ _ _ _ _ (omega arith)), omega arith)
 
 pub find-spec : {M : Type 1} → statement M
 find-spec =
@@ -67,17 +69,17 @@ find-spec =
     Inv-loop
     μ-loop
     rover-requires
-    number-requires
-    cast-stop
     loop-holds
-    cast-size-at
     size-at-requires
     cast-if1
     returns
-    cast-next-at
     next-at-requires
+    number-requires
+    number-requires-2
+    of-requires
     returns-2
     sub-left
     loop-less
     loop-again
+    of-requires-2
     returns-3)

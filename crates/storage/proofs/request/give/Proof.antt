@@ -17,29 +17,23 @@ sub-over c = search needs
 split-requires : tie.Need-split-requires
 split-requires c κs = search needs
 
+set-rover-requires : tie.Need-set-rover-requires
+set-rover-requires c κs = search needs
+
+number-requires : tie.Need-number-requires
+number-requires c κs = search needs
+
 cast-of : tie.Need-cast-of
 cast-of c = search needs
+
+add-of : tie.Need-add-of
+add-of c = search needs
 
 of-requires : tie.Need-of-requires
 of-requires c κs = search needs
 
-set-rover-requires : tie.Need-set-rover-requires
-set-rover-requires c κs = search needs
-
-cast-result : tie.Need-cast-result
-cast-result c = search needs
-
-add-result : tie.Need-add-result
-add-result c = search needs
-
 whole-requires : tie.Need-whole-requires
 whole-requires c κs = search needs
-
-cast-of-2 : tie.Need-cast-of-2
-cast-of-2 c = search needs
-
-of-requires-2 : tie.Need-of-requires-2
-of-requires-2 c κs = search needs
 
 set-rover-requires-2 : tie.Need-set-rover-requires-2
 set-rover-requires-2 c κs = search needs
@@ -64,14 +58,12 @@ give-spec =
     size-at-requires
     sub-over
     split-requires
-    cast-of
-    of-requires
     set-rover-requires
-    cast-result
-    add-result
+    number-requires
+    cast-of
+    add-of
+    of-requires
     whole-requires
-    cast-of-2
-    of-requires-2
     set-rover-requires-2
     same-length
     returns

@@ -8,6 +8,9 @@ use Rattle.storage.proofs.request.request.Tie as tie
 find-requires : tie.Need-find-requires
 find-requires c κs = search needs
 
+number-requires : tie.Need-number-requires
+number-requires c κs = search needs
+
 same-length : tie.Need-same-length
 same-length c = search needs
 
@@ -15,13 +18,10 @@ returns : tie.Need-returns
 returns c = (found-none _ _ (cc), sym (request-none _ _ (cc)))
 
 cast-give : tie.Need-cast-give
-cast-give c = omega (arith, find-room _ _ _ (c .before .before .find .ensures) (c .before .if1 .left))
+cast-give c = omega (arith, find-room _ _ _ (c .before .before .before .find .ensures .0) (λ e. c .before .if1 .left ((cc) ∙ e)))
 
 give-requires : tie.Need-give-requires
-give-requires c κs = find-room _ _ _ (c .before .before .find .ensures) (c .before .if1 .left)
-
-of-requires : tie.Need-of-requires
-of-requires c κs = search needs
+give-requires c κs = (search needs, find-room _ _ _ (c .before .before .before .find .ensures .0) (λ e. c .before .if1 .left ((cc) ∙ e)))
 
 same-length-2 : tie.Need-same-length-2
 same-length-2 c = search needs
@@ -34,10 +34,10 @@ request-spec =
     tie.close
     (tie.spec
     find-requires
+    number-requires
     same-length
     returns
     cast-give
     give-requires
-    of-requires
     same-length-2
     returns-2)

@@ -3,8 +3,14 @@ use borrow.Author.Needs.{needs}
 use Rattle.storage.proofs.request.split.Statement.{statement}
 use Rattle.storage.proofs.request.split.Tie as tie
 
+number-requires : tie.Need-number-requires
+number-requires c κs = search needs
+
 add-a : tie.Need-add-a
 add-a c = search needs
+
+index-requires : tie.Need-index-requires
+index-requires c κs = search needs
 
 add-put : tie.Need-add-put
 add-put c = search needs
@@ -30,8 +36,11 @@ add-put-2 c = search needs
 put-requires-3 : tie.Need-put-requires-3
 put-requires-3 c κs = search needs
 
-add-clear-prev-free : tie.Need-add-clear-prev-free
-add-clear-prev-free c = search needs
+add-of : tie.Need-add-of
+add-of c = search needs
+
+of-requires : tie.Need-of-requires
+of-requires c κs = search needs
 
 clear-prev-free-requires : tie.Need-clear-prev-free-requires
 clear-prev-free-requires c κs = search needs
@@ -47,7 +56,9 @@ pub split-spec : {M : Type 1} → statement M
 split-spec =
     tie.close
     (tie.spec
+    number-requires
     add-a
+    index-requires
     add-put
     put-requires
     cast-put
@@ -56,7 +67,8 @@ split-spec =
     cast-put-2
     add-put-2
     put-requires-3
-    add-clear-prev-free
+    add-of
+    of-requires
     clear-prev-free-requires
     same-length
     returns)

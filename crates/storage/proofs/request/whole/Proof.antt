@@ -6,6 +6,9 @@ use Rattle.storage.proofs.request.whole.Tie as tie
 unlink-requires : tie.Need-unlink-requires
 unlink-requires c κs = search needs
 
+index-requires : tie.Need-index-requires
+index-requires c κs = search needs
+
 mul-put : tie.Need-mul-put
 mul-put c = search needs
 
@@ -15,11 +18,17 @@ add-put c = search needs
 put-requires : tie.Need-put-requires
 put-requires c κs = search needs
 
-add-clear-prev-free : tie.Need-add-clear-prev-free
-add-clear-prev-free c = search needs
+number-requires : tie.Need-number-requires
+number-requires c κs = search needs
 
-add-clear-prev-free-2 : tie.Need-add-clear-prev-free-2
-add-clear-prev-free-2 c = search needs
+add-of : tie.Need-add-of
+add-of c = search needs
+
+add-of-2 : tie.Need-add-of-2
+add-of-2 c = search needs
+
+of-requires : tie.Need-of-requires
+of-requires c κs = search needs
 
 clear-prev-free-requires : tie.Need-clear-prev-free-requires
 clear-prev-free-requires c κs = search needs
@@ -36,11 +45,14 @@ whole-spec =
     tie.close
     (tie.spec
     unlink-requires
+    index-requires
     mul-put
     add-put
     put-requires
-    add-clear-prev-free
-    add-clear-prev-free-2
+    number-requires
+    add-of
+    add-of-2
+    of-requires
     clear-prev-free-requires
     same-length
     returns)

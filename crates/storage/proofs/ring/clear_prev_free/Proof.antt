@@ -3,6 +3,9 @@ use borrow.Author.Needs.{needs}
 use Rattle.storage.proofs.ring.clear_prev_free.Statement.{statement}
 use Rattle.storage.proofs.ring.clear_prev_free.Tie as tie
 
+index-requires : tie.Need-index-requires
+index-requires c κs = search needs
+
 word-requires : tie.Need-word-requires
 word-requires c κs = search needs
 
@@ -17,4 +20,5 @@ unfolding clearPrevFree
 returns c = cc
 
 pub clear-prev-free-spec : {M : Type 1} → statement M
-clear-prev-free-spec = tie.close (tie.spec word-requires put-requires same-length returns)
+clear-prev-free-spec =
+    tie.close (tie.spec index-requires word-requires put-requires same-length returns)

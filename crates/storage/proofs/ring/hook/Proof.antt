@@ -3,6 +3,9 @@ use borrow.Author.Needs.{needs}
 use Rattle.storage.proofs.ring.hook.Statement.{statement}
 use Rattle.storage.proofs.ring.hook.Tie as tie
 
+index-requires : tie.Need-index-requires
+index-requires c κs = search needs
+
 add-put : tie.Need-add-put
 add-put c = search needs
 
@@ -25,4 +28,11 @@ returns c = cc
 pub hook-spec : {M : Type 1} → statement M
 hook-spec =
     tie.close
-    (tie.spec add-put put-requires set-next-requires set-last-requires same-length returns)
+    (tie.spec
+    index-requires
+    add-put
+    put-requires
+    set-next-requires
+    set-last-requires
+    same-length
+    returns)

@@ -6,11 +6,20 @@ use Rattle.storage.proofs.ring.insert.Tie as tie
 dummy-requires : tie.Need-dummy-requires
 dummy-requires c κs = search needs
 
-cast-next-at : tie.Need-cast-next-at
-cast-next-at c = search needs
-
 next-at-requires : tie.Need-next-at-requires
 next-at-requires c κs = search needs
+
+number-requires : tie.Need-number-requires
+number-requires c κs = search needs
+
+cast-halves : tie.Need-cast-halves
+cast-halves c = search needs
+
+number-requires-2 : tie.Need-number-requires-2
+number-requires-2 c κs = search needs
+
+cast-halves-2 : tie.Need-cast-halves-2
+cast-halves-2 c = search needs
 
 halves-requires : tie.Need-halves-requires
 halves-requires c κs = search needs
@@ -30,8 +39,11 @@ insert-spec =
     tie.close
     (tie.spec
     dummy-requires
-    cast-next-at
     next-at-requires
+    number-requires
+    cast-halves
+    number-requires-2
+    cast-halves-2
     halves-requires
     hook-requires
     same-length

@@ -3,11 +3,17 @@ use borrow.Author.Needs.{needs}
 use Rattle.storage.proofs.ring.mark_free.Statement.{statement}
 use Rattle.storage.proofs.ring.mark_free.Tie as tie
 
+index-requires : tie.Need-index-requires
+index-requires c κs = search needs
+
 add-put : tie.Need-add-put
 add-put c = search needs
 
 put-requires : tie.Need-put-requires
 put-requires c κs = search needs
+
+number-requires : tie.Need-number-requires
+number-requires c κs = search needs
 
 add-minus : tie.Need-add-minus
 add-minus c = search needs
@@ -32,8 +38,10 @@ pub mark-free-spec : {M : Type 1} → statement M
 mark-free-spec =
     tie.close
     (tie.spec
+    index-requires
     add-put
     put-requires
+    number-requires
     add-minus
     minus-requires
     cast-put

@@ -11,8 +11,8 @@ rover-requires c κs = search needs
 number-requires : tie.Need-number-requires
 number-requires c κs = search needs
 
-of-requires : tie.Need-of-requires
-of-requires c κs = search needs
+number-requires-2 : tie.Need-number-requires-2
+number-requires-2 c κs = search needs
 
 set-rover-requires : tie.Need-set-rover-requires
 set-rover-requires c κs = search needs
@@ -35,7 +35,7 @@ move-rover-spec =
     (tie.spec
     rover-requires
     number-requires
-    of-requires
+    number-requires-2
     set-rover-requires
     same-length
     returns

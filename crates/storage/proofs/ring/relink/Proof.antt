@@ -9,6 +9,9 @@ next-at-requires c κs = search needs
 last-at-requires : tie.Need-last-at-requires
 last-at-requires c κs = search needs
 
+index-requires : tie.Need-index-requires
+index-requires c κs = search needs
+
 add-word : tie.Need-add-word
 add-word c = search needs
 
@@ -31,6 +34,7 @@ relink-spec =
     (tie.spec
     next-at-requires
     last-at-requires
+    index-requires
     add-word
     word-requires
     hook-requires

@@ -3,11 +3,23 @@ use borrow.Author.Needs.{needs}
 use Rattle.storage.proofs.ring.set_next.Statement.{statement}
 use Rattle.storage.proofs.ring.set_next.Tie as tie
 
-last-at-requires : tie.Need-last-at-requires
-last-at-requires c κs = search needs
+index-requires : tie.Need-index-requires
+index-requires c κs = search needs
 
-add-put : tie.Need-add-put
-add-put c = search needs
+add-i : tie.Need-add-i
+add-i c = search needs
+
+word-requires : tie.Need-word-requires
+word-requires c κs = search needs
+
+low-requires : tie.Need-low-requires
+low-requires c κs = search needs
+
+number-requires : tie.Need-number-requires
+number-requires c κs = search needs
+
+cast-halves : tie.Need-cast-halves
+cast-halves c = search needs
 
 halves-requires : tie.Need-halves-requires
 halves-requires c κs = search needs
@@ -24,4 +36,15 @@ returns c = cc
 
 pub set-next-spec : {M : Type 1} → statement M
 set-next-spec =
-    tie.close (tie.spec last-at-requires add-put halves-requires put-requires same-length returns)
+    tie.close
+    (tie.spec
+    index-requires
+    add-i
+    word-requires
+    low-requires
+    number-requires
+    cast-halves
+    halves-requires
+    put-requires
+    same-length
+    returns)

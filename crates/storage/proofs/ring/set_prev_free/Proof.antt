@@ -3,6 +3,9 @@ use borrow.Author.Needs.{needs}
 use Rattle.storage.proofs.ring.set_prev_free.Statement.{statement}
 use Rattle.storage.proofs.ring.set_prev_free.Tie as tie
 
+index-requires : tie.Need-index-requires
+index-requires c κs = search needs
+
 word-requires : tie.Need-word-requires
 word-requires c κs = search needs
 
@@ -20,4 +23,5 @@ unfolding setPrevFree
 returns c = cc
 
 pub set-prev-free-spec : {M : Type 1} → statement M
-set-prev-free-spec = tie.close (tie.spec word-requires add-put put-requires same-length returns)
+set-prev-free-spec =
+    tie.close (tie.spec index-requires word-requires add-put put-requires same-length returns)

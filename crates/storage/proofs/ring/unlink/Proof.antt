@@ -9,14 +9,8 @@ next-at-requires c κs = search needs
 last-at-requires : tie.Need-last-at-requires
 last-at-requires c κs = search needs
 
-cast-set-next : tie.Need-cast-set-next
-cast-set-next c = search needs
-
 set-next-requires : tie.Need-set-next-requires
 set-next-requires c κs = search needs
-
-cast-set-last : tie.Need-cast-set-last
-cast-set-last c = search needs
 
 set-last-requires : tie.Need-set-last-requires
 set-last-requires c κs = search needs
@@ -34,9 +28,7 @@ unlink-spec =
     (tie.spec
     next-at-requires
     last-at-requires
-    cast-set-next
     set-next-requires
-    cast-set-last
     set-last-requires
     same-length
     returns)

@@ -45,8 +45,14 @@ same-length-4 c = search needs
 returns-2 : tie.Need-returns-2 Inv-loop μ-loop
 returns-2 c = improper _ _ _ (walking-past _ _ _ _ _ _ (c .before .before .before .before .loop .inv .5) (omega arith) (λ z. omega arith) (omega arith))
 
+cast-of : tie.Need-cast-of Inv-loop μ-loop
+cast-of c = search needs
+
+of-requires : tie.Need-of-requires Inv-loop μ-loop
+of-requires c κs = search needs
+
 inside-test-requires : tie.Need-inside-test-requires Inv-loop μ-loop
-inside-test-requires c κs = walking-fits _ _ _ _ _ _ (c .before .before .before .before .loop .inv .5) (omega arith) (λ z. omega arith) (omega arith) (omega arith) (omega arith)
+inside-test-requires c κs = rw (c .of .ensures) (walking-fits _ _ _ _ _ _ (c .before .before .before .before .before .loop .inv .5) (omega arith) (λ z. omega arith) (omega arith) (omega arith) (omega arith))
 
 same-length-5 : tie.Need-same-length-5 Inv-loop μ-loop
 same-length-5 c = search needs
@@ -55,19 +61,16 @@ same-length-6 : tie.Need-same-length-6 Inv-loop μ-loop
 same-length-6 c = search needs
 
 returns-3 : tie.Need-returns-3 Inv-loop μ-loop
-returns-3 c = improper _ _ _ (walking-inside _ _ _ _ _ _ (c .before .before .before .before .before .before .loop .inv .5) (omega arith) (λ z. omega arith) (omega arith) (omega arith) (omega arith) (sym (c .before .inside-test .ensures) ∙ not-true _ (c .if3 .taken)))
-
-cast-free-at : tie.Need-cast-free-at Inv-loop μ-loop
-cast-free-at c = search needs
+returns-3 c = improper _ _ _ (walking-inside _ _ _ _ _ _ (c .before .before .before .before .before .before .before .loop .inv .5) (omega arith) (λ z. omega arith) (omega arith) (omega arith) (omega arith) (cc (not-true (c .before .inside-test .result) (c .if3 .taken))))
 
 free-at-requires : tie.Need-free-at-requires Inv-loop μ-loop
 free-at-requires c κs = search needs
 
 mark-requires : tie.Need-mark-requires Inv-loop μ-loop
-mark-requires c κs = walking-room _ _ _ _ _ _ (c .before .before .before .before .before .before .before .before .before .loop .inv .5) (omega arith)
+mark-requires c κs = walking-room _ _ _ _ _ _ (c .before .before .before .before .before .before .before .before .before .before .loop .inv .5) (omega arith)
 
 add-found : tie.Need-add-found Inv-loop μ-loop
-add-found c = record { fits = omega (arith, c .before .before .before .before .mark .ensures .0, one-at-most (c .before .before .before .before .before .before .before .free-at .result), walking-found _ _ _ _ _ _ (c .before .before .before .before .before .before .before .before .before .before .before .before .before .before .loop .inv .5)) }
+add-found c = record { fits = omega (arith, c .before .before .before .before .mark .ensures .0, one-at-most (c .before .before .before .before .before .before .before .free-at .result), walking-found _ _ _ _ _ _ (c .before .before .before .before .before .before .before .before .before .before .before .before .before .before .before .loop .inv .5)) }
 
 add-a : tie.Need-add-a Inv-loop μ-loop
 add-a c = search needs
@@ -76,7 +79,7 @@ loop-less : tie.Need-loop-less Inv-loop μ-loop
 loop-less c = search needs
 
 loop-again : tie.Need-loop-again Inv-loop μ-loop
-loop-again c = (omega arith, omega arith, omega arith, search needs, search needs, rw (c .before .before .before .before .mark .ensures .1 .0, c .before .before .before .before .mark .ensures .1 .1, c .before .before .before .before .mark .ensures .0, c .before .before .before .before .before .before .before .before .before .before .before .before .block-span .ensures) (walking-on _ _ _ _ _ _ (c .before .before .before .before .before .before .before .before .before .before .before .before .before .before .loop .inv .5) (omega arith) (λ z. omega arith) (omega arith) (omega arith) (omega arith) (sym (c .before .before .before .before .before .before .before .before .before .inside-test .ensures) ∙ not-false _ (c .before .before .before .before .before .before .before .before .if3 .left)) _ (c .before .before .before .before .before .before .before .free-at .ensures)))
+loop-again c = (omega arith, omega arith, omega arith, search needs, search needs, rw (c .before .before .before .before .mark .ensures .1 .0, c .before .before .before .before .mark .ensures .1 .1, c .before .before .before .before .mark .ensures .0, c .before .before .before .before .before .before .before .before .before .before .before .before .before .block-span .ensures) (walking-on _ _ _ _ _ _ (c .before .before .before .before .before .before .before .before .before .before .before .before .before .before .before .loop .inv .5) (omega arith) (λ z. omega arith) (omega arith) (omega arith) (omega arith) (cc (not-false (c .before .before .before .before .before .before .before .before .before .inside-test .result) (c .before .before .before .before .before .before .before .before .if3 .left))) _ (cc)))
 
 mul-if4 : tie.Need-mul-if4 Inv-loop μ-loop
 mul-if4 c = search needs
@@ -121,11 +124,12 @@ walk-spec =
     same-length-3
     same-length-4
     returns-2
+    cast-of
+    of-requires
     inside-test-requires
     same-length-5
     same-length-6
     returns-3
-    cast-free-at
     free-at-requires
     mark-requires
     add-found

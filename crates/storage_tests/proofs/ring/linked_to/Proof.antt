@@ -1,4 +1,3 @@
-use Prim.Native.Nat.{_-_}
 use mathlib.Core.Path.{sym, _∙_}
 use Rattle.storage_tests.proofs.Rounds.{linked-yes, linked-no}
 use borrow.Author.Needs.{needs}
@@ -8,14 +7,36 @@ use Rattle.storage_tests.proofs.ring.linked_to.Tie as tie
 next-at-requires : tie.Need-next-at-requires
 next-at-requires c κs = search needs
 
+number-requires : tie.Need-number-requires
+number-requires c κs = search needs
+
+number-requires-2 : tie.Need-number-requires-2
+number-requires-2 c κs = search needs
+
 returns : tie.Need-returns
-returns c = sym (linked-no _ _ _ (λ e. c .if1 .taken (c .before .next-at .ensures ∙ e)))
+returns c = sym (linked-no _ _ _ (λ e. c .if1 .taken ((cc) ∙ e ∙ (cc))))
 
 last-at-requires : tie.Need-last-at-requires
 last-at-requires c κs = search needs
 
+number-requires-3 : tie.Need-number-requires-3
+number-requires-3 c κs = search needs
+
+number-requires-4 : tie.Need-number-requires-4
+number-requires-4 c κs = search needs
+
 returns-2 : tie.Need-returns-2
-returns-2 c = rw (c .last-at .ensures) (sym (linked-yes _ _ _ (sym (c .before .before .next-at .ensures) ∙ c .before .if1 .left)))
+returns-2 c = (cc) ∙ sym (linked-yes _ _ _ (cc))
 
 pub linked-to-spec : {M : Type 1} → statement M
-linked-to-spec = tie.close (tie.spec next-at-requires returns last-at-requires returns-2)
+linked-to-spec =
+    tie.close
+    (tie.spec
+    next-at-requires
+    number-requires
+    number-requires-2
+    returns
+    last-at-requires
+    number-requires-3
+    number-requires-4
+    returns-2)

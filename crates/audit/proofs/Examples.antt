@@ -1,0 +1,94 @@
+-- The table of document 01's marked examples, and the story of a list and its copy, by computation.
+use mathlib.Core.Path.{refl}
+use lib.Ieee.{size}
+use Rattle.descriptor.specs.Kinds.{kindOf, integerKind, undefinedKind, unsignedKind, isScalar, arrayKind}
+use Rattle.operator.specs.Table.{operatorOf}
+use Rattle.scalar.specs.Value.{units}
+use Rattle.scalar.specs.Operators.{plus, sum, ratioOf, quotient}
+use Rattle.scalar.specs.Reading.{wholeUnits, wholeOf}
+use Rattle.procedure.specs.Bytes.{wordAt}
+use Rattle.procedure.specs.Headers.{headerAt, codeOf}
+use Rattle.procedure.specs.Directory.{hasFunction, functionOf}
+use Rattle.procedure.specs.Refusal.{lengthRefused, headerFault, functionFault, functionsFault, entriesRefused, contentsFault, procedureRefusal}
+use Rattle.instruction.specs.Families.{familyIn, familyOf}
+use Rattle.instruction.specs.Reading.{fetchByte, fetchHalf, fetchWord}
+use Rattle.instruction.specs.Tables.{etcOf, memoryOf}
+use Rattle.instruction.specs.Decoding.{shortConstantAt, constantScalarAt, etcAt, familyAt, instructionAt, callChecked, decodeOf, loadAt, memoryAt}
+use Rattle.instruction.specs.Variables.{addressIn, addressAt}
+use Rattle.segment.specs.State.{setLtop, setRover, setTrap}
+use Rattle.segment.specs.Stack.{setPctr}
+use Rattle.segment.specs.Blocks.{shapeAt, elementsAt}
+use Rattle.segment.specs.Parts.{shapePart, elementsPart, within}
+use Rattle.storage.specs.Heap.{hit}
+use Rattle.storage.specs.Ring.{setNext, setLast, clearPrevFree, unlink}
+use Rattle.storage.specs.Request as request
+use Rattle.storage.specs.Arrays as arrays
+use Rattle.view.specs.View as view
+use Rattle.storage_tests.specs.Tests as tests
+use Rattle.storage_tests.specs.Head.{headTest}
+use Rattle.storage_tests.specs.Blocks.{freeSpan, blockSpan, walkFrom, walkTest, startsFrom, freeStarts, arrayStarts, blocksTest, arraySpan, arrayTest}
+use Rattle.storage_tests.specs.Ring.{linked, roundFrom, ringTest}
+use Rattle.acceptance.specs.Frames.{known, arguments, variables, framesFrom, framesTest}
+use Rattle.acceptance.specs.Cells.{direct, frameCells, cellsFrom, cellsTest}
+use Rattle.acceptance.specs.Counts.{countsTest, countTest}
+use Rattle.acceptance.specs.Refusal.{dataRefusal, refusal}
+use Rattle.manual.specs.Values as values
+use Rattle.manual.specs.Loads as loads
+use Rattle.manual.specs.Scalars as scalars
+use Rattle.manual.specs.Memory as memory
+use Rattle.manual.specs.Instructions.{planOf, planAt}
+use Rattle.effects.specs.Perform.{finish, replace, discard, storeAt, store, unshare, writeElement, storeElement}
+use Rattle.effects.specs.Seen.{read, seen, whole}
+use Rattle.stepping.specs.Step.{stepIn, stepOf}
+use Rattle.stepping.specs.Run.{stepsFrom, runOf}
+use Rattle.layout.specs.LayOut.{functionTest, partsTest, layOutRefusal, freshStorage, freshFrame, freshHead, fresh, laidOut}
+use Rattle.operations.specs.Run.{ran}
+use Rattle.operations.specs.Load.{isGlobal, isValue, isFull, loadRefusal, loaded}
+use Rattle.operations.specs.Look.{looked}
+use Rattle.audit.specs.Table.{Table}
+use Rattle.audit.specs.Story.{Story}
+
+computed : Table × Story
+unfolding laidOut layOutRefusal functionTest partsTest fresh freshHead freshStorage freshFrame hasFunction headerAt wordAt
+    procedureRefusal lengthRefused contentsFault entriesRefused functionsFault functionFault headerFault refusal dataRefusal
+    headTest blocksTest freeSpan blockSpan walkFrom walkTest startsFrom freeStarts arrayStarts linked roundFrom ringTest known
+    arguments variables framesFrom framesTest direct frameCells cellsFrom cellsTest countsTest tests.words view.words
+    view.framesFrom hit isScalar kindOf integerKind undefinedKind unsignedKind ran runOf stepsFrom stepOf stepIn functionOf
+    planAt planOf loads.shortConstant loads.constantScalar scalars.indexGenerator scalars.dyadic values.dyadic values.conform
+    values.pairwise values.indexGenerator values.upFrom units wholeUnits wholeOf codeOf familyIn familyOf fetchByte fetchHalf
+    fetchWord etcOf shortConstantAt constantScalarAt etcAt familyAt instructionAt callChecked decodeOf setLtop setRover setTrap
+    setPctr setNext setLast clearPrevFree unlink request.findFrom request.find request.split request.whole request.give
+    request.given request.requestAt request.request arrays.fill arrays.placeAt arrays.place arrays.drop finish replace read seen
+    operatorOf plus sum ratioOf quotient size shapeAt elementsAt shapePart elementsPart arraySpan arrayTest memoryOf addressIn
+    addressAt loadAt memoryAt discard storeAt store unshare writeElement storeElement whole isGlobal isValue isFull loadRefusal
+    loaded looked arrays.share arrays.raise arrays.lower memory.assignNoResult memory.assignIndexed memory.eat loads.load
+    values.place arrayKind countTest within
+computed = (
+  record {
+    m1 = record { word0 = refl; word1 = refl; word12 = refl; word13 = refl; word33 = refl; word34 = refl };
+    m2 = record { leaves = record { done = refl; top = refl }; free = refl; array = refl; roverAt = refl };
+    m3 = record { leaves = record { done = refl; top = refl }; free = refl; array = refl; roverAt = refl };
+    m4 = record { leaves = record { done = refl; top = refl }; free = refl; array = refl; roverAt = refl };
+    m5 = record { leaves = record { done = refl; top = refl }; value = refl };
+    m6 = record { done = refl; top = refl };
+    m7 = record { trapped = refl; trap = refl };
+    m8 = record { leaves = record { done = refl; top = refl }; value = refl };
+    m9 = record { leaves = record { done = refl; top = refl }; value = refl };
+    m10 = (record { done = refl; top = refl }, record { done = refl; top = refl }, record { done = refl; top = refl });
+  },
+  record {
+    copies = refl;
+    list = record { seen = refl; shape = refl; ravel = refl };
+    copy = record { seen = refl; shape = refl; ravel = refl };
+    count = refl;
+    writes = refl;
+    listAfter = record { seen = refl; shape = refl; ravel = refl };
+    copyAfter = record { seen = refl; shape = refl; ravel = refl };
+  },
+)
+
+pub table : Table
+table = computed .0
+
+pub story : Story
+story = computed .1

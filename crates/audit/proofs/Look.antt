@@ -1,0 +1,151 @@
+-- A look does what `LookMeets` says: the parts handed back are the shape and the ravel of what the global is seen as.
+use Prim.Native.Nat.{ℕ, _+_, _-_, _≤_, _<_}
+use mathlib.Core.Path.{_≡_, refl, sym, _∙_, ap}
+use mathlib.Core.Bool.{Bool, true, false, cond}
+use mathlib.Core.Logic.{_≢_, _⊎_, inl, inr, ⊎-elim}
+use mathlib.Core.List.{List}
+use native.Mathlib.Omega.{arith}
+use lib.Dec.{leb, ltb, eqb}
+use lib.ListN.{getD, length}
+use borrow.Author.Tests.{leb-true, ltb-true, eqb-true, eq-eqb, ne-eqb}
+use Rattle.descriptor.specs.declared.Kind.{Kind}
+use Rattle.descriptor.specs.declared.Kind.the-variants as K
+use Rattle.descriptor.specs.Kinds.{kindOf}
+use Rattle.segment.specs.State.{blockptr}
+use Rattle.segment.specs.Blocks.{sizeAt, rankAt, product, shapeAt, elementsAt}
+use Rattle.segment.specs.Parts.{shapePart, elementsPart}
+use Rattle.segment.specs.Cells.{value, invalid, cellOfKind, cell}
+use Rattle.segment.proofs.Parts.{shape-part, elements-part}
+use Rattle.storage_tests.proofs.Tests.{by-eq, both}
+use Rattle.acceptance.specs.Refusal.{refusal}
+use Rattle.acceptance.specs.Structure.{Accepted}
+use Rattle.acceptance.proofs.Structure.{structure}
+use Rattle.effects.specs.Seen.{whole, readKind, read}
+use Rattle.effects_theorems.proofs.Tests.{never}
+use Rattle.effects_theorems.proofs.Reading.{read-cell}
+use Rattle.plans.proofs.Given.{and-true}
+use Rattle.legal.specs.Legal.{Direct}
+use Rattle.legal_accepted.proofs.Cells.{globals-length, global-word}
+use Rattle.legal_accepted.proofs.Owners.{global-owns}
+use Rattle.legal_accepted.proofs.Theorem.{legal-theorems}
+use Rattle.steps.proofs.Again.{sound-of}
+use Rattle.operations.specs.declared.Looked.{Looked}
+use Rattle.operations.specs.declared.Looked.the-variants.{Refused}
+use Rattle.operations.specs.Load.{isGlobal}
+use Rattle.operations.specs.Look.{seenAs, looked}
+use Rattle.audit.specs.Calls.{Procedures, held, isUndefined, lookRefusal}
+use Rattle.audit.specs.Meets.{Tells, LookMeets}
+
+pub global-within : (s : List ℕ) (g : ℕ) → isGlobal s g ≡ true → (8 ≤ g) × (g < blockptr s)
+unfolding isGlobal
+global-within s g h = let k = both (leb 8 g) (ltb g (blockptr s)) h in (leb-true _ _ (k .0), ltb-true _ _ (k .1))
+
+-- ---- the parts of a block
+
+read-whole : (b : Bool) (shape ravel : List ℕ) → cond b (value shape ravel) invalid ≡ value shape ravel → b ≡ true
+read-whole true shape ravel e = refl
+read-whole false shape ravel e = let z : _≡_ {A = ℕ} 0 1 = cc in absurd (omega arith)
+
+module _ (s : List ℕ) (a : ℕ) where
+  parts-seen : whole s a ≡ true → value (shapeAt s a) (elementsAt s a) ≡ value (shapePart s a) (elementsPart s a)
+  unfolding whole
+  parts-seen h =
+      let r = and-true (leb 1 (rankAt s a)) _ h in
+      let k = and-true (eqb (sizeAt s a) (2 + rankAt s a + product (shapeAt s a))) (leb (a + sizeAt s a) (length s)) (r .1) in
+      let size : sizeAt s a ≡ 2 + rankAt s a + product (shapeAt s a) = eqb-true _ _ (k .0) in
+      let fits : a + sizeAt s a ≤ length s = leb-true _ _ (k .1) in
+      rw (shape-part s a (omega arith), elements-part s a size fits)
+
+-- ---- what is told of a word, by its kind
+
+module _ (s : List ℕ) (v : ℕ) where
+  tells : (k : Kind) → Direct (cellOfKind s v k) → isUndefined (cellOfKind s v k) ≡ false → readKind s v k ≡ cellOfKind s v k
+      → Tells s (seenAs v k) (cellOfKind s v k)
+  tells (K.Scalar k) d u r = refl
+  tells (K.Array a) d u r = parts-seen s (a .0) (read-whole (whole s (a .0)) (shapeAt s (a .0)) (elementsAt s (a .0)) r)
+  tells (K.Indirect t) d u r = d
+  tells K.Undefined d u r = never u
+  tells K.Invalid d u r = d
+
+  tells-none : (k : Kind) → isUndefined (cellOfKind s v k) ≡ true → seenAs v k ≡ Refused 22
+  tells-none (K.Scalar k) u = never (sym u)
+  tells-none (K.Array a) u = never (sym u)
+  tells-none (K.Indirect t) u = never (sym u)
+  tells-none K.Undefined u = refl
+  tells-none K.Invalid u = never (sym u)
+
+-- ---- the call
+
+module _ (s : List ℕ) (p : Procedures) (g : ℕ) where
+  abbrev number : ℕ
+  number = refusal s (p .regular) (p .other)
+
+  abbrev answer : Looked
+  answer = looked s (p .regular) (p .other) g
+
+  abbrev v : ℕ
+  v = getD s g 0
+
+  -- the ways of the table
+  refused-by : number ≢ 0 → (lookRefusal s (p .regular) (p .other) g ≡ number) × (answer ≡ Refused number)
+  unfolding looked
+  refused-by h = (simp (ne-eqb number 0 h), simp (ne-eqb number 0 h))
+
+  module _ (h : number ≡ 0) where
+    outside : isGlobal s g ≡ false → (lookRefusal s (p .regular) (p .other) g ≡ 21) × (answer ≡ Refused 21)
+    unfolding looked
+    outside k = (simp (eq-eqb number 0 h, k), simp (eq-eqb number 0 h, k))
+
+    module _ (k : isGlobal s g ≡ true) where
+      within : (lookRefusal s (p .regular) (p .other) g ≡ cond (isUndefined (held s g)) 22 0) × (answer ≡ seenAs v (kindOf v))
+      unfolding looked
+      within = (simp (eq-eqb number 0 h, k), simp (eq-eqb number 0 h, k))
+
+      start : Accepted s (p .regular) (p .other)
+      start = structure .sound s (p .regular) (p .other) h
+
+      held-is : held s g ≡ cellOfKind s v (kindOf v)
+      unfolding cell
+      held-is = let b = global-within s g k in global-word s g (b .0) (b .1)
+
+      held-direct : Direct (held s g)
+      held-direct =
+          let b = global-within s g k in
+          legal-theorems .split s (p .regular) (p .other) start .legal .globals (g - 8) (omega (arith, b, globals-length s))
+
+      held-read : readKind s v (kindOf v) ≡ cellOfKind s v (kindOf v)
+      unfolding read cell
+      held-read = let b = global-within s g k in read-cell s (sound-of start) v (global-owns s g (b .0) (b .1))
+
+      value-told : isUndefined (held s g) ≡ false → Tells s answer (held s g)
+      value-told u =
+          rw (within .1, held-is)
+          (tells s v (kindOf v) (rw held-is at held-direct) (rw held-is at u) held-read)
+
+      none-told : isUndefined (held s g) ≡ true → answer ≡ Refused 22
+      none-told u = within .1 ∙ tells-none s v (kindOf v) (rw held-is at u)
+
+  abbrev Ways : Type 0
+  Ways =
+      ((lookRefusal s (p .regular) (p .other) g ≢ 0) × (answer ≡ Refused (lookRefusal s (p .regular) (p .other) g)))
+      ⊎ ((lookRefusal s (p .regular) (p .other) g ≡ 0) × Tells s answer (held s g))
+
+  stops : (n : ℕ) → n ≢ 0 → (lookRefusal s (p .regular) (p .other) g ≡ n) × (answer ≡ Refused n) → Ways
+  stops n d r = inl (λ z. d (sym (r .0) ∙ z), r .1 ∙ ap Refused (sym (r .0)))
+
+  ways : Ways
+  ways = by-eq number 0 (λ h. inside h (isGlobal s g) refl) (λ h. stops number h (refused-by h))
+    where
+      holding : (h : number ≡ 0) (k : isGlobal s g ≡ true) (b : Bool) → isUndefined (held s g) ≡ b → Ways
+      holding h k true u = stops 22 (omega arith) (within h k .0 ∙ rw u, none-told h k u)
+      holding h k false u = inr (within h k .0 ∙ rw u, value-told h k u)
+
+      inside : number ≡ 0 → (b : Bool) → isGlobal s g ≡ b → Ways
+      inside h true k = holding h k (isUndefined (held s g)) refl
+      inside h false k = stops 21 (omega arith) (outside h k)
+
+  pub look-meets : LookMeets s p g
+  look-meets = record {
+    refused = λ d. ⊎-elim (λ w. w .1) (λ w. absurd (d (w .0))) ways;
+    told = λ e. ⊎-elim (λ w. absurd (w .0 e)) (λ w. w .1) ways;
+  }

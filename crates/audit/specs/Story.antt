@@ -1,0 +1,44 @@
+-- The auditor's question as one computation: a list is loaded into a global and copied to another, which shares its block; the
+-- last element of the copy is written; both are looked at. Assumes nothing.
+use Prim.Native.Nat.{ℕ}
+use mathlib.Core.Path.{_≡_}
+use mathlib.Core.List.{List, [], _∷_}
+use Rattle.descriptor.specs.Kinds.{segment}
+use Rattle.segment.specs.Blocks.{countAt}
+use Rattle.segment.specs.Parts.{shapePart, elementsPart}
+use Rattle.operations.specs.declared.Run.the-variants.{Done}
+use Rattle.operations.specs.declared.Looked.the-variants.{Array}
+use Rattle.operations.specs.Run.{Ended, ran}
+use Rattle.operations.specs.Load.{loaded}
+use Rattle.operations.specs.Look.{looked}
+use Rattle.audit.specs.Table.{coded, laid}
+
+-- Global 8 is pushed and assigned to global 9; 0 and the subscript 2 are pushed, global 9 is assigned indexed, and the result eaten.
+abbrev pub code : List ℕ
+code = 0xD0 ∷ 0x08 ∷ 0x91 ∷ 0xD0 ∷ 0x09 ∷ 0x40 ∷ 0x00 ∷ 0x40 ∷ 0x02 ∷ 0x81 ∷ 0xD0 ∷ 0x09 ∷ 0xA1 ∷ []
+
+abbrev pub listed : List ℕ
+listed = loaded (laid code) (coded code) (coded code) 8 (3 ∷ []) (10 ∷ 20 ∷ 30 ∷ [])
+
+abbrev pub copied : Ended
+copied = ran listed (coded code) (coded code) 2
+
+abbrev pub written : Ended
+written = ran (copied .words) (coded code) (coded code) 4
+
+-- A look at a global tells a vector of three.
+pub record Holds (s : List ℕ) (g block a b c : ℕ) : Type 0 where
+  pub seen : looked s (coded code) (coded code) g ≡ Array (segment block)
+  pub shape : shapePart s block ≡ 3 ∷ []
+  pub ravel : elementsPart s block ≡ a ∷ b ∷ c ∷ []
+
+pub record Story : Type 0 where
+  pub copies : copied .answer ≡ Done 2
+  -- one block, which two cells point to
+  pub list : Holds (copied .words) 8 27 10 20 30
+  pub copy : Holds (copied .words) 9 27 10 20 30
+  pub count : countAt (copied .words) 27 ≡ 2
+  pub writes : written .answer ≡ Done 4
+  -- the copy has a block of its own now, and the list is as it was
+  pub listAfter : Holds (written .words) 8 27 10 20 30
+  pub copyAfter : Holds (written .words) 9 21 10 20 0

@@ -1,0 +1,2 @@
+-- What the instructions of control find out before they change a word.
+pub mod Answers
