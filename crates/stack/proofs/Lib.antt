@@ -3,3 +3,5 @@ pub mod Seen
 pub mod Whole
 pub mod ValuesSeen
 pub mod Resolving
+pub mod Scalars
+pub mod Subscripts

@@ -1,3 +1,4 @@
--- Operands and variables of instructions on words.
+-- Operands and variables of instructions, on words.
 pub mod Operands
 pub mod Variables
+pub mod Taken
