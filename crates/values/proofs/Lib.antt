@@ -1,0 +1,5 @@
+-- Laws of the crate.
+pub mod Carrying
+pub mod Taking
+pub mod Few
+pub mod Fronts
