@@ -16,5 +16,5 @@ module _ (s : List ℕ) (a : ℕ) (there : whole s a ≡ true) where
   pub ranked : 1 ≤ length (shapeAt s a)
   ranked = let facts = whole-facts s a there in omega arith
 
-  pub elements-few : length s ≤ 16384 → length (elementsAt s a) ≤ 16384
-  elements-few short = let facts = whole-facts s a there in omega arith
+  pub elements-few : length s ≤ 16384 → (words : List ℕ) → words ≡ elementsAt s a → length words ≤ 16384
+  elements-few short words e = let facts = whole-facts s a there in rw e (omega arith)

@@ -3,3 +3,4 @@ pub mod Carrying
 pub mod Taking
 pub mod Few
 pub mod Fronts
+pub mod Elementwise

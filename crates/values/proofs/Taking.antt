@@ -1,14 +1,16 @@
 -- Plans of one operand and of two, by what the code finds of them.
-use Prim.Native.Nat.{ℕ, suc, _<_, _≤_}
+use Prim.Native.Nat.{ℕ, _<_, _≤_}
 use native.Mathlib.Omega.{arith}
-use mathlib.Core.Path.{_≡_, refl, ap, _∙_}
-use mathlib.Core.List.{List}
+use mathlib.Core.Path.{_≡_, sym, ap, _∙_}
+use mathlib.Core.List.{List, [], _∷_}
 use lib.Dec.{ltb}
 use borrow.Author.Tests.{lt-ltb, le-ltb}
-use Rattle.manual.specs.OrTrap.{andThen, stopIf}
-use Rattle.manual.specs.Effects.{Plan}
-use Rattle.manual.specs.Values.{Value}
-use Rattle.manual.specs.Scalars.{valueOf}
+use Rattle.descriptor.specs.Kinds.{bit}
+use Rattle.segment.specs.State.{flags, iorg}
+use Rattle.manual.specs.OrTrap.{OrTrap, gives, andThen, stopIf}
+use Rattle.manual.specs.Effects.{word, replaces, jumps, setsOrigin, Plan}
+use Rattle.manual.specs.Values.{Value, truthOfValue}
+use Rattle.manual.specs.Scalars.{valueOf, replaceBy, ofOne, ofTwo, setOrigin}
 use Rattle.effects.specs.Sources.{operandAt}
 use Rattle.effects.specs.Seen.{temporaries, seen}
 use Rattle.stack.specs.declared.operands.Value.{Value as Operand}
@@ -16,7 +18,7 @@ use Rattle.stack.specs.declared.operands.Value.the-variants.{Array}
 use Rattle.stack.specs.declared.operands.Operand.{Operand as Found}
 use Rattle.stack.specs.declared.operands.Operand.the-variants as found
 use Rattle.stack.specs.Operands.{operandOf, held, valueSeen}
-use Rattle.stack.proofs.Seen.{operand-seen}
+use Rattle.stack.proofs.Seen.{origin-seen, operand-seen}
 use Rattle.stack.proofs.ValuesSeen.{value-seen, array-whole}
 use Rattle.perform.specs.declared.Outcome.the-variants.{Trapped}
 use Rattle.perform.specs.Carried.{did, carry}
@@ -38,21 +40,52 @@ module _ (s : List ℕ) where
   unfolding seen
   all-there n rest all = simp (le-ltb _ _ all)
 
-  -- a plan that goes on from the first operand of n
-  module _ (n : ℕ) (all : suc n ≤ temporaries s) (next : Value → Plan) where
+  -- a plan that goes on from the first operand
+  module _ (n : ℕ) (some : 1 ≤ n) (all : n ≤ temporaries s) (next : Value → Plan) where
     abbrev fromFirst : Plan
-    fromFirst = stopIf (ltb ((seen s) .count) (suc n)) 3 4 (andThen (valueOf ((seen s) .operand 0)) next)
+    fromFirst = stopIf (ltb ((seen s) .count) n) 3 4 (andThen (valueOf ((seen s) .operand 0)) next)
 
     pub first-other : operandOf s (operandAt s 0) ≡ found.Other → did (Trapped 3 5) s ≡ carry s fromFirst
-    first-other other = rw (all-there (suc n) (andThen (valueOf ((seen s) .operand 0)) next) all, operand-found 0 (omega arith) found.Other other)
+    first-other other = rw (all-there n (andThen (valueOf ((seen s) .operand 0)) next) all, operand-found 0 (omega arith) found.Other other)
 
     pub first-value : (v : Operand) → operandOf s (operandAt s 0) ≡ found.Value v → fromFirst ≡ next (held s v)
-    first-value v e = rw (all-there (suc n) (andThen (valueOf ((seen s) .operand 0)) next) all, operand-found 0 (omega arith) (found.Value v) e)
+    first-value v e = rw (all-there n (andThen (valueOf ((seen s) .operand 0)) next) all, operand-found 0 (omega arith) (found.Value v) e)
 
-  -- and from the second
-  module _ (two : 2 ≤ temporaries s) (next : Value → Plan) where
-    pub second-other : operandOf s (operandAt s 1) ≡ found.Other → did (Trapped 3 5) s ≡ carry s (andThen (valueOf ((seen s) .operand 1)) next)
-    second-other other = rw (operand-found 1 two found.Other other)
+-- Instructions of one operand and of two.
+module _ (s : List ℕ) (next : ℕ) where
+  module _ (f : Value → OrTrap Value) where
+    pub one-missing : temporaries s < 1 → did (Trapped 3 4) s ≡ carry s (ofOne (seen s) next f)
+    one-missing few = missing s 1 _ few
 
-    pub second-value : (v : Operand) → operandOf s (operandAt s 1) ≡ found.Value v → andThen (valueOf ((seen s) .operand 1)) next ≡ next (held s v)
-    second-value v e = rw (operand-found 1 two (found.Value v) e)
+    module _ (one : 1 ≤ temporaries s) where
+      pub one-other : operandOf s (operandAt s 0) ≡ found.Other → did (Trapped 3 5) s ≡ carry s (ofOne (seen s) next f)
+      one-other other = first-other s 1 (omega arith) one (λ a. replaceBy next 1 (f a)) other
+
+      pub one-value : (v : Operand) → operandOf s (operandAt s 0) ≡ found.Value v → carry s (replaceBy next 1 (f (held s v))) ≡ carry s (ofOne (seen s) next f)
+      one-value v e = ap (carry s) (sym (first-value s 1 (omega arith) one (λ a. replaceBy next 1 (f a)) v e))
+
+  module _ (f : Value → Value → OrTrap Value) where
+    pub two-missing : temporaries s < 2 → did (Trapped 3 4) s ≡ carry s (ofTwo (seen s) next f)
+    two-missing few = missing s 2 _ few
+
+    module _ (two : 2 ≤ temporaries s) where
+      abbrev fromSecond : Value → Plan
+      fromSecond a = andThen (valueOf ((seen s) .operand 1)) (λ b. replaceBy next 2 (f a b))
+
+      pub two-first-other : operandOf s (operandAt s 0) ≡ found.Other → did (Trapped 3 5) s ≡ carry s (ofTwo (seen s) next f)
+      two-first-other other = first-other s 2 (omega arith) two fromSecond other
+
+      module _ (v : Operand) (first : operandOf s (operandAt s 0) ≡ found.Value v) where
+        pub two-second-other : operandOf s (operandAt s 1) ≡ found.Other → did (Trapped 3 5) s ≡ carry s (ofTwo (seen s) next f)
+        two-second-other other = rw (first-value s 2 (omega arith) two fromSecond v first, operand-found s 1 two found.Other other)
+
+        pub two-values : (w : Operand) → operandOf s (operandAt s 1) ≡ found.Value w → carry s (replaceBy next 2 (f (held s v) (held s w))) ≡ carry s (ofTwo (seen s) next f)
+        two-values w second = rw (first-value s 2 (omega arith) two fromSecond v first, operand-found s 1 two (found.Value w) second)
+
+-- SETORIGIN.
+pub origin-value : (s : List ℕ) (next : ℕ) → 1 ≤ temporaries s → (v : Operand) → operandOf s (operandAt s 0) ≡ found.Value v
+    → setOrigin (seen s) next ≡ andThen (truthOfValue (held s v)) (λ b. gives (setsOrigin (bit b) ∷ replaces 1 (word (iorg (flags s))) ∷ jumps next ∷ []))
+unfolding setOrigin
+origin-value s next one v e =
+    rw (← origin-seen s)
+    (first-value s 1 (omega arith) one (λ a. andThen (truthOfValue a) (λ b. gives (setsOrigin (bit b) ∷ replaces 1 (word ((seen s) .origin)) ∷ jumps next ∷ []))) v e)

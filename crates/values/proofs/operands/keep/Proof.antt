@@ -1,5 +1,5 @@
-use mathlib.Core.Path.{sym}
 use native.Mathlib.Omega.{arith}
+use mathlib.Core.Path.{sym}
 use lib.Seq.{length-take-le}
 use Rattle.values.proofs.Fronts.{front}
 use borrow.Author.Needs.{needs}

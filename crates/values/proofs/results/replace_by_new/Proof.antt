@@ -1,7 +1,5 @@
-use mathlib.Core.Path.{_∙_}
-use Rattle.values.proofs.Carrying.{carried-full, carried-done}
-use mathlib.Core.Path.{_∙_}
 use native.Mathlib.Omega.{arith}
+use mathlib.Core.Path.{_∙_}
 use Rattle.values.proofs.Carrying.{carried-full, carried-done}
 use borrow.Author.Needs.{needs}
 use Rattle.values.proofs.results.replace_by_new.Statement.{statement}
@@ -23,13 +21,17 @@ same-length : tie.Need-same-length
 same-length c = search needs
 
 returns : tie.Need-returns
-returns c = let a = c .before .before .before .before .before .before .before .before .before .args in (cc) ∙ carried-full (a .seg .now) (a .operands) (a .lengths .now) (a .ravel .now) (a .next) (cc)
+returns c =
+    let a = c .before .before .before .before .before .before .before .before .before .args in
+    (cc) ∙ carried-full (a .seg .now) (a .operands) (a .lengths .now) (a .ravel .now) (a .next) (cc)
 
 same-length-2 : tie.Need-same-length-2
 same-length-2 c = search needs
 
 returns-2 : tie.Need-returns-2
-returns-2 c = let a = c .before .before .before .before .before .before .before .before .before .before .before .before .before .args in (cc) ∙ carried-done (a .seg .now) (a .operands) (a .lengths .now) (a .ravel .now) (a .next) (cc)
+returns-2 c =
+    let a = c .before .before .before .before .before .before .before .before .before .before .before .before .before .args in
+    (cc) ∙ carried-done (a .seg .now) (a .operands) (a .lengths .now) (a .ravel .now) (a .next) (cc)
 
 pub replace-by-new-spec : {M : Type 1} → statement M
 replace-by-new-spec =
