@@ -1,3 +1,5 @@
 -- Laws of the crate.
 pub mod Placing
+pub mod Copying
+pub mod Carrying
 pub mod FrameWords

@@ -1,7 +1,7 @@
--- A new array, as the code meets it: more asked for than the longest segment has, no block found, or a block, whose address fits
--- a descriptor in a segment of 32-bit words.
+-- An effect that asks for a block for an array, as the code meets it: more asked for than the longest segment has, no block
+-- found, or a block, whose address fits a descriptor in a segment of 32-bit words.
 use Prim.Native.Nat.{ℕ, zero, suc, _+_, _-_, _^_, _<_, _≤_}
-use mathlib.Core.Path.{_≡_, refl, ap}
+use mathlib.Core.Path.{_≡_, refl, ap, _∙_}
 use mathlib.Core.Bool.{Bool, true, false, cond, _||_}
 use mathlib.Core.List.{List}
 use native.Mathlib.Omega.{arith}
@@ -20,10 +20,11 @@ use Rattle.storage.specs.declared.request.Found.the-variants.{At, Full}
 use Rattle.storage.specs.Found.{found}
 use Rattle.storage.specs.Request.{findFrom, find, given, requestAt}
 use Rattle.storage.specs.Arrays.{place, placeAt, drop, drops}
+use Rattle.manual.specs.Effects.{made, Effect}
 use Rattle.effects.specs.Sources.{addressOf, heldAt}
-use Rattle.effects.specs.Perform.{bottomOf, finish, replace, storeAt, store, noneFor}
+use Rattle.effects.specs.Perform.{bottomOf, finish, replace, storeAt, store, perform, wanted, noneFor, isFull}
 use Rattle.perform.specs.declared.Done.the-variants as D
-use Rattle.perform.specs.Done.{doneFor, replaceMade, storeMade}
+use Rattle.perform.specs.Done.{answer, attempt}
 
 -- the two answers told apart
 full-zero : (a : ℕ) → found a ≡ Full → a ≡ 0
@@ -42,70 +43,48 @@ at-some a block at = by-test (eqb a 0) refl at
     by-test true e at = let never : _≡_ {A = ℕ} 0 1 = cc in absurd (omega arith)
     by-test false e at = (eqb-false a 0 e, let same : segment a ≡ block = cc in ap (λ (b : SegmentAddress). b .0) same)
 
-module _ (s shape ravel : List ℕ) where
-  -- more is asked for than the longest segment has
-  module _ (more : 16384 < need shape ravel) where
-    too-much : noneFor s (need shape ravel) ≡ true
-    too-much = simp (lt-ltb _ _ more)
+-- an effect by whether there is room
+module _ (s : List ℕ) (e : Effect) where
+  kept : isFull s e ≡ true → (D.Full ≡ answer s e) × (s ≡ attempt s e)
+  unfolding answer attempt
+  kept full = (rw full, rw full)
 
-    pub full-long : D.Full ≡ doneFor s shape ravel
-    unfolding doneFor
-    full-long = simp too-much
+  done : isFull s e ≡ false → (D.Done ≡ answer s e) × (perform s e ≡ attempt s e)
+  unfolding answer attempt
+  done room = (rw room, rw room)
 
-    pub replace-long : (n : ℕ) → s ≡ replaceMade s n shape ravel
-    unfolding replaceMade
-    replace-long n = simp too-much
+-- the effect asks for a block for this array
+module _ (s shape ravel : List ℕ) (e : Effect) (asks : wanted s e ≡ need shape ravel) where
+  pub full-by-need : isFull s e ≡ noneFor s (need shape ravel)
+  full-by-need = rw asks (simp (ne-eqb (need shape ravel) 0 (λ none. omega arith)))
 
-    pub store-long : (t : Target) → s ≡ storeMade s t shape ravel
-    unfolding storeMade
-    store-long t = simp too-much
+  pub long-kept : 16384 < need shape ravel → (D.Full ≡ answer s e) × (s ≡ attempt s e)
+  long-kept more = kept s e (full-by-need ∙ simp (lt-ltb _ _ more))
 
-  -- no block is found
-  module _ (none : found (placeAt s shape ravel) ≡ Full) where
-    none-found : noneFor s (need shape ravel) ≡ true
-    unfolding placeAt
-    none-found = by-test (ltb 16384 (need shape ravel))
-      where
-        by-test : (b : Bool) → (b || eqb (requestAt s (need shape ravel)) 0) ≡ true
-        by-test true = refl
-        by-test false = eq-eqb _ _ (full-zero _ none)
+  pub none-kept : found (placeAt s shape ravel) ≡ Full → (D.Full ≡ answer s e) × (place s shape ravel ≡ attempt s e)
+  unfolding place placeAt
+  none-kept none =
+      let still = kept s e (full-by-need ∙ by-test (ltb 16384 (need shape ravel))) in
+      (still .0, simp (eq-eqb _ _ (full-zero _ none)) (still .1))
+    where
+      by-test : (b : Bool) → (b || eqb (requestAt s (need shape ravel)) 0) ≡ true
+      by-test true = refl
+      by-test false = eq-eqb _ _ (full-zero _ none)
 
-    kept : place s shape ravel ≡ s
-    unfolding place
-    kept = simp (eq-eqb _ _ (full-zero _ none))
+  pub found-done : (block : SegmentAddress) → need shape ravel ≤ 16384 → found (placeAt s shape ravel) ≡ At block
+      → (D.Done ≡ answer s e) × (perform s e ≡ attempt s e)
+  unfolding placeAt
+  found-done block little at = done s e (full-by-need ∙ simp (le-ltb _ _ little, ne-eqb _ _ (at-some _ block at .0)))
 
-    pub full-none : D.Full ≡ doneFor s shape ravel
-    unfolding doneFor
-    full-none = simp none-found
+-- the words after a block is found
+module _ (s shape ravel : List ℕ) (block : SegmentAddress) (at : found (placeAt s shape ravel) ≡ At block) where
+  pub replace-block : (n : ℕ) → finish (drops n (place s shape ravel) (bottomOf s n)) (bottomOf s n) (arrayWord (block .0)) ≡ replace s n (made shape ravel)
+  unfolding replace
+  replace-block n = rw (← at-some _ block at .1)
 
-    pub replace-none : (n : ℕ) → place s shape ravel ≡ replaceMade s n shape ravel
-    unfolding replaceMade
-    replace-none n = simp (kept, none-found)
-
-    pub store-none : (t : Target) → place s shape ravel ≡ storeMade s t shape ravel
-    unfolding storeMade
-    store-none t = simp (kept, none-found)
-
-  -- a block is found
-  module _ (block : SegmentAddress) (little : need shape ravel ≤ 16384) (at : found (placeAt s shape ravel) ≡ At block) where
-    block-at : placeAt s shape ravel ≡ block .0
-    block-at = at-some _ block at .1
-
-    one-found : noneFor s (need shape ravel) ≡ false
-    unfolding placeAt
-    one-found = simp (le-ltb _ _ little, ne-eqb _ _ (at-some _ block at .0))
-
-    pub done : D.Done ≡ doneFor s shape ravel
-    unfolding doneFor
-    done = simp one-found
-
-    pub replace-found : (n : ℕ) → finish (drops n (place s shape ravel) (bottomOf s n)) (bottomOf s n) (arrayWord (block .0)) ≡ replaceMade s n shape ravel
-    unfolding replaceMade replace
-    replace-found n = rw (← block-at) (simp one-found)
-
-    pub store-found : (t : Target) → drop (set (place s shape ravel) (addressOf s t) (arrayWord (block .0))) (heldAt s t) ≡ storeMade s t shape ravel
-    unfolding storeMade store storeAt
-    store-found t = rw (← block-at) (simp one-found)
+  pub store-block : (t : Target) → drop (set (place s shape ravel) (addressOf s t) (arrayWord (block .0))) (heldAt s t) ≡ store s t (made shape ravel)
+  unfolding store storeAt
+  store-block t = rw (← at-some _ block at .1)
 
 -- an address found along links of 16 bits
 cond-below : (k : ℕ) (b : Bool) (x y : ℕ) → x < k → y < k → cond b x y < k

@@ -1,5 +1,6 @@
 // The effects of which instructions are made, done on a lent data segment.
 pub mod frames;
+pub mod storing;
 pub mod taking;
 
 // What an instruction did. After `Trapped` no word has changed.

@@ -1,6 +1,7 @@
-use mathlib.Core.Path.{_∙_}
+use mathlib.Core.Path.{refl, _∙_}
 use native.Mathlib.Omega.{arith}
-use Rattle.perform.proofs.Placing.{full-long, full-none, done, replace-long, replace-none, replace-found, block-below}
+use Rattle.manual.specs.Effects.{made, replaces}
+use Rattle.perform.proofs.Placing.{long-kept, none-kept, found-done, replace-block, block-below}
 use borrow.Author.Needs.{needs}
 use Rattle.perform.proofs.taking.replace_by_array.Statement.{statement}
 use Rattle.perform.proofs.taking.replace_by_array.Tie as tie
@@ -12,7 +13,7 @@ add-if1-2 : tie.Need-add-if1-2
 add-if1-2 c = search needs
 
 returns : tie.Need-returns
-returns c = (full-long _ _ _ (omega arith), replace-long _ _ _ (omega arith) _)
+returns c = let a = c .before .before .before .before .args in long-kept (a .seg .now) (a .shape .now) (a .ravel .now) _ refl (omega arith)
 
 bottom-requires : tie.Need-bottom-requires
 bottom-requires c κs = search needs
@@ -27,7 +28,7 @@ enum-known-block : tie.Need-enum-known-block
 enum-known-block c = search needs
 
 array-requires : tie.Need-array-requires
-array-requires c κs = 
+array-requires c κs =
     let a = c .before .before .before .before .before .before .before .before .before .before .before .before .before .before .args in
     block-below (a .seg .now) (c .before .before .before .before .before .before .before .before .before .before .before .before .before .slice-known .given) (a .shape .now) (a .ravel .now) (c .before .before .block .given .0 .0) (cc)
 
@@ -41,15 +42,20 @@ same-length : tie.Need-same-length
 same-length c = search needs
 
 returns-2 : tie.Need-returns-2
-returns-2 c = (full-none _ _ _ (cc), (cc) ∙ replace-none _ _ _ (cc) _)
+returns-2 c =
+    let a = c .before .before .before .before .before .before .before .before .before .before .before .before .args in
+    let kept = none-kept (a .seg .now) (a .shape .now) (a .ravel .now) (replaces (a .n) (made (a .shape .now) (a .ravel .now))) refl (cc) in
+    (kept .0, (cc) ∙ kept .1)
 
 same-length-2 : tie.Need-same-length-2
 same-length-2 c = search needs
 
 returns-3 : tie.Need-returns-3
-returns-3 c = 
+returns-3 c =
+    let a = c .before .before .before .before .before .before .before .before .before .before .before .before .before .before .before .before .before .before .before .args in
     let block = c .before .before .before .before .before .before .before .block .given .0 .0 in
-    (done _ _ _ block (omega arith) (cc), (cc) ∙ replace-found _ _ _ block (omega arith) (cc) _)
+    let done = found-done (a .seg .now) (a .shape .now) (a .ravel .now) (replaces (a .n) (made (a .shape .now) (a .ravel .now))) refl block (omega arith) (cc) in
+    (done .0, (cc) ∙ replace-block _ _ _ block (cc) _ ∙ done .1)
 
 pub replace-by-array-spec : {M : Type 1} → statement M
 replace-by-array-spec =
