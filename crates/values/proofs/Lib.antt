@@ -4,3 +4,5 @@ pub mod Taking
 pub mod Few
 pub mod Fronts
 pub mod Elementwise
+pub mod Vectors
+pub mod Indexing

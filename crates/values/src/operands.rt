@@ -5,8 +5,8 @@ ghost use lib.ListN.{length};
 ghost use Rattle.manual.specs.Values as values;
 ghost use Rattle.stack.specs.Operands.{held};
 ghost use Rattle.values.specs.Parts.{Readable, Front};
-use elements::copies::copy;
 use elements::copies::cycle;
+use perform::storing::keep;
 use scalar::Answer;
 use stack::operands::Value;
 use stack::operands::elements_of;
@@ -56,16 +56,6 @@ pub fn copy_ravel(seg: &[u32], v: Value, out: &mut [u32]) -> usize
         }
         Value::Array(block) => keep(elements_of(seg, block), out),
     }
-}
-
-// The words stand at the front of `to` from now on.
-pub fn keep(from: &[u32], to: &mut [u32]) -> usize
-    requires { ⌜ length (now from) ≤ length (now to) ⌝ }
-    ensures { λ r. ⌜ Front (now (from .entry)) r (now (to .exit)) ⌝ }
-{
-    let n = from.len();
-    copy(from, &mut to[..n]);
-    n
 }
 
 // Its elements fill `out`, round and round.

@@ -1,3 +1,4 @@
+use Rattle.values.proofs.Fronts.{kept}
 use borrow.Author.Needs.{needs}
 use Rattle.values.proofs.operands.copy_ravel.Statement.{statement}
 use Rattle.values.proofs.operands.copy_ravel.Tie as tie
@@ -24,13 +25,13 @@ same-length : tie.Need-same-length
 same-length c = search needs
 
 returns : tie.Need-returns
-returns c = rw (c .before .before .before .before .before .before .v .given .1) (c .before .before .keep .ensures)
+returns c = rw (c .before .before .before .before .before .before .v .given .1) (kept _ _ _ (c .before .before .keep .ensures .0) (c .before .before .keep .ensures .1))
 
 same-length-2 : tie.Need-same-length-2
 same-length-2 c = search needs
 
 returns-2 : tie.Need-returns-2
-returns-2 c = rw (c .before .before .before .before .before .before .v2 .given .1, ← c .before .before .before .before .elements-of .ensures) (c .before .before .keep2 .ensures)
+returns-2 c = rw (c .before .before .before .before .before .before .v2 .given .1, ← c .before .before .before .before .elements-of .ensures) (kept _ _ _ (c .before .before .keep2 .ensures .0) (c .before .before .keep2 .ensures .1))
 
 pub copy-ravel-spec : {M : Type 1} → statement M
 copy-ravel-spec =

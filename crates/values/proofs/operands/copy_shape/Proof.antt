@@ -1,3 +1,4 @@
+use Rattle.values.proofs.Fronts.{kept}
 use borrow.Author.Needs.{needs}
 use Rattle.values.proofs.operands.copy_shape.Statement.{statement}
 use Rattle.values.proofs.operands.copy_shape.Tie as tie
@@ -21,7 +22,7 @@ same-length : tie.Need-same-length
 same-length c = search needs
 
 returns-2 : tie.Need-returns-2
-returns-2 c = rw (c .before .before .before .before .before .before .v .given .1, ← c .before .before .before .before .lengths-of .ensures) (c .before .before .keep .ensures)
+returns-2 c = rw (c .before .before .before .before .before .before .v .given .1, ← c .before .before .before .before .lengths-of .ensures) (kept _ _ _ (c .before .before .keep .ensures .0) (c .before .before .keep .ensures .1))
 
 pub copy-shape-spec : {M : Type 1} → statement M
 copy-shape-spec =

@@ -1,6 +1,8 @@
 use native.Mathlib.Omega.{arith}
-use mathlib.Core.Path.{_∙_}
-use Rattle.values.proofs.Carrying.{carried-full, carried-done}
+use mathlib.Core.Path.{refl, _∙_}
+use mathlib.Core.List.{[], _∷_}
+use Rattle.manual.specs.Effects.{made, replaces, jumps}
+use Rattle.perform.proofs.Carrying.{carry-refused, carry-served}
 use borrow.Author.Needs.{needs}
 use Rattle.values.proofs.results.replace_by_new.Statement.{statement}
 use Rattle.values.proofs.results.replace_by_new.Tie as tie
@@ -23,7 +25,7 @@ same-length c = search needs
 returns : tie.Need-returns
 returns c =
     let a = c .before .before .before .before .before .before .before .before .before .args in
-    (cc) ∙ carried-full (a .seg .now) (a .operands) (a .lengths .now) (a .ravel .now) (a .next) (cc)
+    (cc) ∙ carry-refused (a .seg .now) (replaces (a .operands) (made (a .lengths .now) (a .ravel .now))) (jumps (a .next) ∷ []) (refl, tt) (cc)
 
 same-length-2 : tie.Need-same-length-2
 same-length-2 c = search needs
@@ -31,7 +33,7 @@ same-length-2 c = search needs
 returns-2 : tie.Need-returns-2
 returns-2 c =
     let a = c .before .before .before .before .before .before .before .before .before .before .before .before .before .args in
-    (cc) ∙ carried-done (a .seg .now) (a .operands) (a .lengths .now) (a .ravel .now) (a .next) (cc)
+    (cc) ∙ carry-served (a .seg .now) (replaces (a .operands) (made (a .lengths .now) (a .ravel .now))) (jumps (a .next) ∷ []) (refl, tt) (cc)
 
 pub replace-by-new-spec : {M : Type 1} → statement M
 replace-by-new-spec =
