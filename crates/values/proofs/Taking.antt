@@ -7,7 +7,7 @@ use lib.Dec.{ltb}
 use borrow.Author.Tests.{lt-ltb, le-ltb}
 use Rattle.descriptor.specs.Kinds.{bit}
 use Rattle.segment.specs.State.{flags, iorg}
-use Rattle.manual.specs.OrTrap.{OrTrap, gives, andThen, stopIf}
+use Rattle.manual.specs.OrTrap.{OrTrap, gives, trap, andThen, stopIf}
 use Rattle.manual.specs.Effects.{word, replaces, jumps, setsOrigin, Plan}
 use Rattle.manual.specs.Values.{Value, truthOfValue}
 use Rattle.manual.specs.Scalars.{valueOf, replaceBy, ofOne, ofTwo, setOrigin}
@@ -64,6 +64,9 @@ module _ (s : List ℕ) (next : ℕ) where
       pub one-value : (v : Operand) → operandOf s (operandAt s 0) ≡ found.Value v → carry s (replaceBy next 1 (f (held s v))) ≡ carry s (ofOne (seen s) next f)
       one-value v e = ap (carry s) (sym (first-value s 1 (omega arith) one (λ a. replaceBy next 1 (f a)) v e))
 
+      pub one-refused : (v : Operand) → operandOf s (operandAt s 0) ≡ found.Value v → (class number : ℕ) → trap class number ≡ f (held s v) → did (Trapped class number) s ≡ carry s (ofOne (seen s) next f)
+      one-refused v e class number refused = rw (← one-value v e, ← refused)
+
   module _ (f : Value → Value → OrTrap Value) where
     pub two-missing : temporaries s < 2 → did (Trapped 3 4) s ≡ carry s (ofTwo (seen s) next f)
     two-missing few = missing s 2 _ few
@@ -81,6 +84,9 @@ module _ (s : List ℕ) (next : ℕ) where
 
         pub two-values : (w : Operand) → operandOf s (operandAt s 1) ≡ found.Value w → carry s (replaceBy next 2 (f (held s v) (held s w))) ≡ carry s (ofTwo (seen s) next f)
         two-values w second = rw (first-value s 2 (omega arith) two fromSecond v first, operand-found s 1 two (found.Value w) second)
+
+        pub two-refused : (w : Operand) → operandOf s (operandAt s 1) ≡ found.Value w → (class number : ℕ) → trap class number ≡ f (held s v) (held s w) → did (Trapped class number) s ≡ carry s (ofTwo (seen s) next f)
+        two-refused w second class number refused = rw (← two-values w second, ← refused)
 
 -- SETORIGIN.
 pub origin-value : (s : List ℕ) (next : ℕ) → 1 ≤ temporaries s → (v : Operand) → operandOf s (operandAt s 0) ≡ found.Value v

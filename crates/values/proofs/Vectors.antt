@@ -1,17 +1,17 @@
 -- SHAPE, RAVEL, CATENATE, INDEXGEN and RESHAPE by the ways through them.
 use Prim.Native.Nat.{ℕ, _+_, _^_, _<_, _≤_, min}
 use native.Mathlib.Omega.{arith}
-use mathlib.Core.Path.{_≡_, refl, sym, ap, _∙_}
-use mathlib.Core.Bool.{Bool, true, false, cond, not, _&&_, _||_}
+use mathlib.Core.Path.{_≡_, refl, _∙_}
+use mathlib.Core.Bool.{Bool, true, false, not, _&&_}
 use mathlib.Core.List.{List, [], _∷_, _++_}
-use lib.Dec.{ltb, leb, eqb}
-use lib.ListN.{length, take, length-append}
-use lib.Seq.{take-append-add}
+use lib.Dec.{eqb}
+use lib.ListN.{length}
 use borrow.Author.Tests.{lt-ltb, le-ltb, le-leb, lt-leb, eq-eqb, ne-eqb, eqb-true}
 use Rattle.descriptor.specs.Fields.{isCharacter}
-use Rattle.segment.specs.Blocks.{product, need}
-use Rattle.manual.specs.OrTrap.{OrTrap, gives, trap, andThen, stopIf}
-use Rattle.manual.specs.Values.{Value, value, vector, rank, size, any, shorts, catenate, upFrom, cycle, reshape}
+use Rattle.scalar.specs.Reading.{wholeOf}
+use Rattle.segment.specs.Blocks.{product}
+use Rattle.manual.specs.OrTrap.{gives, trap, andThen, stopIf}
+use Rattle.manual.specs.Values.{Value, value, vector, rank, size, any, single, shortOf, shorts, catenate, upFrom, indexGenerator, cycle, reshape}
 use Rattle.manual.specs.Scalars.{replaceBy}
 use Rattle.elements.proofs.Filling.{length-upFrom, length-cycle}
 use Rattle.stack.specs.declared.operands.Value.{Value as Operand}
@@ -19,7 +19,7 @@ use Rattle.stack.specs.declared.operands.Value.the-variants.{Scalar, Array}
 use Rattle.stack.specs.Operands.{held}
 use Rattle.perform.specs.declared.Outcome.the-variants.{Trapped}
 use Rattle.perform.specs.Carried.{did, carry}
-use Rattle.values.specs.Parts.{Readable, Front, shaped}
+use Rattle.values.specs.Parts.{Readable, shaped}
 use Rattle.values.proofs.Carrying.{carried-long}
 use Rattle.values.proofs.Few.{lengths-few, elements-few}
 
@@ -54,9 +54,24 @@ module _ (a b : Value) where
   unfolding catenate
   catenate-joined low lower few = simp (le-ltb 1 (rank a) low, le-ltb 1 (rank b) lower, lt-leb (2 ^ 16) (size a + size b) few)
 
--- The words of one at the front, and those of the other behind them.
-pub fronts-joined : (a b : List ℕ) (m n : ℕ) (to rest : List ℕ) → Front a m to → Front b n rest → take (m + n) (take m to ++ rest) ≡ a ++ b
-fronts-joined a b m n to rest first second = rw (first .first, first .count, take-append-add, second .first)
+-- ---- INDEXGEN
+
+module _ (origin : ℕ) (v : Value) where
+  pub generator-refused : (class number : ℕ) → trap class number ≡ single v → trap class number ≡ indexGenerator origin v
+  unfolding indexGenerator
+  generator-refused class number e = rw (← e)
+
+  module _ (w : ℕ) (one : gives w ≡ single v) where
+    pub generator-no-length : (class number : ℕ) → trap class number ≡ shortOf (wholeOf w) → trap class number ≡ indexGenerator origin v
+    unfolding indexGenerator
+    generator-no-length class number e = rw (← one, ← e)
+
+    pub generator-numbers : (n : ℕ) → gives n ≡ shortOf (wholeOf w) → gives (vector (upFrom origin n)) ≡ indexGenerator origin v
+    unfolding indexGenerator
+    generator-numbers n e = rw (← one, ← e)
+
+pub numbers-long : (s : List ℕ) (origin n next : ℕ) → 16384 < n → did (Trapped 1 2) s ≡ carry s (replaceBy next 1 (gives (vector (upFrom origin n))))
+numbers-long s origin n next more = vector-long s 1 (upFrom origin n) next (rw length-upFrom more)
 
 -- ---- RESHAPE
 
@@ -69,17 +84,20 @@ module _ (a b : Value) where
   unfolding reshape
   reshape-many low many = simp (le-ltb 1 (rank a) low, lt-ltb 15 (size a) many)
 
-  pub reshape-few : rank a ≤ 1 → size a ≤ 15 → reshape a b ≡ andThen (stopIf (any isCharacter (a .ravel)) 7 0 (shorts (a .ravel))) (λ lengths. shaped lengths b)
-  unfolding reshape shaped
-  reshape-few low few = simp (le-ltb 1 (rank a) low, le-ltb 15 (size a) few) (by-test (any isCharacter (a .ravel)))
-    where
-      by-test : (t : Bool) → stopIf t 7 0 (andThen (shorts (a .ravel)) (λ lengths. shaped lengths b)) ≡ andThen (stopIf t 7 0 (shorts (a .ravel))) (λ lengths. shaped lengths b)
-      by-test true = refl
-      by-test false = refl
+  module _ (low : rank a ≤ 1) (few : size a ≤ 15) where
+    reshape-few : reshape a b ≡ andThen (stopIf (any isCharacter (a .ravel)) 7 0 (shorts (a .ravel))) (λ lengths. shaped lengths b)
+    unfolding reshape shaped
+    reshape-few = simp (le-ltb 1 (rank a) low, le-ltb 15 (size a) few) (by-test (any isCharacter (a .ravel)))
+      where
+        by-test : (t : Bool) → stopIf t 7 0 (andThen (shorts (a .ravel)) (λ lengths. shaped lengths b)) ≡ andThen (stopIf t 7 0 (shorts (a .ravel))) (λ lengths. shaped lengths b)
+        by-test true = refl
+        by-test false = refl
 
-no-lengths : (lengths : List ℕ) → length lengths ≡ 0 → product lengths ≡ 1
-no-lengths [] none = refl
-no-lengths (l ∷ ls) none = absurd (omega arith)
+    pub reshape-refused : (class number : ℕ) → trap class number ≡ stopIf (any isCharacter (a .ravel)) 7 0 (shorts (a .ravel)) → trap class number ≡ reshape a b
+    reshape-refused class number e = rw (reshape-few, ← e)
+
+    pub reshape-lengths : (lengths : List ℕ) → gives lengths ≡ stopIf (any isCharacter (a .ravel)) 7 0 (shorts (a .ravel)) → shaped lengths b ≡ reshape a b
+    reshape-lengths lengths e = rw (reshape-few, ← e)
 
 module _ (lengths : List ℕ) (b : Value) (n : ℕ) (count : n ≡ min (product lengths) 65536) where
   pub shaped-many : 65536 ≤ n → trap 8 5 ≡ shaped lengths b
@@ -87,26 +105,31 @@ module _ (lengths : List ℕ) (b : Value) (n : ℕ) (count : n ≡ min (product 
   shaped-many many = simp (le-leb (2 ^ 16) (product lengths) (omega arith))
 
   module _ (few : n < 65536) where
-    exact : n ≡ product lengths
-    exact = omega arith
+    pub shaped-count : n ≡ product lengths
+    shaped-count = omega arith
 
     pub shaped-empty : size b ≡ 0 → (n ≡ 0 → ⊥) → trap 6 0 ≡ shaped lengths b
     unfolding shaped
-    shaped-empty none some = simp (lt-leb (2 ^ 16) (product lengths) (omega arith), eq-eqb (size b) 0 none, ne-eqb (product lengths) 0 (λ e. some (exact ∙ e)))
+    shaped-empty none some = simp (lt-leb (2 ^ 16) (product lengths) (omega arith), eq-eqb (size b) 0 none, ne-eqb (product lengths) 0 (λ e. some (shaped-count ∙ e)))
 
-    module _ (filled : size b ≡ 0 → n ≡ 0) where
-      pub shaped-filled : shaped lengths b ≡ gives (value lengths (cycle n (b .ravel)))
-      unfolding shaped
-      shaped-filled = rw (← exact) (simp (lt-leb (2 ^ 16) n few) (by-test (eqb (size b) 0) refl))
-        where
-          by-test : (t : Bool) → eqb (size b) 0 ≡ t → stopIf (t && not (eqb n 0)) 6 0 (gives (value lengths (cycle n (b .ravel)))) ≡ gives (value lengths (cycle n (b .ravel)))
-          by-test true e = simp (eq-eqb n 0 (filled (eqb-true (size b) 0 e)))
-          by-test false e = refl
+    pub shaped-filled : (size b ≡ 0 → n ≡ 0) → gives (value lengths (cycle n (b .ravel))) ≡ shaped lengths b
+    unfolding shaped
+    shaped-filled filled = rw (← shaped-count) (simp (lt-leb (2 ^ 16) n few) (by-test (eqb (size b) 0) refl))
+      where
+        by-test : (t : Bool) → eqb (size b) 0 ≡ t → gives (value lengths (cycle n (b .ravel))) ≡ stopIf (t && not (eqb n 0)) 6 0 (gives (value lengths (cycle n (b .ravel))))
+        by-test true e = simp (eq-eqb n 0 (filled (eqb-true (size b) 0 e)))
+        by-test false e = refl
 
-      pub shaped-long : (s : List ℕ) (next : ℕ) → 16384 < n → did (Trapped 1 2) s ≡ carry s (replaceBy next 2 (shaped lengths b))
-      shaped-long s next long =
-          rw (shaped-filled, ne-eqb (length lengths) 0 (λ none. omega (arith, no-lengths lengths none)))
-          (carried-long s 2 lengths (cycle n (b .ravel)) next (omega (arith, length-cycle n (b .ravel) filled)))
+-- As many elements as the lengths ask for.
+no-lengths : (lengths : List ℕ) → length lengths ≡ 0 → product lengths ≡ 1
+no-lengths [] none = refl
+no-lengths (l ∷ ls) none = absurd (omega arith)
 
-    pub shaped-some : length lengths ≡ 0 → 0 < n
-    shaped-some none = omega (arith, no-lengths lengths none)
+module _ (lengths : List ℕ) (n : ℕ) (count : n ≡ product lengths) where
+  pub repeated-some : length lengths ≡ 0 → 0 < n
+  repeated-some none = omega (arith, no-lengths lengths none)
+
+  pub repeated-long : (s : List ℕ) (next : ℕ) (ravel : List ℕ) → (length ravel ≡ 0 → n ≡ 0) → 16384 < n → did (Trapped 1 2) s ≡ carry s (replaceBy next 2 (gives (value lengths (cycle n ravel))))
+  repeated-long s next ravel filled long =
+      rw (ne-eqb (length lengths) 0 (λ none. omega (arith, no-lengths lengths none)))
+      (carried-long s 2 lengths (cycle n ravel) next (omega (arith, length-cycle n ravel filled)))

@@ -1,6 +1,6 @@
 use native.Mathlib.Omega.{arith}
-use mathlib.Core.Path.{refl, _∙_}
 use mathlib.Core.List.{[], _∷_}
+use mathlib.Core.Path.{refl, _∙_}
 use Rattle.manual.specs.Effects.{made, replaces, jumps}
 use Rattle.perform.proofs.Carrying.{carry-refused, carry-served}
 use borrow.Author.Needs.{needs}
