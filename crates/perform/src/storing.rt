@@ -99,7 +99,7 @@ fn unshare(seg: &mut [u32], t: Target, block: SegmentAddress, scratch: &mut [u32
 }
 
 // The words of a part of the segment, kept elsewhere while the segment changes; and how many they are.
-fn keep(from: &[u32], to: &mut [u32]) -> usize
+pub fn keep(from: &[u32], to: &mut [u32]) -> usize
     requires { ⌜ length (now from) ≤ length (now to) ⌝ }
     ensures { λ r. ⌜ r ≡ length (now (from .entry)) ⌝ }
     ensures { λ _. ⌜ take (length (now (from .entry))) (now (to .exit)) ≡ now (from .entry) ⌝ }
