@@ -1,9 +1,11 @@
 // One step: fetch, decode, do, then the trace and step traps.
 ghost use mathlib.Core.Path.{_≡_};
-ghost use mathlib.Core.Bool.{Bool};
-ghost use Prim.Native.Nat.{_≤_, _<_, _^_};
+ghost use mathlib.Core.Bool.{_&&_};
+ghost use Prim.Native.Nat.{_≤_, _<_};
 ghost use lib.ListN.{length};
+ghost use lib.Dec.{eqb};
 ghost use Rattle.procedure.specs.Directory.{selected, functionOf};
+ghost use Rattle.segment.specs.State as state;
 ghost use Rattle.stepping.specs.Step as meaning;
 use stepping::Stepped;
 use super::dispatch::execute;
@@ -65,16 +67,36 @@ fn settle(seg: &mut [u32], regular: &[u8], other: &[u8], rtntrace: bool, outcome
 {
     match outcome {
         Outcome::Trapped(class, number) => trap(seg, class, number),
-        Outcome::Finished => finish(seg, false, 0),
+        Outcome::Finished => step_trap(seg),
         Outcome::Entered => {
-            let traced = fcnctrc(seg) && current_header(seg, regular, other).calltrace;
+            let traced = call_traced(seg, regular, other);
             finish(seg, traced, 2)
         }
         Outcome::Left => {
-            let traced = fcnrtrc(seg) && rtntrace;
+            let traced = return_traced(seg, rtntrace);
             finish(seg, traced, 3)
         }
     }
+}
+
+// Of a call the current frame is the called one.
+fn call_traced(seg: &[u32], regular: &[u8], other: &[u8]) -> bool
+    ensures { λ r. ⌜ r ≡ (eqb (state.fcnctrc (state.flags (now (seg .entry)))) 1 && meaning.currentHeader (now (regular .entry)) (now (other .entry)) (now (seg .entry)) .calltrace) ⌝ }
+{
+    if fcnctrc(seg) {
+        return current_header(seg, regular, other).calltrace;
+    }
+    false
+}
+
+// The header's bit is the left function's.
+fn return_traced(seg: &[u32], rtntrace: bool) -> bool
+    ensures { λ r. ⌜ r ≡ (eqb (state.fcnrtrc (state.flags (now (seg .entry)))) 1 && rtntrace) ⌝ }
+{
+    if fcnrtrc(seg) {
+        return rtntrace;
+    }
+    false
 }
 
 fn current_header(seg: &[u32], regular: &[u8], other: &[u8]) -> Header
@@ -90,11 +112,18 @@ fn current_header(seg: &[u32], regular: &[u8], other: &[u8]) -> Header
 
 // The instruction is done; a trace goes before the step trap.
 fn finish(seg: &mut [u32], traced: bool, trace: u8) -> Stepped
+    requires { ⌜ 0 < trace ⌝ }
     ensures { λ r. ⌜ meaning.after r (now (seg .exit)) ≡ meaning.finished (meaning.dueIf traced trace (now (seg .entry))) (now (seg .entry)) ⌝ }
 {
     if traced {
         return trace_trap(seg, trace);
     }
+    step_trap(seg)
+}
+
+fn step_trap(seg: &mut [u32]) -> Stepped
+    ensures { λ r. ⌜ meaning.after r (now (seg .exit)) ≡ meaning.finished (state.stepFlag (state.flags (now (seg .entry)))) (now (seg .entry)) ⌝ }
+{
     if step_flag(seg) {
         return trace_trap(seg, 1);
     }
