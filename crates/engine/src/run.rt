@@ -1,8 +1,8 @@
 // Run: at most a given number of instructions.
 ghost use mathlib.Core.Path.{_≡_};
 ghost use Rattle.operations.specs.Run.{ended, ran};
-use operations::Run;
 use super::judge::refusal_of;
+use operations::Run;
 use stepping::Ran;
 
 pub fn run(seg: &mut [u32], regular: &[u8], other: &[u8], budget: u32) -> Run

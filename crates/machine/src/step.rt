@@ -7,7 +7,6 @@ ghost use lib.Dec.{eqb};
 ghost use Rattle.procedure.specs.Directory.{selected, functionOf};
 ghost use Rattle.segment.specs.State as state;
 ghost use Rattle.stepping.specs.Step as meaning;
-use stepping::Stepped;
 use super::dispatch::execute;
 use instruction::Decoded;
 use instruction::decode::decode;
@@ -26,6 +25,7 @@ use segment::state::fcnrtrc;
 use segment::state::lbase;
 use segment::state::set_trap;
 use segment::state::step_flag;
+use stepping::Stepped;
 
 pub fn step(seg: &mut [u32], regular: &[u8], other: &[u8], scratch: &mut [u32]) -> Stepped
     requires { ⌜ (length (now seg) ≤ 16384) × (length (now scratch) ≡ 16384) ⌝ }
@@ -48,21 +48,43 @@ fn function(regular: &[u8], other: &[u8], selector: bool, number: u16) -> Functi
     find(regular, number)
 }
 
-fn step_in(seg: &mut [u32], regular: &[u8], other: &[u8], selector: bool, block: Block, scratch: &mut [u32]) -> Stepped
+fn step_in(
+    seg: &mut [u32],
+    regular: &[u8],
+    other: &[u8],
+    selector: bool,
+    block: Block,
+    scratch: &mut [u32],
+) -> Stepped
     requires { ⌜ (length (now seg) ≤ 16384) × (length (now scratch) ≡ 16384) ⌝ }
     ensures { λ r. ⌜ meaning.after r (now (seg .exit)) ≡ meaning.stepIn (record { regular = now (regular .entry); alternate = now (other .entry); selector = selector; block = block }) (now (seg .entry)) ⌝ }
 {
     match decode(regular, other, selector, block, pctr(seg, lbase(seg))) {
         Decoded::Trap(class, number) => trap(seg, class, number),
         Decoded::Instruction(i, next) => {
-            let outcome = execute(seg, regular, other, selector, block, i, next.number(), scratch);
+            let outcome = execute(
+                seg,
+                regular,
+                other,
+                selector,
+                block,
+                i,
+                next.number(),
+                scratch,
+            );
             settle(seg, regular, other, block.header.rtntrace, outcome)
         }
     }
 }
 
 // What is due after an instruction: its trap, or a trace or the step trap.
-fn settle(seg: &mut [u32], regular: &[u8], other: &[u8], rtntrace: bool, outcome: Outcome) -> Stepped
+fn settle(
+    seg: &mut [u32],
+    regular: &[u8],
+    other: &[u8],
+    rtntrace: bool,
+    outcome: Outcome,
+) -> Stepped
     ensures { λ r. ⌜ meaning.after r (now (seg .exit)) ≡ meaning.settled (now (regular .entry)) (now (other .entry)) rtntrace outcome (now (seg .entry)) ⌝ }
 {
     match outcome {

@@ -19,6 +19,11 @@ use super::operands::single;
 use super::operands::size_of;
 use super::results::replace_by_new;
 use super::results::replace_by_vector;
+use access::operands::Operand;
+use access::operands::Value;
+use access::operands::count;
+use access::operands::operand_at;
+use access::operands::value_of;
 use elements::Finished;
 use elements::copies::up_from;
 use elements::shapes;
@@ -27,11 +32,6 @@ use perform::taking::jump;
 use perform::taking::replace_by_word;
 use scalar::Answer;
 use segment::state::iorg;
-use access::operands::Operand;
-use access::operands::Value;
-use access::operands::count;
-use access::operands::operand_at;
-use access::operands::value_of;
 
 pub fn shape(seg: &mut [u32], next: u32) -> Outcome
     requires { ⌜ length (now seg) ≤ 16384 ⌝ }

@@ -5,12 +5,12 @@ ghost use lib.ListN.{length};
 ghost use Rattle.manual.specs.Values as values;
 ghost use Rattle.access.specs.Operands.{held};
 ghost use Rattle.values.specs.Parts.{Readable, Front};
-use elements::copies::cycle;
-use perform::storing::keep;
-use scalar::Answer;
 use access::operands::Value;
 use access::operands::elements_of;
 use access::operands::lengths_of;
+use elements::copies::cycle;
+use perform::storing::keep;
+use scalar::Answer;
 
 pub fn rank_of(seg: &[u32], v: Value) -> usize
     requires { ⌜ Readable (now seg) v ⌝ }

@@ -12,6 +12,7 @@ ghost use Rattle.manual.specs.Scalars as plan;
 ghost use Rattle.effects.specs.Seen.{whole};
 ghost use Rattle.elements.specs.Answers.{finished};
 ghost use Rattle.perform.specs.Carried.{did, carry};
+use access::operands::lengths_of;
 use descriptor::address::SegmentAddress;
 use elements::Finished;
 use perform::Done;
@@ -21,7 +22,6 @@ use perform::taking::jump;
 use perform::taking::replace_by_array;
 use perform::taking::replace_by_word;
 use scalar::Answer;
-use access::operands::lengths_of;
 
 // A scalar, or its trap.
 pub fn replace_by_answer(seg: &mut [u32], operands: u32, answer: Answer, next: u32) -> Outcome

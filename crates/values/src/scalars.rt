@@ -20,6 +20,13 @@ ghost use Rattle.values.specs.Parts.{Readable};
 use super::operands::single;
 use super::results::replace_by_answer;
 use super::results::replace_by_elements;
+use access::operands::Operand;
+use access::operands::Value;
+use access::operands::count;
+use access::operands::elements_of;
+use access::operands::lengths_of;
+use access::operands::operand_at;
+use access::operands::value_of;
 use descriptor::address::SegmentAddress;
 use elements::Shape;
 use elements::shapes::conform;
@@ -33,13 +40,6 @@ use scalar::Truth;
 use scalar::reading::truth;
 use segment::state::iorg;
 use segment::state::set_iorg;
-use access::operands::Operand;
-use access::operands::Value;
-use access::operands::count;
-use access::operands::elements_of;
-use access::operands::lengths_of;
-use access::operands::operand_at;
-use access::operands::value_of;
 
 pub fn monadic(seg: &mut [u32], op: Monadic, next: u32, scratch: &mut [u32]) -> Outcome
     requires { ⌜ (length (now seg) ≤ 16384) × (length (now scratch) ≡ 16384) ⌝ }

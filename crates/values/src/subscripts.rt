@@ -9,14 +9,6 @@ ghost use Rattle.effects.specs.Seen.{seen, whole};
 ghost use Rattle.access.specs.Operands.{held};
 ghost use Rattle.perform.specs.Carried.{did, carry};
 ghost use Rattle.values.specs.Parts.{indexed};
-use descriptor::address::SegmentAddress;
-use elements::Found;
-use elements::subscripts::place;
-use perform::Outcome;
-use perform::taking::jump;
-use perform::taking::replace_by_word;
-use segment::state::iorg;
-use segment::word;
 use access::operands::Operand;
 use access::operands::Value;
 use access::operands::count;
@@ -26,6 +18,14 @@ use access::operands::operand_at;
 use access::operands::value_of;
 use access::taken::Taken;
 use access::taken::take_scalars;
+use descriptor::address::SegmentAddress;
+use elements::Found;
+use elements::subscripts::place;
+use perform::Outcome;
+use perform::taking::jump;
+use perform::taking::replace_by_word;
+use segment::state::iorg;
+use segment::word;
 
 pub fn index(seg: &mut [u32], rank: u8, next: u32) -> Outcome
     requires { ⌜ length (now seg) ≤ 16384 ⌝ }
