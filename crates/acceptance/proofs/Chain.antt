@@ -1,17 +1,18 @@
 -- Test 16 at one frame, by what the code reads of it: what the frames from there down come to.
 use Prim.Native.Nat.{ℕ, zero, suc, _+_, _-_, _<_, _≤_}
-use mathlib.Core.Path.{_≡_, refl, _∙_}
+use mathlib.Core.Path.{_≡_, refl, sym, _∙_}
 use mathlib.Core.Bool.{Bool, true, false, cond}
 use mathlib.Core.List.{List}
 use native.Mathlib.Omega.{arith}
 use lib.ListN.{length}
 use lib.Dec.{leb, eqb}
-use borrow.Author.Tests.{le-leb, lt-leb, eq-eqb, ne-eqb}
+use borrow.Author.Tests.{leb-true, eqb-true, le-leb, lt-leb, eq-eqb, ne-eqb}
 use Rattle.segment.specs.State.{lbase, ltop}
 use Rattle.segment.specs.Stack.{lastLbaseAt, codeWordAt, functionNumber}
 use Rattle.procedure.specs.declared.header.Header.{Header}
 use Rattle.procedure.specs.Directory.{headerOfFunction}
 use Rattle.storage_tests.specs.Tests.{_and_}
+use Rattle.storage_tests.proofs.Tests.{by-le, by-eq, both}
 use Rattle.acceptance.specs.Frames.{segmentOf, known, arguments, variables, framesFrom, framesTest, FrameAt}
 
 module _ (has : ℕ → Bool) (size : ℕ → ℕ) (s : List ℕ) (base : ℕ) where
@@ -48,6 +49,27 @@ module _ (s regular other : List ℕ) (base n : ℕ) (pos : 0 < n) {last code ar
       pub further : last + 2 + size ≤ base
           → framesFrom n (known regular other) (variables regular other) s base ≡ framesFrom (n - 1) (known regular other) (variables regular other) s last
       further l = step ∙ simp (h, ne-eqb last base z, le-leb (last + 2 + size) base l)
+
+-- What is known of a frame once test 16 has passed.
+module _ (s regular other : List ℕ) (base n : ℕ) (pos : 0 < n) {last code args size : ℕ} (f : FrameAt s regular other base last code args size)
+    (t : framesFrom n (known regular other) (variables regular other) s base ≡ true) where
+  pub few-arguments : args ≤ size
+  unfolding variables
+  few-arguments = omega (arith, f .arguments, f .variables)
+
+  rest : cond (eqb last base) (eqb size base) (leb (last + 2 + size) base and framesFrom (n - 1) (known regular other) (variables regular other) s last) ≡ true
+  rest = both (known regular other code) _ (sym (step s regular other base n pos f) ∙ t) .1
+
+  pub above : last < base → (last + 2 + size ≤ base) × (framesFrom (n - 1) (known regular other) (variables regular other) s last ≡ true)
+  above l =
+      let b = both (leb (last + 2 + size) base) _ (simp (ne-eqb last base (λ e. omega (arith, e))) at rest) in (leb-true (last + 2 + size) base (b .0), b .1)
+
+  pub at-bottom : base ≤ last → size ≡ base
+  at-bottom l = by-eq last base (λ e. eqb-true size base (simp (eq-eqb last base e) at rest))
+      (λ e. let b = both (leb (last + 2 + size) base) _ (simp (ne-eqb last base e) at rest) in absurd (omega (arith, leb-true (last + 2 + size) base (b .0))))
+
+  pub low-enough : size ≤ base
+  low-enough = by-le base last (λ l. omega (arith, at-bottom l)) (λ l. omega (arith, above l .0))
 
 module _ (s regular other : List ℕ) where
   pub short : ltop s < lbase s + 1 → framesTest s regular other ≡ false

@@ -2,22 +2,28 @@
 use Prim.Native.Nat.{ℕ, zero, suc, _+_, _-_, _<_, _≤_}
 use mathlib.Core.Path.{_≡_, refl, sym, _∙_, ap}
 use mathlib.Core.Bool.{Bool, true, false, cond}
-use mathlib.Core.List.{List, []}
+use mathlib.Core.List.{List, [], _++_}
 use mathlib.Core.Logic.{⊎-elim}
 use native.Mathlib.Omega.{arith}
-use lib.ListN.{getD, length}
+use native.Mathlib.Nat.{add-sub-cancel-left}
+use lib.ListN.{getD, length, take, drop, length-take, length-drop}
 use lib.Dec.{leb}
 use borrow.Author.Tests.{le-leb, lt-leb}
 use Rattle.segment.specs.State.{sbase, ltop, lbase, blockptr}
 use Rattle.segment.specs.Stack.{lastLbaseAt, codeWordAt}
+use Rattle.segment.specs.Blocks.{part}
+use Rattle.segment.proofs.Parts.{part-take}
 use Rattle.storage.specs.Heap.{count}
 use Rattle.heap.proofs.Counts.{order}
-use Rattle.storage_tests.specs.Tests.{_and_, words}
+use Rattle.storage_tests.specs.Tests.{_and_, every, words}
+use Rattle.storage_tests.proofs.Tests.{words-every}
 use Rattle.storage_tests.specs.Blocks.{arrayStarts}
 use Rattle.storage_tests.specs.Marks.{Tally}
 use Rattle.acceptance.specs.Frames.{arguments, variables}
-use Rattle.acceptance.specs.Cells.{range, inTable, inList, plainCell, freeCell, variablesFrom, frameCells, cellsFrom, cellsTest}
-use Rattle.acceptance.specs.Tables.{Gains, lacking}
+use Rattle.acceptance.specs.Cells.{range, inTable, inList, direct, plainCell, freeCell, variablesFrom, frameCells, cellsFrom, cellsTest}
+use Rattle.acceptance.specs.Tables.{Gains, lacking, Met}
+use Rattle.acceptance.proofs.Meeting.{direct-alike, free-alike, met-then}
+use Rattle.acceptance.proofs.Tallies.{part-join}
 use Rattle.acceptance.proofs.VariableMarks.{variables-bottom, variables-on}
 
 pub same-answers : (table l : List ℕ) → Tally table l → _≡_ {A = ℕ → ℕ} (inTable table) (inList l)
@@ -30,30 +36,62 @@ taken-away before after l g = λ i. λ x. each x i
     each : (x : ℕ) → inTable after x ≡ lacking before l x
     each x = omega (arith, g .sum x)
 
+-- A run of cells that the code lends is a part of the segment, and its test that of the part's words.
+pub lent : (s : List ℕ) (from to at n : ℕ) → from ≡ at → to ≡ at + n → to ≤ length s → take (to - from) (drop from s) ≡ part s at n
+lent s from to at n e k l = rw (e, k, add-sub-cancel-left) (sym (part-take n s at (omega arith)))
+
+pub lent-length : (s : List ℕ) (from to : ℕ) → from ≤ to → to ≤ length s → length (take (to - from) (drop from s)) ≡ to - from
+lent-length s from to k l = simp (length-take, length-drop) (omega arith)
+
+run : (test : ℕ → Bool) (s : List ℕ) (at n : ℕ) {l : List ℕ} → l ≡ part s at n → {b : Bool} → every test l ≡ b → words n test s at ≡ b
+run test s at n p e = words-every n test s at ∙ rw p at e
+
+every-alike : (f g : ℕ → Bool) → ((w : ℕ) → f w ≡ g w) → (l : List ℕ) → every f l ≡ every g l
+every-alike f g e l = ap (λ (test : ℕ → Bool). every test l) (λ i. λ w. e w i)
+
+words-alike : (f g : ℕ → Bool) → ((w : ℕ) → f w ≡ g w) → (n : ℕ) (s : List ℕ) (at : ℕ) → words n f s at ≡ words n g s at
+words-alike f g e n s at = ap (λ (test : ℕ → Bool). words n test s at) (λ i. λ w. e w i)
+
 -- The three runs of cells of one frame, as the code meets them.
-module _ (s arrays table : List ℕ) (args start base top : ℕ) {stack n : ℕ} (es : stack ≡ sbase s) (en : n ≡ top - (base + 2)) where
+module _ (s t₀ m₀ : List ℕ) (args start base top : ℕ) {l₁ : List ℕ} (p₁ : l₁ ≡ part s (sbase s + base + 2) (top - (base + 2))) where
   abbrev Frame : Bool
-  Frame = frameCells s (inTable arrays) (inTable table) (lacking table (range start (base - start))) args start base top
+  Frame = frameCells s (inTable t₀) (inTable m₀) (lacking m₀ (range start (base - start))) args start base top
 
-  pub temporaries-fail : words n (freeCell s (inTable arrays) (inTable table)) s (stack + base + 2) ≡ false → false ≡ Frame
+  pub temporaries-fail : every (freeCell s (inTable t₀) (inTable m₀)) l₁ ≡ false → false ≡ Frame
   unfolding frameCells
-  temporaries-fail e = simp (rw (en, es) at e)
+  temporaries-fail e = simp (run (freeCell s (inTable t₀) (inTable m₀)) s (sbase s + base + 2) (top - (base + 2)) p₁ e)
 
-  module _ (a : words n (freeCell s (inTable arrays) (inTable table)) s (stack + base + 2) ≡ true) {after : List ℕ} (g : Gains after table (range start (base - start))) where
-    same : (b : Bool) → words args (freeCell s (inTable arrays) (inTable after)) s (stack + start) ≡ b
-        → words args (freeCell s (inTable arrays) (lacking table (range start (base - start)))) s (sbase s + start) ≡ b
-    same b e =
-        sym (ap (λ (h : ℕ → ℕ). words args (freeCell s (inTable arrays) h) s (sbase s + start)) (taken-away table after (range start (base - start)) g))
-        ∙ rw es at e
+  module _ (a : every (freeCell s (inTable t₀) (inTable m₀)) l₁ ≡ true) {t₁ m₁ : List ℕ} (h₁ : Met t₀ t₁ l₁) (g : Gains m₁ m₀ (range start (base - start)))
+      {l₂ : List ℕ} (p₂ : l₂ ≡ part s (sbase s + start) args) where
+    older : every (freeCell s (inTable t₁) (inTable m₁)) l₂ ≡ every (freeCell s (inTable t₀) (lacking m₀ (range start (base - start)))) l₂
+    older =
+        every-alike (freeCell s (inTable t₁) (inTable m₁)) (freeCell s (inTable t₀) (inTable m₁)) (free-alike s (inTable m₁) (inTable t₀) (inTable t₁) (h₁ .same)) l₂
+        ∙ ap (λ (h : ℕ → ℕ). every (freeCell s (inTable t₀) h) l₂) (taken-away m₀ m₁ (range start (base - start)) g)
 
-    pub arguments-fail : words args (freeCell s (inTable arrays) (inTable after)) s (stack + start) ≡ false → false ≡ Frame
+    pub arguments-fail : every (freeCell s (inTable t₁) (inTable m₁)) l₂ ≡ false → false ≡ Frame
     unfolding frameCells
-    arguments-fail e = simp (rw (en, es) at a, same false e)
+    arguments-fail e =
+        simp (
+          run (freeCell s (inTable t₀) (inTable m₀)) s (sbase s + base + 2) (top - (base + 2)) p₁ a,
+          run (freeCell s (inTable t₀) (lacking m₀ (range start (base - start)))) s (sbase s + start) args p₂ (sym older ∙ e),
+        )
 
-    pub locals-left : words args (freeCell s (inTable arrays) (inTable after)) s (stack + start) ≡ true → {m : ℕ} → m ≡ base - (start + args)
-        → words m (plainCell (inTable arrays)) s (stack + start + args) ≡ Frame
-    unfolding frameCells
-    locals-left e em = rw (em, es) (simp (rw (en, es) at a, same true e))
+    module _ (b : every (freeCell s (inTable t₁) (inTable m₁)) l₂ ≡ true) {t₂ : List ℕ} (h₂ : Met t₁ t₂ l₂)
+        {l₃ : List ℕ} (p₃ : l₃ ≡ part s (sbase s + start + args) (base - (start + args))) where
+      pub locals-left : every (plainCell (inTable t₂)) l₃ ≡ Frame
+      unfolding frameCells
+      locals-left =
+          every-alike (direct (inTable t₂)) (direct (inTable t₀)) (direct-alike (inTable t₀) (inTable t₂) (λ x. h₂ .same x ∙ h₁ .same x)) l₃
+          ∙ sym (simp (
+            run (freeCell s (inTable t₀) (inTable m₀)) s (sbase s + base + 2) (top - (base + 2)) p₁ a,
+            run (freeCell s (inTable t₀) (lacking m₀ (range start (base - start)))) s (sbase s + start) args p₂ (sym older ∙ b),
+          ) (words-every (base - (start + args)) (direct (inTable t₀)) s (sbase s + start + args) ∙ rw p₃))
+
+      pub frame-met : start + args ≤ base → {t₃ : List ℕ} → Met t₂ t₃ l₃
+          → Met t₀ t₃ (part s (sbase s + base + 2) (top - (base + 2)) ++ part s (sbase s + start) (base - start))
+      frame-met k h₃ =
+          let n : base - start ≡ args + (base - (start + args)) = omega arith in
+          met-then (rw p₁ at h₁) (rw (n, ← part-join s (sbase s + start) args (base - (start + args))) (met-then (rw p₂ at h₂) (rw p₃ at h₃)))
 
 pub never : {A : Type 0} → false ≡ true → A
 never e = absurd (let z : _≡_ {A = ℕ} 0 1 = cc in omega arith)
@@ -127,24 +165,44 @@ module _ (args size : ℕ → ℕ) (s : List ℕ) (arrays : ℕ → ℕ) (base t
         frame-on l = turn ∙ simp (sym q ∙ e, lt-leb base last l)
 
     module _ {after : List ℕ} (g : Gains after table (range start (base - start))) where
-      pub bottom-clear : base ≤ last → Tally after []
-      bottom-clear l x = omega (arith, g .sum x, t x, variables-bottom size s base es el n pos x l)
-
       pub older-marked : last < base → Tally after (variablesFrom (n - 1) size s last)
       older-marked l x = omega (arith, g .sum x, t x, variables-on size s base es el n pos x l)
+
+-- A frame's test goes by what has a mark.
+pub frame-alike : (s : List ℕ) (a b own older : ℕ → ℕ) (args start base top : ℕ) → ((x : ℕ) → leb 1 (b x) ≡ leb 1 (a x))
+    → frameCells s b own older args start base top ≡ frameCells s a own older args start base top
+unfolding frameCells
+frame-alike s a b own older args start base top same =
+    rw (
+      words-alike (freeCell s b own) (freeCell s a own) (free-alike s own a b same) (top - (base + 2)) s (sbase s + base + 2),
+      words-alike (freeCell s b older) (freeCell s a older) (free-alike s older a b same) args s (sbase s + start),
+      words-alike (direct b) (direct a) (direct-alike a b same) (base - (start + args)) s (sbase s + start + args),
+    )
+
+pub cells-alike : (a b : ℕ → ℕ) → ((x : ℕ) → leb 1 (b x) ≡ leb 1 (a x)) → (n : ℕ) (args size : ℕ → ℕ) (s : List ℕ) (base top : ℕ)
+    → cellsFrom n args size s b base top ≡ cellsFrom n args size s a base top
+unfolding cellsFrom
+cells-alike a b same zero args size s base top = refl
+cells-alike a b same (suc n) args size s base top =
+    rw (
+      frame-alike s a b (inList (variablesFrom (suc n) size s base)) (inList (cond (leb base (lastLbaseAt s base)) [] (variablesFrom n size s (lastLbaseAt s base)))) (args (codeWordAt s base)) (base - size (codeWordAt s base)) base top same,
+      cells-alike a b same n args size s (lastLbaseAt s base) (base - size (codeWordAt s base)),
+    )
 
 -- All cells.
 module _ (s regular other arrays : List ℕ) (marked : Tally arrays (arrayStarts s)) where
   globals : words (blockptr s - 8) (plainCell (inTable arrays)) s 8 ≡ words (blockptr s - 8) (plainCell (inList (arrayStarts s))) s 8
   globals = ap (λ (h : ℕ → ℕ). words (blockptr s - 8) (plainCell h) s 8) (same-answers arrays (arrayStarts s) marked)
 
-  pub globals-fail : words (blockptr s - 8) (plainCell (inTable arrays)) s 8 ≡ false → cellsTest s regular other ≡ false
-  unfolding cellsTest
-  globals-fail e = simp (sym globals ∙ e)
+  module _ {l : List ℕ} (p : l ≡ part s 8 (blockptr s - 8)) where
+    pub globals-fail : every (plainCell (inTable arrays)) l ≡ false → cellsTest s regular other ≡ false
+    unfolding cellsTest
+    globals-fail e = simp (sym globals ∙ run (direct (inTable arrays)) s 8 (blockptr s - 8) p e)
 
-  pub globals-pass : words (blockptr s - 8) (plainCell (inTable arrays)) s 8 ≡ true
-      → cellsTest s regular other ≡ cellsFrom (length s) (arguments regular other) (variables regular other) s (inTable arrays) (lbase s) (ltop s + 1)
-  unfolding cellsTest
-  globals-pass e =
-      simp (sym globals ∙ e)
-      (sym (ap (λ (h : ℕ → ℕ). cellsFrom (length s) (arguments regular other) (variables regular other) s h (lbase s) (ltop s + 1)) (same-answers arrays (arrayStarts s) marked)))
+    pub globals-pass : every (plainCell (inTable arrays)) l ≡ true → {after : List ℕ} → Met arrays after l
+        → cellsTest s regular other ≡ cellsFrom (length s) (arguments regular other) (variables regular other) s (inTable after) (lbase s) (ltop s + 1)
+    unfolding cellsTest
+    globals-pass e {after} m =
+        simp (sym globals ∙ run (direct (inTable arrays)) s 8 (blockptr s - 8) p e)
+        (sym (ap (λ (h : ℕ → ℕ). cellsFrom (length s) (arguments regular other) (variables regular other) s h (lbase s) (ltop s + 1)) (same-answers arrays (arrayStarts s) marked))
+        ∙ sym (cells-alike (inTable arrays) (inTable after) (m .same) (length s) (arguments regular other) (variables regular other) s (lbase s) (ltop s + 1)))

@@ -1,60 +1,57 @@
-// Test 17: every cell by its kind, and an indirect word by its target, each in constant time by tables of marks.
+// Test 17: every cell by its kind, and an indirect word by its target, each in constant time by tables of marks. On the way
+// each cell that points to an array is one mark more at the array's start, which test 18 holds against the array's count.
 ghost use mathlib.Core.Path.{_≡_};
-ghost use mathlib.Core.Bool.{true};
-ghost use mathlib.Core.List.{[]};
-ghost use Prim.Native.Nat.{ℕ, _+_, _-_, _≤_, _<_};
-ghost use lib.ListN.{getD, length};
+ghost use mathlib.Core.Bool.{true, cond};
+ghost use mathlib.Core.List.{[], _++_};
+ghost use Prim.Native.Nat.{ℕ, _+_, _-_, _≤_, _<_, suc};
+ghost use lib.ListN.{getD, set, length};
+ghost use lib.Dec.{leb};
 ghost use Rattle.segment.specs.State as state;
+ghost use Rattle.segment.specs.Blocks.{part};
 ghost use Rattle.storage.specs.Heap.{count};
-ghost use Rattle.storage_tests.specs.Tests.{words};
+ghost use Rattle.view.specs.Machine.{cellsOfFrames};
+ghost use Rattle.view.specs.View as view;
+ghost use Rattle.storage_tests.specs.Tests.{every};
+ghost use Rattle.storage_tests.specs.Head.{Head};
 ghost use Rattle.storage_tests.specs.Blocks.{arrayStarts};
 ghost use Rattle.storage_tests.specs.Marks.{Tally};
-ghost use Rattle.acceptance.specs.Frames.{arguments, variables};
+ghost use Rattle.acceptance.specs.Frames.{known, arguments, variables, framesFrom, framesTest};
 ghost use Rattle.acceptance.specs.Cells.{inTable, isIndirect, direct, pointing, plainCell, freeCell, range, variablesFrom, frameCells, cellsFrom, cellsTest};
-ghost use Rattle.acceptance.specs.Tables.{Gains, lacking};
+ghost use Rattle.acceptance.specs.Tables.{Gains, lacking, meet, Met};
 use super::frames::frame_at;
 use super::variables::mark_variables;
 use super::variables::unmark;
 use descriptor::Descriptor;
 use descriptor::address::SegmentAddress;
 use descriptor::address::StackAddress;
-use segment::minus;
 use segment::stack::cell;
 use segment::stack::global;
 use segment::state::blockptr;
 use segment::state::lbase;
 use segment::state::ltop;
 use segment::state::sbase;
-use segment::word;
 use storage_tests::marks::mark_at;
 
-// Test 17, where `arrays` has a mark at each array and `marks` is clear. Where the test passes, no mark is left.
+// Test 17, where `arrays` has a mark at each array and `marks` is clear.
 pub fn cells_test(
     seg: &[u32],
     regular: &[u8],
     alternate: &[u8],
-    arrays: &[u16],
+    arrays: &mut [u16],
     marks: &mut [u16],
 ) -> bool
-    requires { ⌜ (state.blockptr (now seg) < 16384) × (state.lbase (now seg) < 16384) × (state.lbase (now seg) ≤ length (now marks)) × Tally (now arrays) (arrayStarts (now seg)) × Tally (now marks) [] ⌝ }
+    requires { ⌜ Head (now seg) × (length (now seg) ≤ 16384) × (framesTest (now seg) (now regular) (now alternate) ≡ true) × (length (now seg) ≤ length (now marks)) × Tally (now arrays) (arrayStarts (now seg)) × Tally (now marks) [] ⌝ }
     ensures { λ r. ⌜ r ≡ cellsTest (now (seg .entry)) (now (regular .entry)) (now (alternate .entry)) ⌝ }
-    ensures { λ r. ⌜ (r ≡ true → Tally (now (marks .exit)) []) ⌝ }
+    ensures { λ r. ⌜ (r ≡ true → Met (now (arrays .entry)) (now (arrays .exit)) (view.owners (now (seg .entry)))) ⌝ }
 {
-    let end = blockptr(seg).number();
-    if !plain_cells(seg, arrays, 8, minus(end, 8)) {
+    let end = blockptr(seg).index();
+    if !plain_cells(&seg[8..end], arrays) {
         return false;
     }
-    let base = lbase(seg).number();
+    let base = lbase(seg);
     mark_variables(seg, regular, alternate, base, marks);
-    cells_from(
-        seg,
-        regular,
-        alternate,
-        arrays,
-        base,
-        ltop(seg).number() + 1,
-        marks,
-    )
+    let top = ltop(seg).number() + 1;
+    cells_from(seg, regular, alternate, base.number(), top, arrays, marks)
 }
 
 // The cells of the frames from the one at `from` down, where the variables of all these frames are marked.
@@ -62,29 +59,30 @@ fn cells_from(
     seg: &[u32],
     regular: &[u8],
     alternate: &[u8],
-    arrays: &[u16],
     from: u32,
     upto: u32,
+    arrays: &mut [u16],
     marks: &mut [u16],
 ) -> bool
-    requires { ⌜ (from < 65536) × (upto ≤ 65536) × Tally (now marks) (variablesFrom (length (now seg)) (variables (now regular) (now alternate)) (now seg) from) ⌝ }
+    requires { ⌜ (from + 2 ≤ upto) × (state.sbase (now seg) + upto ≤ length (now seg)) × (length (now seg) ≤ 16384) × (framesFrom (length (now seg)) (known (now regular) (now alternate)) (variables (now regular) (now alternate)) (now seg) from ≡ true) × Tally (now marks) (variablesFrom (length (now seg)) (variables (now regular) (now alternate)) (now seg) from) × ((x : ℕ) → getD (now arrays) x 0 + upto < 65536) ⌝ }
     ensures { λ r. ⌜ r ≡ cellsFrom (length (now (seg .entry))) (arguments (now (regular .entry)) (now (alternate .entry))) (variables (now (regular .entry)) (now (alternate .entry))) (now (seg .entry)) (inTable (now (arrays .entry))) from upto ⌝ }
-    ensures { λ r. ⌜ (r ≡ true → Tally (now (marks .exit)) []) ⌝ }
+    ensures { λ r. ⌜ (r ≡ true → Met (now (arrays .entry)) (now (arrays .exit)) (part (now (seg .entry)) (state.sbase (now (seg .entry)) + from + 2) (upto - (from + 2)) ++ cellsOfFrames (view.framesFrom (suc from) (now (seg .entry)) from))) ⌝ }
 {
     let mut base = from;
     let mut top = upto;
     let mut left = seg.len();
     while 0 < left {
         let frame = frame_at(seg, regular, alternate, StackAddress::of(base));
-        let start = minus(base, frame.variables);
-        if !frame_cells(seg, arrays, frame.arguments as u32, start, base, top, marks) {
+        let last = frame.last.number();
+        let start = base - frame.variables;
+        if !frame_cells(seg, frame.arguments as u32, start, base, top, arrays, marks) {
             return false;
         }
-        if base <= frame.last {
+        if base <= last {
             return true;
         }
         top = start;
-        base = frame.last;
+        base = last;
         left -= 1;
     }
     false
@@ -94,92 +92,114 @@ fn cells_from(
 // arguments, and its locals.
 fn frame_cells(
     seg: &[u32],
-    arrays: &[u16],
     arguments: u32,
     start: u32,
     base: u32,
     top: u32,
+    arrays: &mut [u16],
     marks: &mut [u16],
 ) -> bool
-    requires { ⌜ (arguments < 65536) × (start ≤ base) × (base < 65536) × (top ≤ 65536) × ((x : ℕ) → count x (range start (base - start)) ≤ getD (now marks) x 0) ⌝ }
+    requires { ⌜ (start + arguments ≤ base) × (base + 2 ≤ top) × (state.sbase (now seg) + top ≤ length (now seg)) × (length (now seg) ≤ 16384) × ((x : ℕ) → count x (range start (base - start)) ≤ getD (now marks) x 0) × ((x : ℕ) → getD (now arrays) x 0 + top < 65536) ⌝ }
     ensures { λ r. ⌜ r ≡ frameCells (now (seg .entry)) (inTable (now (arrays .entry))) (inTable (now (marks .entry))) (lacking (now (marks .entry)) (range start (base - start))) arguments start base top ⌝ }
     ensures { λ r. ⌜ (r ≡ true → Gains (now (marks .exit)) (now (marks .entry)) (range start (base - start))) ⌝ }
+    ensures { λ r. ⌜ (r ≡ true → Met (now (arrays .entry)) (now (arrays .exit)) (part (now (seg .entry)) (state.sbase (now (seg .entry)) + base + 2) (top - (base + 2)) ++ part (now (seg .entry)) (state.sbase (now (seg .entry)) + start) (base - start))) ⌝ }
+    ensures { λ r. ⌜ (r ≡ true → (x : ℕ) → getD (now (arrays .exit)) x 0 + start < 65536) ⌝ }
 {
-    let stack = sbase(seg).number();
-    if !free_cells(seg, arrays, marks, stack + base + 2, minus(top, base + 2)) {
+    let stack = sbase(seg).index();
+    let first = stack + start as usize;
+    let locals = first + arguments as usize;
+    let frame = stack + base as usize;
+    let temporaries = frame + 2;
+    let end = stack + top as usize;
+    if !free_cells(seg, &seg[temporaries..end], marks, arrays) {
         return false;
     }
-    unmark(marks, start, base);
-    if !free_cells(seg, arrays, marks, stack + start, arguments) {
+    unmark(marks, StackAddress::of(start), StackAddress::of(base));
+    if !free_cells(seg, &seg[first..locals], marks, arrays) {
         return false;
     }
-    plain_cells(
-        seg,
-        arrays,
-        stack + start + arguments,
-        minus(base, start + arguments),
-    )
+    plain_cells(&seg[locals..frame], arrays)
 }
 
-// The `count` cells from `from` on, of globals or locals.
-fn plain_cells(seg: &[u32], arrays: &[u16], from: u32, count: u32) -> bool
-    requires { ⌜ from + count < 1000000 ⌝ }
-    ensures { λ r. ⌜ r ≡ words count (plainCell (inTable (now (arrays .entry)))) (now (seg .entry)) from ⌝ }
+// Cells of globals or locals.
+fn plain_cells(cells: &[u32], arrays: &mut [u16]) -> bool
+    requires { ⌜ ((x : ℕ) → getD (now arrays) x 0 + length (now cells) < 65536) ⌝ }
+    ensures { λ r. ⌜ r ≡ every (plainCell (inTable (now (arrays .entry)))) (now (cells .entry)) ⌝ }
+    ensures { λ r. ⌜ (r ≡ true → Met (now (arrays .entry)) (now (arrays .exit)) (now (cells .entry))) ⌝ }
+    ensures { λ r. ⌜ (r ≡ true → (x : ℕ) → getD (now (arrays .exit)) x 0 ≤ getD (now (arrays .entry)) x 0 + length (now (cells .entry))) ⌝ }
 {
-    let mut i = from as usize;
-    let mut left = count;
-    while 0 < left {
-        if !is_direct(arrays, word(seg, i)) {
+    let mut i = 0;
+    while i < cells.len() {
+        if !is_direct(cells[i], arrays) {
             return false;
         }
         i += 1;
-        left -= 1;
     }
     true
 }
 
 // The same of arguments or temporaries.
-fn free_cells(seg: &[u32], arrays: &[u16], variables: &[u16], from: u32, count: u32) -> bool
-    requires { ⌜ from + count < 1000000 ⌝ }
-    ensures { λ r. ⌜ r ≡ words count (freeCell (now (seg .entry)) (inTable (now (arrays .entry))) (inTable (now (variables .entry)))) (now (seg .entry)) from ⌝ }
+fn free_cells(seg: &[u32], cells: &[u32], variables: &[u16], arrays: &mut [u16]) -> bool
+    requires { ⌜ ((x : ℕ) → getD (now arrays) x 0 + length (now cells) < 65536) ⌝ }
+    ensures { λ r. ⌜ r ≡ every (freeCell (now (seg .entry)) (inTable (now (arrays .entry))) (inTable (now (variables .entry)))) (now (cells .entry)) ⌝ }
+    ensures { λ r. ⌜ (r ≡ true → Met (now (arrays .entry)) (now (arrays .exit)) (now (cells .entry))) ⌝ }
+    ensures { λ r. ⌜ (r ≡ true → (x : ℕ) → getD (now (arrays .exit)) x 0 ≤ getD (now (arrays .entry)) x 0 + length (now (cells .entry))) ⌝ }
 {
-    let mut i = from as usize;
-    let mut left = count;
-    while 0 < left {
-        if !is_proper(seg, arrays, variables, word(seg, i)) {
+    let mut i = 0;
+    while i < cells.len() {
+        if !is_proper(seg, cells[i], variables, arrays) {
             return false;
         }
         i += 1;
-        left -= 1;
     }
     true
 }
 
-fn is_proper(seg: &[u32], arrays: &[u16], variables: &[u16], w: u32) -> bool
+fn is_proper(seg: &[u32], w: u32, variables: &[u16], arrays: &mut [u16]) -> bool
+    requires { ⌜ ((x : ℕ) → getD (now arrays) x 0 < 65535) ⌝ }
     ensures { λ r. ⌜ r ≡ freeCell (now (seg .entry)) (inTable (now (arrays .entry))) (inTable (now (variables .entry))) w ⌝ }
+    ensures { λ _. ⌜ now (arrays .exit) ≡ meet (now (arrays .entry)) w ⌝ }
 {
-    if is_direct(arrays, w) {
+    if is_direct(w, arrays) {
         return true;
     }
     is_pointing(seg, variables, w)
 }
 
-// A scalar, undefined, or the word of an array.
-fn is_direct(arrays: &[u16], w: u32) -> bool
+// A scalar, undefined, or the word of an array, which is met. Most cells are integers that are not negative.
+fn is_direct(w: u32, arrays: &mut [u16]) -> bool
+    requires { ⌜ ((x : ℕ) → getD (now arrays) x 0 < 65535) ⌝ }
     ensures { λ r. ⌜ r ≡ direct (inTable (now (arrays .entry))) w ⌝ }
+    ensures { λ _. ⌜ now (arrays .exit) ≡ meet (now (arrays .entry)) w ⌝ }
 {
-    if Descriptor::of(w).is_scalar() {
+    if w <= Descriptor::INTEGER_LIMIT {
         return true;
+    }
+    if w / 0x1_0000 == 0x200 {
+        return raise_marked(arrays, (w % 0x1_0000) as usize);
     }
     if w == Descriptor::UNDEFINED {
         return true;
     }
-    if w / 0x1_0000 != 0x200 {
-        return false;
-    }
-    1 <= mark_at(arrays, (w % 0x1_0000) as usize)
+    Descriptor::of(w).is_scalar()
 }
 
+// One mark more at an address, if it has one.
+fn raise_marked(table: &mut [u16], a: usize) -> bool
+    requires { ⌜ getD (now table) a 0 < 65535 ⌝ }
+    ensures { λ r. ⌜ r ≡ leb 1 (getD (now (table .entry)) a 0) ⌝ }
+    ensures { λ _. ⌜ now (table .exit) ≡ cond (leb 1 (getD (now (table .entry)) a 0)) (set (now (table .entry)) a (getD (now (table .entry)) a 0 + 1)) (now (table .entry)) ⌝ }
+{
+    if table.len() <= a {
+        return false;
+    }
+    let mark = table[a];
+    if mark < 1 {
+        return false;
+    }
+    table[a] = mark + 1;
+    true
+}
 // An indirect word whose target is a global or a variable, and holds no indirect word.
 fn is_pointing(seg: &[u32], variables: &[u16], w: u32) -> bool
     ensures { λ r. ⌜ r ≡ pointing (now (seg .entry)) (inTable (now (variables .entry))) w ⌝ }

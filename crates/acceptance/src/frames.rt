@@ -1,7 +1,7 @@
 // Test 16, and what the tests read of a frame: the chain from the current frame down to the bottom one.
 ghost use mathlib.Core.Path.{_≡_};
-ghost use mathlib.Core.Bool.{true, false};
-ghost use Prim.Native.Nat.{_+_, _<_, _^_};
+ghost use mathlib.Core.Bool.{false};
+ghost use Prim.Native.Nat.{_+_, _<_};
 ghost use lib.ListN.{length};
 ghost use Rattle.segment.specs.Stack as stack;
 ghost use Rattle.procedure.specs.Directory.{headerOfFunction};
@@ -19,7 +19,7 @@ use segment::word;
 // The words of a frame, last LBASE and the one with P, function number and PCTR, and how many arguments and variables its
 // function has.
 pub struct Frame {
-    pub last: u32,
+    pub last: StackAddress,
     pub code: u32,
     pub arguments: u16,
     pub variables: u32,
@@ -48,13 +48,14 @@ fn frames_from(seg: &[u32], regular: &[u8], alternate: &[u8], from: u32) -> bool
         if !in_its_directory(regular, alternate, frame.code) {
             return false;
         }
-        if frame.last == base {
+        let last = frame.last.number();
+        if last == base {
             return frame.variables == base;
         }
-        if (base as u64) < frame.last as u64 + 2 + frame.variables as u64 {
+        if (base as u64) < last as u64 + 2 + frame.variables as u64 {
             return false;
         }
-        base = frame.last;
+        base = last;
         left -= 1;
     }
     false
@@ -62,13 +63,13 @@ fn frames_from(seg: &[u32], regular: &[u8], alternate: &[u8], from: u32) -> bool
 
 // The frame at `base`.
 pub fn frame_at(seg: &[u32], regular: &[u8], alternate: &[u8], base: StackAddress) -> Frame
-    ensures { λ r. ⌜ FrameAt (now (seg .entry)) (now (regular .entry)) (now (alternate .entry)) (base .0) (r .last) (r .code) (r .arguments) (r .variables) ⌝ }
+    ensures { λ r. ⌜ FrameAt (now (seg .entry)) (now (regular .entry)) (now (alternate .entry)) (base .0) (r .last .0) (r .code) (r .arguments) (r .variables) ⌝ }
 {
     let at = base.index(sbase(seg));
     let code = word(seg, at + 1);
     let header = header_of(regular, alternate, code);
     Frame {
-        last: word(seg, at),
+        last: StackAddress::of(word(seg, at)),
         code: code,
         arguments: header.nargs,
         variables: header.nargs as u32 + header.nlocals as u32,

@@ -139,14 +139,14 @@ fn judge_storage(
     }
 }
 
-// Tests 15 to 18, where the arrays are marked in one table and the `frees` free blocks in the other. Each test that passes
-// leaves the second table clear for the next one.
+// Tests 15 to 18, where the arrays are marked in one table and the `frees` free blocks in the other. Test 15 leaves the second
+// table clear for the variables of test 17; test 17 leaves in the first what test 18 is to compare.
 fn judge_marked(
     seg: &[u32],
     regular: &[u8],
     alternate: &[u8],
     frees: usize,
-    arrays: &[u16],
+    arrays: &mut [u16],
     marks: &mut [u16],
 ) -> Judgement
     requires { ⌜ (headTest (now seg) ≡ true) × (blocksTest (now seg) ≡ true) × (length (now seg) ≤ 16384) × (length (now seg) ≤ length (now marks)) × (frees ≡ length (freeStarts (now seg))) × Marked (now seg) (now arrays) (now marks) ⌝ }
@@ -161,7 +161,7 @@ fn judge_marked(
     if !cells_test(seg, regular, alternate, arrays, marks) {
         return Judgement::Refused(Test::Cells);
     }
-    if !counts_test(seg, marks) {
+    if !counts_test(seg, arrays) {
         return Judgement::Refused(Test::Counts);
     }
     Judgement::Accepted

@@ -1,7 +1,6 @@
 // The table of variables: a mark at the stack address of each argument and local of the frames that are looked at.
-ghost use mathlib.Core.Path.{_≡_};
 ghost use mathlib.Core.List.{[]};
-ghost use Prim.Native.Nat.{ℕ, _+_, _-_, _≤_, _<_};
+ghost use Prim.Native.Nat.{ℕ, _-_, _≤_, _<_};
 ghost use lib.ListN.{getD, length};
 ghost use Rattle.storage.specs.Heap.{count};
 ghost use Rattle.storage_tests.specs.Marks.{Tally};
@@ -15,20 +14,27 @@ use storage_tests::marks::lower;
 use storage_tests::marks::raise;
 
 // The variables of the frames from the one at `from` down are marked.
-pub fn mark_variables(seg: &[u32], regular: &[u8], alternate: &[u8], from: u32, marks: &mut [u16])
-    requires { ⌜ (from < 16384) × (from ≤ length (now marks)) × Tally (now marks) [] ⌝ }
-    ensures { λ _. ⌜ Tally (now (marks .exit)) (variablesFrom (length (now (seg .entry))) (variables (now (regular .entry)) (now (alternate .entry))) (now (seg .entry)) from) ⌝ }
+pub fn mark_variables(
+    seg: &[u32],
+    regular: &[u8],
+    alternate: &[u8],
+    from: StackAddress,
+    marks: &mut [u16],
+)
+    requires { ⌜ (from .0 < 16384) × (from .0 ≤ length (now marks)) × Tally (now marks) [] ⌝ }
+    ensures { λ _. ⌜ Tally (now (marks .exit)) (variablesFrom (length (now (seg .entry))) (variables (now (regular .entry)) (now (alternate .entry))) (now (seg .entry)) (from .0)) ⌝ }
 {
-    let mut base = from;
+    let mut base = from.number();
     let mut left = seg.len();
     while 0 < left {
         let frame = frame_at(seg, regular, alternate, StackAddress::of(base));
         let start = minus(base, frame.variables);
         mark(marks, start, base);
-        if base <= frame.last {
+        let last = frame.last.number();
+        if base <= last {
             return;
         }
-        base = frame.last;
+        base = last;
         left -= 1;
     }
 }
@@ -46,12 +52,13 @@ fn mark(marks: &mut [u16], start: u32, end: u32)
 }
 
 // One less at each of them.
-pub fn unmark(marks: &mut [u16], start: u32, end: u32)
-    requires { ⌜ ((x : ℕ) → count x (range start (end - start)) ≤ getD (now marks) x 0) ⌝ }
-    ensures { λ _. ⌜ Gains (now (marks .exit)) (now (marks .entry)) (range start (end - start)) ⌝ }
+pub fn unmark(marks: &mut [u16], start: StackAddress, end: StackAddress)
+    requires { ⌜ ((x : ℕ) → count x (range (start .0) (end .0 - start .0)) ≤ getD (now marks) x 0) ⌝ }
+    ensures { λ _. ⌜ Gains (now (marks .exit)) (now (marks .entry)) (range (start .0) (end .0 - start .0)) ⌝ }
 {
-    let mut a = start;
-    while a < end {
+    let mut a = start.number();
+    let stop = end.number();
+    while a < stop {
         lower(marks, a as usize);
         a += 1;
     }

@@ -12,6 +12,9 @@ ghost use Rattle.manual.specs.Control as control;
 ghost use Rattle.effects.specs.Seen.{seen};
 ghost use Rattle.perform.specs.Carried.{did, carry};
 ghost use Rattle.control.specs.Answers as answers;
+use access::operands::count;
+use access::operands::is_undefined;
+use access::operands::room;
 use perform::Outcome;
 use perform::frames::enter;
 use perform::frames::leave;
@@ -27,9 +30,6 @@ use segment::minus;
 use segment::stack::last_lbase;
 use segment::state::lbase;
 use segment::word;
-use access::operands::count;
-use access::operands::is_undefined;
-use access::operands::room;
 
 // Whether the current function can be left.
 pub enum Leaving {

@@ -16,6 +16,12 @@ ghost use Rattle.effects.specs.Seen.{read, seen, whole};
 ghost use Rattle.perform.specs.Carried.{did, carry};
 ghost use Rattle.control.specs.Answers as answers;
 use crate::calls::leave_by_branch;
+use access::operands::Operand;
+use access::operands::Value;
+use access::operands::count;
+use access::operands::elements_of;
+use access::operands::operand_at;
+use access::operands::value_of;
 use descriptor::address::SegmentAddress;
 use perform::Outcome;
 use perform::taking::discard;
@@ -26,12 +32,6 @@ use procedure::header::Line;
 use scalar::Truth;
 use scalar::Whole;
 use segment::blocks::rank;
-use access::operands::Operand;
-use access::operands::Value;
-use access::operands::count;
-use access::operands::elements_of;
-use access::operands::operand_at;
-use access::operands::value_of;
 
 // What GO_TRUE and GO_FALSE find in their operand.
 pub enum Condition {

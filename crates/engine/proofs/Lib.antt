@@ -2,3 +2,4 @@
 pub mod Products
 pub mod LayingOut
 pub mod Loading
+pub mod Running

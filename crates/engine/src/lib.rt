@@ -3,3 +3,4 @@ mod judge;
 pub mod lay_out;
 pub mod load;
 pub mod look;
+pub mod run;

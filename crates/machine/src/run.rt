@@ -2,11 +2,11 @@
 ghost use mathlib.Core.Path.{_≡_};
 ghost use Prim.Native.Nat.{_≤_};
 ghost use lib.ListN.{length};
-ghost use Rattle.stepping.specs.Run.{ended, runOf};
-use stepping::Ran;
-use stepping::Stepped;
+ghost use Rattle.stepping.specs.Run.{ended, stepsFrom, runOf};
 use super::step::step;
 use segment::put;
+use stepping::Ran;
+use stepping::Stepped;
 
 // At most `budget` instructions.
 pub fn run(seg: &mut [u32], regular: &[u8], other: &[u8], budget: u32) -> Ran
@@ -15,9 +15,22 @@ pub fn run(seg: &mut [u32], regular: &[u8], other: &[u8], budget: u32) -> Ran
 {
     put(seg, 3, 0);
     let mut scratch = [0u32; 16384];
+    steps_up_to(seg, regular, other, budget, &mut scratch)
+}
+
+fn steps_up_to(
+    seg: &mut [u32],
+    regular: &[u8],
+    other: &[u8],
+    budget: u32,
+    scratch: &mut [u32],
+) -> Ran
+    requires { ⌜ (length (now seg) ≤ 16384) × (length (now scratch) ≡ 16384) ⌝ }
+    ensures { λ r. ⌜ ended r (now (seg .exit)) ≡ stepsFrom budget 0 (now (regular .entry)) (now (other .entry)) (now (seg .entry)) ⌝ }
+{
     let mut steps = 0;
     while steps < budget {
-        match step(seg, regular, other, &mut scratch) {
+        match step(seg, regular, other, scratch) {
             Stepped::Finished => {
                 steps += 1;
             }

@@ -1,11 +1,12 @@
 // One step: fetch, decode, do, then the trace and step traps.
 ghost use mathlib.Core.Path.{_≡_};
-ghost use mathlib.Core.Bool.{Bool};
-ghost use Prim.Native.Nat.{_≤_, _<_, _^_};
+ghost use mathlib.Core.Bool.{_&&_};
+ghost use Prim.Native.Nat.{_≤_, _<_};
 ghost use lib.ListN.{length};
+ghost use lib.Dec.{eqb};
 ghost use Rattle.procedure.specs.Directory.{selected, functionOf};
+ghost use Rattle.segment.specs.State as state;
 ghost use Rattle.stepping.specs.Step as meaning;
-use stepping::Stepped;
 use super::dispatch::execute;
 use instruction::Decoded;
 use instruction::decode::decode;
@@ -24,6 +25,7 @@ use segment::state::fcnrtrc;
 use segment::state::lbase;
 use segment::state::set_trap;
 use segment::state::step_flag;
+use stepping::Stepped;
 
 pub fn step(seg: &mut [u32], regular: &[u8], other: &[u8], scratch: &mut [u32]) -> Stepped
     requires { ⌜ (length (now seg) ≤ 16384) × (length (now scratch) ≡ 16384) ⌝ }
@@ -46,35 +48,77 @@ fn function(regular: &[u8], other: &[u8], selector: bool, number: u16) -> Functi
     find(regular, number)
 }
 
-fn step_in(seg: &mut [u32], regular: &[u8], other: &[u8], selector: bool, block: Block, scratch: &mut [u32]) -> Stepped
+fn step_in(
+    seg: &mut [u32],
+    regular: &[u8],
+    other: &[u8],
+    selector: bool,
+    block: Block,
+    scratch: &mut [u32],
+) -> Stepped
     requires { ⌜ (length (now seg) ≤ 16384) × (length (now scratch) ≡ 16384) ⌝ }
     ensures { λ r. ⌜ meaning.after r (now (seg .exit)) ≡ meaning.stepIn (record { regular = now (regular .entry); alternate = now (other .entry); selector = selector; block = block }) (now (seg .entry)) ⌝ }
 {
     match decode(regular, other, selector, block, pctr(seg, lbase(seg))) {
         Decoded::Trap(class, number) => trap(seg, class, number),
         Decoded::Instruction(i, next) => {
-            let outcome = execute(seg, regular, other, selector, block, i, next.number(), scratch);
+            let outcome = execute(
+                seg,
+                regular,
+                other,
+                selector,
+                block,
+                i,
+                next.number(),
+                scratch,
+            );
             settle(seg, regular, other, block.header.rtntrace, outcome)
         }
     }
 }
 
 // What is due after an instruction: its trap, or a trace or the step trap.
-fn settle(seg: &mut [u32], regular: &[u8], other: &[u8], rtntrace: bool, outcome: Outcome) -> Stepped
+fn settle(
+    seg: &mut [u32],
+    regular: &[u8],
+    other: &[u8],
+    rtntrace: bool,
+    outcome: Outcome,
+) -> Stepped
     ensures { λ r. ⌜ meaning.after r (now (seg .exit)) ≡ meaning.settled (now (regular .entry)) (now (other .entry)) rtntrace outcome (now (seg .entry)) ⌝ }
 {
     match outcome {
         Outcome::Trapped(class, number) => trap(seg, class, number),
-        Outcome::Finished => finish(seg, false, 0),
+        Outcome::Finished => step_trap(seg),
         Outcome::Entered => {
-            let traced = fcnctrc(seg) && current_header(seg, regular, other).calltrace;
+            let traced = call_traced(seg, regular, other);
             finish(seg, traced, 2)
         }
         Outcome::Left => {
-            let traced = fcnrtrc(seg) && rtntrace;
+            let traced = return_traced(seg, rtntrace);
             finish(seg, traced, 3)
         }
     }
+}
+
+// Of a call the current frame is the called one.
+fn call_traced(seg: &[u32], regular: &[u8], other: &[u8]) -> bool
+    ensures { λ r. ⌜ r ≡ (eqb (state.fcnctrc (state.flags (now (seg .entry)))) 1 && meaning.currentHeader (now (regular .entry)) (now (other .entry)) (now (seg .entry)) .calltrace) ⌝ }
+{
+    if fcnctrc(seg) {
+        return current_header(seg, regular, other).calltrace;
+    }
+    false
+}
+
+// The header's bit is the left function's.
+fn return_traced(seg: &[u32], rtntrace: bool) -> bool
+    ensures { λ r. ⌜ r ≡ (eqb (state.fcnrtrc (state.flags (now (seg .entry)))) 1 && rtntrace) ⌝ }
+{
+    if fcnrtrc(seg) {
+        return rtntrace;
+    }
+    false
 }
 
 fn current_header(seg: &[u32], regular: &[u8], other: &[u8]) -> Header
@@ -90,11 +134,18 @@ fn current_header(seg: &[u32], regular: &[u8], other: &[u8]) -> Header
 
 // The instruction is done; a trace goes before the step trap.
 fn finish(seg: &mut [u32], traced: bool, trace: u8) -> Stepped
+    requires { ⌜ 0 < trace ⌝ }
     ensures { λ r. ⌜ meaning.after r (now (seg .exit)) ≡ meaning.finished (meaning.dueIf traced trace (now (seg .entry))) (now (seg .entry)) ⌝ }
 {
     if traced {
         return trace_trap(seg, trace);
     }
+    step_trap(seg)
+}
+
+fn step_trap(seg: &mut [u32]) -> Stepped
+    ensures { λ r. ⌜ meaning.after r (now (seg .exit)) ≡ meaning.finished (state.stepFlag (state.flags (now (seg .entry)))) (now (seg .entry)) ⌝ }
+{
     if step_flag(seg) {
         return trace_trap(seg, 1);
     }

@@ -16,6 +16,10 @@ ghost use Rattle.effects.specs.Seen.{read, seen};
 ghost use Rattle.access.specs.Operands.{isUndefined};
 ghost use Rattle.access.specs.Variables.{variableSeen, Sure};
 ghost use Rattle.perform.specs.Carried.{did, carry};
+use access::operands::is_undefined;
+use access::operands::room;
+use access::variables::Resolved;
+use access::variables::reference_word;
 use descriptor::Descriptor;
 use descriptor::address::CodeAddress;
 use elements::kinds::any_other;
@@ -27,10 +31,6 @@ use perform::taking::replace_by_share;
 use perform::taking::replace_by_word;
 use procedure::bytes::word_at;
 use segment::state::iorg;
-use access::operands::is_undefined;
-use access::operands::room;
-use access::variables::Resolved;
-use access::variables::reference_word;
 
 // A word that names no array.
 pub fn push_word(seg: &mut [u32], w: u32, next: u32) -> Outcome

@@ -14,6 +14,15 @@ ghost use Rattle.access.specs.Variables.{variableSeen, Sure};
 ghost use Rattle.perform.specs.Done.{Held};
 ghost use Rattle.perform.specs.Carried.{did, carry};
 ghost use Rattle.moves.specs.Indexed.{Indexed};
+use access::operands::Operand;
+use access::operands::Value;
+use access::operands::count;
+use access::operands::lengths_of;
+use access::operands::operand_at;
+use access::operands::value_of;
+use access::taken::Taken;
+use access::taken::take_scalars;
+use access::variables::Resolved;
 use descriptor::Target;
 use descriptor::address::SegmentAddress;
 use elements::Found;
@@ -26,15 +35,6 @@ use perform::taking::discard;
 use perform::taking::jump;
 use perform::taking::swap;
 use segment::state::iorg;
-use access::operands::Operand;
-use access::operands::Value;
-use access::operands::count;
-use access::operands::lengths_of;
-use access::operands::operand_at;
-use access::operands::value_of;
-use access::taken::Taken;
-use access::taken::take_scalars;
-use access::variables::Resolved;
 
 pub fn assign(seg: &mut [u32], variable: Resolved, next: u32) -> Outcome
     ensures { λ r. ⌜ did r (now (seg .exit)) ≡ carry (now (seg .entry)) (plan.assign (seen (now (seg .entry))) next (variableSeen (now (seg .entry)) variable)) ⌝ }

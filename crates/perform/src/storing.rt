@@ -7,6 +7,10 @@ ghost use Rattle.effects.specs.Perform as effect;
 ghost use Rattle.perform.specs.Done as answers;
 use super::Done;
 use super::taking::replace_by_share;
+use access::operands::elements_of;
+use access::operands::lengths_of;
+use access::variables::held;
+use access::variables::place_of;
 use descriptor::Descriptor;
 use descriptor::Target;
 use descriptor::address::SegmentAddress;
@@ -16,10 +20,6 @@ use segment::blocks::rank;
 use segment::low;
 use segment::put;
 use segment::word;
-use access::operands::elements_of;
-use access::operands::lengths_of;
-use access::variables::held;
-use access::variables::place_of;
 use storage::Found;
 use storage::drop_word;
 use storage::place;
@@ -99,7 +99,7 @@ fn unshare(seg: &mut [u32], t: Target, block: SegmentAddress, scratch: &mut [u32
 }
 
 // The words of a part of the segment, kept elsewhere while the segment changes; and how many they are.
-fn keep(from: &[u32], to: &mut [u32]) -> usize
+pub fn keep(from: &[u32], to: &mut [u32]) -> usize
     requires { ⌜ length (now from) ≤ length (now to) ⌝ }
     ensures { λ r. ⌜ r ≡ length (now (from .entry)) ⌝ }
     ensures { λ _. ⌜ take (length (now (from .entry))) (now (to .exit)) ≡ now (from .entry) ⌝ }

@@ -1,10 +1,10 @@
 // Test 14: one walk over the blocks, from BLOCKPTR to the dummy, which marks where arrays and free blocks start.
 ghost use mathlib.Core.Path.{_≡_};
-ghost use mathlib.Core.Bool.{Bool, true, cond};
+ghost use mathlib.Core.Bool.{true, cond};
 ghost use Prim.Native.Nat.{_+_, _-_, _≤_, _<_, _^_};
 ghost use lib.ListN.{getD, set, length};
 ghost use Rattle.segment.specs.State.{blockptr};
-ghost use Rattle.segment.specs.Blocks.{freeAt, dummy};
+ghost use Rattle.segment.specs.Blocks.{dummy};
 ghost use Rattle.storage.specs.Heap.{prevFreeBit};
 ghost use Rattle.storage_tests.specs.Head.{Head};
 ghost use Rattle.storage_tests.specs.Blocks.{freeSpan, arraySpan, blockSpan, blocksTest};

@@ -1,7 +1,7 @@
 // Test 15: one round of NEXT from the dummy through every free block, with ROVER on it.
 ghost use mathlib.Core.Path.{_≡_};
 ghost use mathlib.Core.Bool.{true};
-ghost use mathlib.Core.List.{[], _∷_};
+ghost use mathlib.Core.List.{[]};
 ghost use Prim.Native.Nat.{_+_};
 ghost use lib.ListN.{getD, length};
 ghost use lib.Dec.{leb};

@@ -2,13 +2,15 @@
 ghost use mathlib.Core.Path.{_≡_};
 ghost use Prim.Native.Nat.{_≤_};
 ghost use lib.ListN.{length};
-ghost use Rattle.stack.specs.Operands.{held, Readable};
 ghost use Rattle.manual.specs.Values as values;
-use elements::copies::copy;
+ghost use Rattle.access.specs.Operands.{held};
+ghost use Rattle.values.specs.Parts.{Readable, Front};
+use access::operands::Value;
+use access::operands::elements_of;
+use access::operands::lengths_of;
+use elements::copies::cycle;
+use perform::storing::keep;
 use scalar::Answer;
-use segment::blocks::rank;
-use stack::operands::Value;
-use stack::operands::elements_of;
 
 pub fn rank_of(seg: &[u32], v: Value) -> usize
     requires { ⌜ Readable (now seg) v ⌝ }
@@ -16,7 +18,7 @@ pub fn rank_of(seg: &[u32], v: Value) -> usize
 {
     match v {
         Value::Scalar(_) => 0,
-        Value::Array(block) => rank(seg, block),
+        Value::Array(block) => lengths_of(seg, block).len(),
     }
 }
 
@@ -31,16 +33,42 @@ pub fn size_of(seg: &[u32], v: Value) -> usize
     }
 }
 
-// Its elements are copied out.
-pub fn copy_ravel(seg: &[u32], v: Value, out: &mut [u32])
-    requires { ⌜ Readable (now seg) v × (length (now out) ≡ values.size (held (now seg) v)) ⌝ }
-    ensures { λ _. ⌜ now (out .exit) ≡ held (now (seg .entry)) v .ravel ⌝ }
+// Its lengths are copied out; and how many they are.
+pub fn copy_shape(seg: &[u32], v: Value, out: &mut [u32]) -> usize
+    requires { ⌜ Readable (now seg) v × (values.rank (held (now seg) v) ≤ length (now out)) ⌝ }
+    ensures { λ r. ⌜ Front (held (now (seg .entry)) v .shape) r (now (out .exit)) ⌝ }
+{
+    match v {
+        Value::Scalar(_) => 0,
+        Value::Array(block) => keep(lengths_of(seg, block), out),
+    }
+}
+
+// Its elements are copied out; and how many they are.
+pub fn copy_ravel(seg: &[u32], v: Value, out: &mut [u32]) -> usize
+    requires { ⌜ Readable (now seg) v × (values.size (held (now seg) v) ≤ length (now out)) ⌝ }
+    ensures { λ r. ⌜ Front (held (now (seg .entry)) v .ravel) r (now (out .exit)) ⌝ }
 {
     match v {
         Value::Scalar(w) => {
-            out[0] = w;
+            let one = [w];
+            keep(&one, out)
         }
-        Value::Array(block) => copy(elements_of(seg, block), out),
+        Value::Array(block) => keep(elements_of(seg, block), out),
+    }
+}
+
+// Its elements fill `out`, round and round.
+pub fn cycle_ravel(seg: &[u32], v: Value, out: &mut [u32])
+    requires { ⌜ Readable (now seg) v × (values.size (held (now seg) v) ≡ 0 → length (now out) ≡ 0) ⌝ }
+    ensures { λ _. ⌜ now (out .exit) ≡ values.cycle (length (now (out .entry))) (held (now (seg .entry)) v .ravel) ⌝ }
+{
+    match v {
+        Value::Scalar(w) => {
+            let one = [w];
+            cycle(&one, out);
+        }
+        Value::Array(block) => cycle(elements_of(seg, block), out),
     }
 }
 

@@ -5,22 +5,23 @@ ghost use mathlib.Core.Bool.{true};
 ghost use Prim.Native.Nat.{_≤_};
 ghost use lib.ListN.{length};
 ghost use Rattle.segment.specs.Blocks as layout;
-ghost use Rattle.scalar.specs.declared.Answer.{Answer as Answered};
 ghost use Rattle.manual.specs.OrTrap.{gives, andThen};
 ghost use Rattle.manual.specs.Effects.{word, made, replaces, jumps};
 ghost use Rattle.manual.specs.Values as values;
 ghost use Rattle.manual.specs.Scalars as plan;
 ghost use Rattle.effects.specs.Seen.{whole};
+ghost use Rattle.elements.specs.Answers.{finished};
 ghost use Rattle.perform.specs.Carried.{did, carry};
+use access::operands::lengths_of;
 use descriptor::address::SegmentAddress;
-use elements::copies::copy;
-use perform::Outcome;
+use elements::Finished;
 use perform::Done;
+use perform::Outcome;
+use perform::storing::keep;
 use perform::taking::jump;
 use perform::taking::replace_by_array;
 use perform::taking::replace_by_word;
 use scalar::Answer;
-use stack::operands::lengths_of;
 
 // A scalar, or its trap.
 pub fn replace_by_answer(seg: &mut [u32], operands: u32, answer: Answer, next: u32) -> Outcome
@@ -38,7 +39,13 @@ pub fn replace_by_answer(seg: &mut [u32], operands: u32, answer: Answer, next: u
 }
 
 // A new array.
-pub fn replace_by_new(seg: &mut [u32], operands: u32, lengths: &[u32], ravel: &[u32], next: u32) -> Outcome
+pub fn replace_by_new(
+    seg: &mut [u32],
+    operands: u32,
+    lengths: &[u32],
+    ravel: &[u32],
+    next: u32,
+) -> Outcome
     requires { ⌜ 1 ≤ operands ⌝ }
     ensures { λ r. ⌜ did r (now (seg .exit)) ≡ carry (now (seg .entry)) (gives (replaces operands (made (now (lengths .entry)) (now (ravel .entry))) ∷ jumps next ∷ [])) ⌝ }
 {
@@ -52,15 +59,37 @@ pub fn replace_by_new(seg: &mut [u32], operands: u32, lengths: &[u32], ravel: &[
 }
 
 // A new array with the shape of the one in `block`.
-pub fn replace_by_like(seg: &mut [u32], operands: u32, block: SegmentAddress, ravel: &[u32], next: u32) -> Outcome
+pub fn replace_by_like(
+    seg: &mut [u32],
+    operands: u32,
+    block: SegmentAddress,
+    ravel: &[u32],
+    next: u32,
+) -> Outcome
     requires { ⌜ (1 ≤ operands) × (whole (now seg) (block .0) ≡ true) ⌝ }
     ensures { λ r. ⌜ did r (now (seg .exit)) ≡ carry (now (seg .entry)) (gives (replaces operands (made (layout.shapeAt (now (seg .entry)) (block .0)) (now (ravel .entry))) ∷ jumps next ∷ [])) ⌝ }
 {
     let mut lengths = [0u32; 16];
-    let shape = lengths_of(seg, block);
-    let rank = shape.len();
-    copy(shape, &mut lengths[..rank]);
+    let rank = keep(lengths_of(seg, block), &mut lengths);
     replace_by_new(seg, operands, &lengths[..rank], ravel, next)
+}
+
+// The elements of a new array with the shape of the one in `block`, or the first trap of one.
+pub fn replace_by_elements(
+    seg: &mut [u32],
+    operands: u32,
+    block: SegmentAddress,
+    done: Finished,
+    ravel: &[u32],
+    next: u32,
+) -> Outcome
+    requires { ⌜ (1 ≤ operands) × (whole (now seg) (block .0) ≡ true) ⌝ }
+    ensures { λ r. ⌜ did r (now (seg .exit)) ≡ carry (now (seg .entry)) (andThen (finished done (now (ravel .entry))) (λ words. gives (replaces operands (made (layout.shapeAt (now (seg .entry)) (block .0)) words) ∷ jumps next ∷ []))) ⌝ }
+{
+    match done {
+        Finished::Trap(class, number) => Outcome::Trapped(class, number),
+        Finished::Done => replace_by_like(seg, operands, block, ravel, next),
+    }
 }
 
 // A new vector.

@@ -1,10 +1,23 @@
 // INDEX: the element that subscripts lead to.
 ghost use mathlib.Core.Path.{_≡_};
-ghost use Prim.Native.Nat.{_≤_, _%_, _^_};
+ghost use mathlib.Core.Bool.{true};
+ghost use Prim.Native.Nat.{_≤_, _<_, _%_, _^_};
 ghost use lib.ListN.{length};
+ghost use Rattle.segment.specs.State as fields;
 ghost use Rattle.manual.specs.Scalars as plan;
-ghost use Rattle.effects.specs.Seen.{seen};
+ghost use Rattle.effects.specs.Seen.{seen, whole};
+ghost use Rattle.access.specs.Operands.{held};
 ghost use Rattle.perform.specs.Carried.{did, carry};
+ghost use Rattle.values.specs.Parts.{indexed};
+use access::operands::Operand;
+use access::operands::Value;
+use access::operands::count;
+use access::operands::elements_of;
+use access::operands::lengths_of;
+use access::operands::operand_at;
+use access::operands::value_of;
+use access::taken::Taken;
+use access::taken::take_scalars;
 use descriptor::address::SegmentAddress;
 use elements::Found;
 use elements::subscripts::place;
@@ -13,15 +26,6 @@ use perform::taking::jump;
 use perform::taking::replace_by_word;
 use segment::state::iorg;
 use segment::word;
-use stack::operands::Operand;
-use stack::operands::Value;
-use stack::operands::count;
-use stack::operands::elements_of;
-use stack::operands::lengths_of;
-use stack::operands::operand_at;
-use stack::operands::value_of;
-use stack::taken::Taken;
-use stack::taken::take_scalars;
 
 pub fn index(seg: &mut [u32], rank: u8, next: u32) -> Outcome
     requires { ⌜ length (now seg) ≤ 16384 ⌝ }
@@ -45,7 +49,10 @@ pub fn index(seg: &mut [u32], rank: u8, next: u32) -> Outcome
     }
 }
 
-fn element(seg: &mut [u32], block: SegmentAddress, subscripts: &[u32], next: u32) -> Outcome {
+fn element(seg: &mut [u32], block: SegmentAddress, subscripts: &[u32], next: u32) -> Outcome
+    requires { ⌜ (whole (now seg) (block .0) ≡ true) × (length (now subscripts) < 16) ⌝ }
+    ensures { λ r. ⌜ did r (now (seg .exit)) ≡ carry (now (seg .entry)) (indexed (fields.iorg (fields.flags (now (seg .entry)))) next (now (subscripts .entry)) (held (now (seg .entry)) (Value.Array block))) ⌝ }
+{
     let lengths = lengths_of(seg, block);
     if subscripts.len() != lengths.len() {
         return Outcome::Trapped(9, 1);

@@ -1,27 +1,114 @@
-use borrow.Author.Needs.{needs}
 use mathlib.Core.Path.{sym, _∙_}
 use native.Mathlib.Omega.{arith}
+use borrow.Author.Needs.{needs}
 use borrow.Author.Tests.{not-true, not-false}
 use Rattle.storage_tests.proofs.StateWords.{head-sound}
-use Rattle.acceptance.proofs.Table.{table-15, table-16, table-17, table-18, table-0, frames-top}
+use Rattle.acceptance.proofs.Compared.{all-tallied}
+use Rattle.acceptance.proofs.Table.{table-15, table-16, table-17, table-18, table-0}
 use Rattle.acceptance.proofs.judge_marked.Statement.{statement}
 use Rattle.acceptance.proofs.judge_marked.Tie as tie
+
+ring-test-requires : tie.Need-ring-test-requires
+ring-test-requires c κs = search needs
+
+same-length : tie.Need-same-length
+same-length c = search needs
+
+returns : tie.Need-returns
+returns c =
+    let a = c .before .before .before .before .before .before .before .before .before .before .args in
+    let h = c .before .before .before .before .before .before .before .before .before .before .pre in
+    table-15 (a .seg .now) (a .regular .now) (a .alternate .now) (h .0) (h .1) (sym (c .before .before .before .ring-test .ensures .0) ∙ not-true _ (c .if1 .taken))
+
+frames-test-requires : tie.Need-frames-test-requires
+frames-test-requires c κs = search needs
+
+same-length-2 : tie.Need-same-length-2
+same-length-2 c = search needs
+
+returns-2 : tie.Need-returns-2
+returns-2 c =
+    let a = c .before .before .before .before .before .before .before .before .before .before .before .before .args in
+    let h = c .before .before .before .before .before .before .before .before .before .before .before .before .pre in
+    let ringed = sym (c .before .before .before .before .before .ring-test .ensures .0) ∙ not-false _ (c .before .before .if1 .left) in
+    table-16 (a .seg .now) (a .regular .now) (a .alternate .now) (h .0) (h .1) ringed (sym (c .before .frames-test .ensures) ∙ not-true _ (c .if2 .taken))
+
+cells-test-requires : tie.Need-cells-test-requires
+cells-test-requires c κs =
+    let a = c .before .before .before .before .before .before .before .before .before .before .before .before .before .before .args in
+    let h = c .before .before .before .before .before .before .before .before .before .before .before .before .before .before .pre in
+    let ringed = sym (c .before .before .before .before .before .before .before .ring-test .ensures .0) ∙ not-false _ (c .before .before .before .before .if1 .left) in
+    let framed = sym (c .before .before .before .frames-test .ensures) ∙ not-false _ (c .before .before .if2 .left) in
+    (head-sound (a .seg .now) (h .0), h .2, framed, omega (arith, h .3), h .5 .arrayMarks, c .before .before .before .before .before .before .before .ring-test .ensures .1 ringed)
+
+same-length-3 : tie.Need-same-length-3
+same-length-3 c = search needs
+
+same-length-4 : tie.Need-same-length-4
+same-length-4 c = search needs
+
+returns-3 : tie.Need-returns-3
+returns-3 c =
+    let a = c .before .before .before .before .before .before .before .before .before .before .before .before .before .before .before .before .before .before .before .before .args in
+    let h = c .before .before .before .before .before .before .before .before .before .before .before .before .before .before .before .before .before .before .before .before .pre in
+    let ringed = sym (c .before .before .before .before .before .before .before .before .before .before .before .before .before .ring-test .ensures .0) ∙ not-false _ (c .before .before .before .before .before .before .before .before .before .before .if1 .left) in
+    let framed = sym (c .before .before .before .before .before .before .before .before .before .frames-test .ensures) ∙ not-false _ (c .before .before .before .before .before .before .before .before .if2 .left) in
+    table-17 (a .seg .now) (a .regular .now) (a .alternate .now) (h .0) (h .1) ringed framed (sym (c .before .before .before .before .before .cells-test .ensures .0) ∙ not-true _ (c .if3 .taken))
+
+counts-test-requires : tie.Need-counts-test-requires
+counts-test-requires c κs =
+    let a = c .before .before .before .before .before .before .before .before .before .before .before .before .before .before .before .before .before .before .before .before .before .args in
+    let h = c .before .before .before .before .before .before .before .before .before .before .before .before .before .before .before .before .before .before .before .before .before .pre in
+    all-tallied (a .seg .now) (head-sound (a .seg .now) (h .0)) (h .2) (h .1) (h .5 .arrayMarks) (c .before .before .before .before .before .before .cells-test .ensures .1 (not-false _ (c .before .if3 .left)))
+
+same-length-5 : tie.Need-same-length-5
+same-length-5 c = search needs
+
+same-length-6 : tie.Need-same-length-6
+same-length-6 c = search needs
+
+returns-4 : tie.Need-returns-4
+returns-4 c =
+    let a = c .before .before .before .before .before .before .before .before .before .before .before .before .before .before .before .before .before .before .before .before .before .before .before .args in
+    let h = c .before .before .before .before .before .before .before .before .before .before .before .before .before .before .before .before .before .before .before .before .before .before .before .pre in
+    let ringed = sym (c .before .before .before .before .before .before .before .before .before .before .before .before .before .before .before .before .ring-test .ensures .0) ∙ not-false _ (c .before .before .before .before .before .before .before .before .before .before .before .before .before .if1 .left) in
+    let framed = sym (c .before .before .before .before .before .before .before .before .before .before .before .before .frames-test .ensures) ∙ not-false _ (c .before .before .before .before .before .before .before .before .before .before .before .if2 .left) in
+    let celled = sym (c .before .before .before .before .before .before .before .before .cells-test .ensures .0) ∙ not-false _ (c .before .before .before .if3 .left) in
+    table-18 (a .seg .now) (a .regular .now) (a .alternate .now) (h .0) (h .1) ringed framed celled (sym (c .before .counts-test .ensures) ∙ not-true _ (c .if4 .taken))
+
+same-length-7 : tie.Need-same-length-7
+same-length-7 c = search needs
+
+same-length-8 : tie.Need-same-length-8
+same-length-8 c = search needs
+
+returns-5 : tie.Need-returns-5
+returns-5 c =
+    let a = c .before .before .before .before .before .before .before .before .before .before .before .before .before .before .before .before .before .before .before .before .before .before .before .args in
+    let h = c .before .before .before .before .before .before .before .before .before .before .before .before .before .before .before .before .before .before .before .before .before .before .before .pre in
+    let ringed = sym (c .before .before .before .before .before .before .before .before .before .before .before .before .before .before .before .before .ring-test .ensures .0) ∙ not-false _ (c .before .before .before .before .before .before .before .before .before .before .before .before .before .if1 .left) in
+    let framed = sym (c .before .before .before .before .before .before .before .before .before .before .before .before .frames-test .ensures) ∙ not-false _ (c .before .before .before .before .before .before .before .before .before .before .before .if2 .left) in
+    let celled = sym (c .before .before .before .before .before .before .before .before .cells-test .ensures .0) ∙ not-false _ (c .before .before .before .if3 .left) in
+    table-0 (a .seg .now) (a .regular .now) (a .alternate .now) (h .0) (h .1) ringed framed celled (sym (c .before .counts-test .ensures) ∙ not-false _ (c .if4 .left))
 
 pub judge-marked-spec : {M : Type 1} → statement M
 judge-marked-spec =
     tie.close
     (tie.spec
-    (λ c κs. search needs)
-    (λ c. search needs)
-    (λ c. table-15 (c .before .before .before .before .before .before .before .before .before .before .args .seg .now) (c .before .before .before .before .before .before .before .before .before .before .args .regular .now) (c .before .before .before .before .before .before .before .before .before .before .args .alternate .now) (c .before .before .before .before .before .before .before .before .before .before .pre .0) (c .before .before .before .before .before .before .before .before .before .before .pre .1) (sym (c .before .before .before .ring-test .ensures .0) ∙ not-true _ (c .if1 .taken)))
-    (λ c κs. search needs)
-    (λ c. search needs)
-    (λ c. table-16 (c .before .before .before .before .before .before .before .before .before .before .before .before .args .seg .now) (c .before .before .before .before .before .before .before .before .before .before .before .before .args .regular .now) (c .before .before .before .before .before .before .before .before .before .before .before .before .args .alternate .now) (c .before .before .before .before .before .before .before .before .before .before .before .before .pre .0) (c .before .before .before .before .before .before .before .before .before .before .before .before .pre .1) (sym (c .before .before .before .before .before .ring-test .ensures .0) ∙ not-false _ (c .before .before .if1 .left)) (sym (c .before .frames-test .ensures) ∙ not-true _ (c .if2 .taken)))
-    (λ c κs. (omega (arith, head-sound (c .before .before .before .before .before .before .before .before .before .before .before .before .before .args .seg .now) (c .before .before .before .before .before .before .before .before .before .before .before .before .before .pre .0) .room, head-sound (c .before .before .before .before .before .before .before .before .before .before .before .before .before .args .seg .now) (c .before .before .before .before .before .before .before .before .before .before .before .before .before .pre .0) .top, (c .before .before .before .before .before .before .before .before .before .before .before .before .before .pre .2)), omega (arith, frames-top (c .before .before .before .before .before .before .before .before .before .before .before .before .before .args .seg .now) (c .before .before .before .before .before .before .before .before .before .before .before .before .before .args .regular .now) (c .before .before .before .before .before .before .before .before .before .before .before .before .before .args .alternate .now) (sym (c .before .before .frames-test .ensures) ∙ not-false _ (c .before .if2 .left)), head-sound (c .before .before .before .before .before .before .before .before .before .before .before .before .before .args .seg .now) (c .before .before .before .before .before .before .before .before .before .before .before .before .before .pre .0) .top, (c .before .before .before .before .before .before .before .before .before .before .before .before .before .pre .2)), omega (arith, frames-top (c .before .before .before .before .before .before .before .before .before .before .before .before .before .args .seg .now) (c .before .before .before .before .before .before .before .before .before .before .before .before .before .args .regular .now) (c .before .before .before .before .before .before .before .before .before .before .before .before .before .args .alternate .now) (sym (c .before .before .frames-test .ensures) ∙ not-false _ (c .before .if2 .left)), head-sound (c .before .before .before .before .before .before .before .before .before .before .before .before .before .args .seg .now) (c .before .before .before .before .before .before .before .before .before .before .before .before .before .pre .0) .top, (c .before .before .before .before .before .before .before .before .before .before .before .before .before .pre .3)), (c .before .before .before .before .before .before .before .before .before .before .before .before .before .pre .5 .arrayMarks), (c .before .before .before .before .before .before .ring-test .ensures .1) (sym (c .before .before .before .before .before .before .ring-test .ensures .0) ∙ not-false _ (c .before .before .before .if1 .left))))
-    (λ c. search needs)
-    (λ c. table-17 (c .before .before .before .before .before .before .before .before .before .before .before .before .before .before .before .before .before .args .seg .now) (c .before .before .before .before .before .before .before .before .before .before .before .before .before .before .before .before .before .args .regular .now) (c .before .before .before .before .before .before .before .before .before .before .before .before .before .before .before .before .before .args .alternate .now) (c .before .before .before .before .before .before .before .before .before .before .before .before .before .before .before .before .before .pre .0) (c .before .before .before .before .before .before .before .before .before .before .before .before .before .before .before .before .before .pre .1) (sym (c .before .before .before .before .before .before .before .before .before .before .ring-test .ensures .0) ∙ not-false _ (c .before .before .before .before .before .before .before .if1 .left)) (sym (c .before .before .before .before .before .before .frames-test .ensures) ∙ not-false _ (c .before .before .before .before .before .if2 .left)) (sym (c .before .before .before .cells-test .ensures .0) ∙ not-true _ (c .if3 .taken)))
-    (λ c κs. (head-sound (c .before .before .before .before .before .before .before .before .before .before .before .before .before .before .before .before .before .before .args .seg .now) (c .before .before .before .before .before .before .before .before .before .before .before .before .before .before .before .before .before .before .pre .0), (c .before .before .before .before .before .before .before .before .before .before .before .before .before .before .before .before .before .before .pre .2), frames-top (c .before .before .before .before .before .before .before .before .before .before .before .before .before .before .before .before .before .before .args .seg .now) (c .before .before .before .before .before .before .before .before .before .before .before .before .before .before .before .before .before .before .args .regular .now) (c .before .before .before .before .before .before .before .before .before .before .before .before .before .before .before .before .before .before .args .alternate .now) (sym (c .before .before .before .before .before .before .before .frames-test .ensures) ∙ not-false _ (c .before .before .before .before .before .before .if2 .left)), record { long = omega (arith, (c .before .before .before .before .before .before .before .before .before .before .before .before .before .before .before .before .before .before .pre .3)); empty = (c .before .before .before .before .cells-test .ensures .1) (not-false _ (c .before .if3 .left)) }))
-    (λ c. search needs)
-    (λ c. table-18 (c .before .before .before .before .before .before .before .before .before .before .before .before .before .before .before .before .before .before .before .before .before .before .args .seg .now) (c .before .before .before .before .before .before .before .before .before .before .before .before .before .before .before .before .before .before .before .before .before .before .args .regular .now) (c .before .before .before .before .before .before .before .before .before .before .before .before .before .before .before .before .before .before .before .before .before .before .args .alternate .now) (c .before .before .before .before .before .before .before .before .before .before .before .before .before .before .before .before .before .before .before .before .before .before .pre .0) (c .before .before .before .before .before .before .before .before .before .before .before .before .before .before .before .before .before .before .before .before .before .before .pre .1) (sym (c .before .before .before .before .before .before .before .before .before .before .before .before .before .before .before .ring-test .ensures .0) ∙ not-false _ (c .before .before .before .before .before .before .before .before .before .before .before .before .if1 .left)) (sym (c .before .before .before .before .before .before .before .before .before .before .before .frames-test .ensures) ∙ not-false _ (c .before .before .before .before .before .before .before .before .before .before .if2 .left)) (sym (c .before .before .before .before .before .before .before .before .cells-test .ensures .0) ∙ not-false _ (c .before .before .before .before .before .if3 .left)) (sym (c .before .before .before .counts-test .ensures) ∙ not-true _ (c .if4 .taken)))
-    (λ c. search needs)
-    (λ c. table-0 (c .before .before .before .before .before .before .before .before .before .before .before .before .before .before .before .before .before .before .before .before .before .before .args .seg .now) (c .before .before .before .before .before .before .before .before .before .before .before .before .before .before .before .before .before .before .before .before .before .before .args .regular .now) (c .before .before .before .before .before .before .before .before .before .before .before .before .before .before .before .before .before .before .before .before .before .before .args .alternate .now) (c .before .before .before .before .before .before .before .before .before .before .before .before .before .before .before .before .before .before .before .before .before .before .pre .0) (c .before .before .before .before .before .before .before .before .before .before .before .before .before .before .before .before .before .before .before .before .before .before .pre .1) (sym (c .before .before .before .before .before .before .before .before .before .before .before .before .before .before .before .ring-test .ensures .0) ∙ not-false _ (c .before .before .before .before .before .before .before .before .before .before .before .before .if1 .left)) (sym (c .before .before .before .before .before .before .before .before .before .before .before .frames-test .ensures) ∙ not-false _ (c .before .before .before .before .before .before .before .before .before .before .if2 .left)) (sym (c .before .before .before .before .before .before .before .before .cells-test .ensures .0) ∙ not-false _ (c .before .before .before .before .before .if3 .left)) (sym (c .before .before .before .counts-test .ensures) ∙ not-false _ (c .if4 .left))))
+    ring-test-requires
+    same-length
+    returns
+    frames-test-requires
+    same-length-2
+    returns-2
+    cells-test-requires
+    same-length-3
+    same-length-4
+    returns-3
+    counts-test-requires
+    same-length-5
+    same-length-6
+    returns-4
+    same-length-7
+    same-length-8
+    returns-5)

@@ -1,21 +1,138 @@
-use borrow.Author.Needs.{needs}
+use Prim.Native.Nat.{ℕ, _+_, _-_, _≤_}
 use mathlib.Core.Path.{_≡_, refl, sym, _∙_, ap}
-use Prim.Native.Nat.{ℕ, _-_, _<_, _≤_}
+use mathlib.Core.Bool.{true}
 use native.Mathlib.Omega.{arith}
+use borrow.Author.Needs.{needs}
 use borrow.Author.Tests.{not-true, not-false}
 use lib.ListN.{length}
 use Rattle.storage_tests.specs.Marks.{Tally}
-use Rattle.acceptance.specs.Frames.{arguments, variables}
+use Rattle.acceptance.specs.Frames.{known, arguments, variables, framesFrom}
 use Rattle.acceptance.specs.Cells.{inTable, variablesFrom, cellsFrom}
-use Rattle.acceptance.proofs.FrameCells.{never, cells-none, own-marked, frame-fails, frame-bottom, frame-on, bottom-clear, older-marked}
+use Rattle.acceptance.proofs.Chain.{few-arguments, low-enough, at-bottom, above}
+use Rattle.acceptance.proofs.FrameCells.{never, cells-none, own-marked, frame-alike, frame-fails, frame-bottom, frame-on, older-marked}
+use Rattle.acceptance.proofs.Tallies.{Down, down-start, down-bottom, down-on}
 use Rattle.acceptance.proofs.cells.cells_from.Statement.{statement}
 use Rattle.acceptance.proofs.cells.cells_from.Tie as tie
 
 abbrev Inv-loop : tie.InvT-loop
-Inv-loop seg regular alternate arrays from upto marks₀ base₀ top₀ left₀ marks base top left = (base < 65536) × (top ≤ 65536) × (length marks ≡ length marks₀) × Tally marks (variablesFrom left (variables regular alternate) seg base) × (cellsFrom (length seg) (arguments regular alternate) (variables regular alternate) seg (inTable arrays) from upto ≡ cellsFrom left (arguments regular alternate) (variables regular alternate) seg (inTable arrays) base top)
+Inv-loop seg regular alternate from upto arrays₀ marks₀ base₀ top₀ left₀ arrays marks base top left =
+    (base + 2 ≤ top)
+    × (top ≤ upto)
+    × (length arrays ≡ length arrays₀)
+    × (length marks ≡ length marks₀)
+    × (framesFrom left (known regular alternate) (variables regular alternate) seg base ≡ true)
+    × Tally marks (variablesFrom left (variables regular alternate) seg base)
+    × (cellsFrom (length seg) (arguments regular alternate) (variables regular alternate) seg (inTable arrays₀) from upto ≡ cellsFrom left (arguments regular alternate) (variables regular alternate) seg (inTable arrays₀) base top)
+    × Down seg from upto arrays₀ arrays base top
 
 abbrev μ-loop : tie.MeasureT-loop
-μ-loop seg regular alternate arrays from upto marks₀ base₀ top₀ left₀ marks base top left = left
+μ-loop seg regular alternate from upto arrays₀ marks₀ base₀ top₀ left₀ arrays marks base top left = left
+
+loop-holds : tie.Need-loop-holds Inv-loop μ-loop
+loop-holds c = (c .before .before .before .before .before .pre .0, omega arith, refl, refl, c .before .before .before .before .before .pre .3, c .before .before .before .before .before .pre .4, refl, down-start _ _ _ _ (c .before .before .before .before .before .pre .5))
+
+of-requires : tie.Need-of-requires Inv-loop μ-loop
+of-requires c κs = search needs
+
+frame-at-requires : tie.Need-frame-at-requires Inv-loop μ-loop
+frame-at-requires c κs = search needs
+
+number-requires : tie.Need-number-requires Inv-loop μ-loop
+number-requires c κs = search needs
+
+sub-start : tie.Need-sub-start Inv-loop μ-loop
+sub-start c =
+    let a = c .before .before .before .before .before .before .before .before .before .before .before .args in
+    let l = c .before .before .before .before .before .loop in
+    let more = c .before .before .before .before .loop-test .taken in
+    let f = rw (c .before .before .before .of .ensures) at (c .before .before .frame-at .ensures) in
+    omega (arith, low-enough (a .seg .now) (a .regular .now) (a .alternate .now) (l .base) (l .left) more f (l .inv .4))
+
+cast-frame-cells : tie.Need-cast-frame-cells Inv-loop μ-loop
+cast-frame-cells c = search needs
+
+frame-cells-requires : tie.Need-frame-cells-requires Inv-loop μ-loop
+frame-cells-requires c κs =
+    let a = c .before .before .before .before .before .before .before .before .before .before .before .before .before .before .args in
+    let l = c .before .before .before .before .before .before .before .before .loop in
+    let more = c .before .before .before .before .before .before .before .loop-test .taken in
+    let f = rw (c .before .before .before .before .before .before .of .ensures) at (c .before .before .before .before .before .frame-at .ensures) in
+    let es = ap (λ (v : ℕ). l .base - v) (f .variables) in
+    let el = c .before .before .before .before .number .ensures ∙ f .last in
+    (omega (arith, few-arguments (a .seg .now) (a .regular .now) (a .alternate .now) (l .base) (l .left) more f (l .inv .4), low-enough (a .seg .now) (a .regular .now) (a .alternate .now) (l .base) (l .left) more f (l .inv .4)), l .inv .0, omega arith, omega arith, own-marked (arguments (a .regular .now) (a .alternate .now)) (variables (a .regular .now) (a .alternate .now)) (a .seg .now) (inTable (a .arrays .now)) (l .base) (l .top) (l .left) more es (f .arguments) el (l .marks) (l .inv .5), l .inv .7 .room)
+
+same-length : tie.Need-same-length Inv-loop μ-loop
+same-length c = search needs
+
+same-length-2 : tie.Need-same-length-2 Inv-loop μ-loop
+same-length-2 c = search needs
+
+returns : tie.Need-returns Inv-loop μ-loop
+returns c =
+    let a = c .before .before .before .before .before .before .before .before .before .before .before .before .before .before .before .before .before .before .before .before .args in
+    let l = c .before .before .before .before .before .before .before .before .before .before .before .before .before .before .loop in
+    let more = c .before .before .before .before .before .before .before .before .before .before .before .before .before .loop-test .taken in
+    let f = rw (c .before .before .before .before .before .before .before .before .before .before .before .before .of .ensures) at (c .before .before .before .before .before .before .before .before .before .before .before .frame-at .ensures) in
+    let es = ap (λ (v : ℕ). l .base - v) (f .variables) in
+    let el = c .before .before .before .before .before .before .before .before .before .before .number .ensures ∙ f .last in
+    let q = c .before .before .before .before .before .frame-cells .ensures .0 ∙ frame-alike (a .seg .now) (inTable (a .arrays .now)) (inTable (l .arrays)) _ _ _ _ _ _ (l .inv .7 .same) in
+    (sym (l .inv .6 ∙ frame-fails (arguments (a .regular .now) (a .alternate .now)) (variables (a .regular .now) (a .alternate .now)) (a .seg .now) (inTable (a .arrays .now)) (l .base) (l .top) (l .left) more es (f .arguments) el (l .marks) (l .inv .5) q (not-true _ (c .if1 .taken))), never)
+
+same-length-3 : tie.Need-same-length-3 Inv-loop μ-loop
+same-length-3 c = search needs
+
+same-length-4 : tie.Need-same-length-4 Inv-loop μ-loop
+same-length-4 c = search needs
+
+returns-2 : tie.Need-returns-2 Inv-loop μ-loop
+returns-2 c =
+    let a = c .before .before .before .before .before .before .before .before .before .before .before .before .before .before .before .before .before .before .before .before .before .args in
+    let l = c .before .before .before .before .before .before .before .before .before .before .before .before .before .before .before .loop in
+    let more = c .before .before .before .before .before .before .before .before .before .before .before .before .before .before .loop-test .taken in
+    let f = rw (c .before .before .before .before .before .before .before .before .before .before .before .before .before .of .ensures) at (c .before .before .before .before .before .before .before .before .before .before .before .before .frame-at .ensures) in
+    let es = ap (λ (v : ℕ). l .base - v) (f .variables) in
+    let el = c .before .before .before .before .before .before .before .before .before .before .before .number .ensures ∙ f .last in
+    let q = c .before .before .before .before .before .before .frame-cells .ensures .0 ∙ frame-alike (a .seg .now) (inTable (a .arrays .now)) (inTable (l .arrays)) _ _ _ _ _ _ (l .inv .7 .same) in
+    let yes = not-false _ (c .before .if1 .left) in (
+      sym (l .inv .6 ∙ frame-bottom (arguments (a .regular .now) (a .alternate .now)) (variables (a .regular .now) (a .alternate .now)) (a .seg .now) (inTable (a .arrays .now)) (l .base) (l .top) (l .left) more es (f .arguments) el (l .marks) (l .inv .5) q yes (c .if2 .taken)),
+      λ t. down-bottom (l .inv .7) _ el (c .before .before .before .before .before .before .frame-cells .ensures .1 .1 .0 yes) (omega (arith, at-bottom (a .seg .now) (a .regular .now) (a .alternate .now) (l .base) (l .left) more f (l .inv .4) (omega arith))) (c .if2 .taken),
+    )
+
+sub-left : tie.Need-sub-left Inv-loop μ-loop
+sub-left c = search needs
+
+loop-less : tie.Need-loop-less Inv-loop μ-loop
+loop-less c = search needs
+
+loop-again : tie.Need-loop-again Inv-loop μ-loop
+loop-again c =
+    let a = c .before .before .before .before .before .before .before .before .before .before .before .before .before .before .before .before .before .before .before .before .before .args in
+    let l = c .before .before .before .before .before .before .before .before .before .before .before .before .before .before .before .loop in
+    let more = c .before .before .before .before .before .before .before .before .before .before .before .before .before .before .loop-test .taken in
+    let f = rw (c .before .before .before .before .before .before .before .before .before .before .before .before .before .of .ensures) at (c .before .before .before .before .before .before .before .before .before .before .before .before .frame-at .ensures) in
+    let es = ap (λ (v : ℕ). l .base - v) (f .variables) in
+    let el = c .before .before .before .before .before .before .before .before .before .before .before .number .ensures ∙ f .last in
+    let q = c .before .before .before .before .before .before .frame-cells .ensures .0 ∙ frame-alike (a .seg .now) (inTable (a .arrays .now)) (inTable (l .arrays)) _ _ _ _ _ _ (l .inv .7 .same) in
+    let yes = not-false _ (c .before .if1 .left) in
+    let k = above (a .seg .now) (a .regular .now) (a .alternate .now) (l .base) (l .left) more f (l .inv .4) (omega arith) in (
+      omega (arith, k .0),
+      omega arith,
+      search needs,
+      search needs,
+      rw (c .before .before .before .before .before .before .before .before .before .before .before .number .ensures) (k .1),
+      older-marked (arguments (a .regular .now) (a .alternate .now)) (variables (a .regular .now) (a .alternate .now)) (a .seg .now) (inTable (a .arrays .now)) (l .base) (l .top) (l .left) more es (f .arguments) el (l .marks) (l .inv .5) (c .before .before .before .before .before .before .frame-cells .ensures .1 .0 yes) (c .if2 .left),
+      l .inv .6 ∙ frame-on (arguments (a .regular .now) (a .alternate .now)) (variables (a .regular .now) (a .alternate .now)) (a .seg .now) (inTable (a .arrays .now)) (l .base) (l .top) (l .left) more es (f .arguments) el (l .marks) (l .inv .5) q yes (c .if2 .left),
+      down-on (l .inv .7) _ el (c .before .before .before .before .before .before .frame-cells .ensures .1 .1 .0 yes) (omega (arith, k .0)) (omega arith) (c .before .before .before .before .before .before .frame-cells .ensures .1 .1 .1 yes),
+    )
+
+same-length-5 : tie.Need-same-length-5 Inv-loop μ-loop
+same-length-5 c = search needs
+
+same-length-6 : tie.Need-same-length-6 Inv-loop μ-loop
+same-length-6 c = search needs
+
+returns-3 : tie.Need-returns-3 Inv-loop μ-loop
+returns-3 c = (sym (c .before .loop .inv .6 ∙ cells-none _ _ _ _ _ _ _ (c .loop-test .left)), never)
 
 pub cells-from-spec : {M : Type 1} → statement M
 cells-from-spec =
@@ -23,18 +140,22 @@ cells-from-spec =
     (tie.spec
     Inv-loop
     μ-loop
-    (λ c. ((c .before .before .before .before .before .pre .0), (c .before .before .before .before .before .pre .1), refl, (c .before .before .before .before .before .pre .2), refl))
-    (λ c κs. search needs)
-    (λ c κs. search needs)
-    (λ c κs. search needs)
-    (λ c. search needs)
-    (λ c κs. (omega arith, omega (arith, (c .before .before .minus .ensures)), (c .before .before .before .before .before .before .loop .inv .0), (c .before .before .before .before .before .before .loop .inv .1), own-marked (arguments (c .before .before .before .before .before .before .before .before .before .before .before .before .args .regular .now) (c .before .before .before .before .before .before .before .before .before .before .before .before .args .alternate .now)) (variables (c .before .before .before .before .before .before .before .before .before .before .before .before .args .regular .now) (c .before .before .before .before .before .before .before .before .before .before .before .before .args .alternate .now)) (c .before .before .before .before .before .before .before .before .before .before .before .before .args .seg .now) (inTable (c .before .before .before .before .before .before .before .before .before .before .before .before .args .arrays .now)) (c .before .before .before .before .before .before .loop .base) (c .before .before .before .before .before .before .loop .top) (c .before .before .before .before .before .before .loop .left) (c .before .before .before .before .before .loop-test .taken) ((c .before .before .minus .ensures) ∙ ap (λ (v : ℕ). (c .before .before .before .before .before .before .loop .base) - v) ((rw (c .before .before .before .before .of .ensures) at (c .before .before .before .frame-at .ensures)) .variables)) ((rw (c .before .before .before .before .of .ensures) at (c .before .before .before .frame-at .ensures)) .arguments) ((rw (c .before .before .before .before .of .ensures) at (c .before .before .before .frame-at .ensures)) .last) (c .before .before .before .before .before .before .loop .marks) (c .before .before .before .before .before .before .loop .inv .3)))
-    (λ c. omega (arith, (c .before .before .before .before .before .before .before .before .before .before .loop .inv .2)))
-    (λ c. (sym ((c .before .before .before .before .before .before .before .before .before .before .loop .inv .4) ∙ frame-fails (arguments (c .before .before .before .before .before .before .before .before .before .before .before .before .before .before .before .before .args .regular .now) (c .before .before .before .before .before .before .before .before .before .before .before .before .before .before .before .before .args .alternate .now)) (variables (c .before .before .before .before .before .before .before .before .before .before .before .before .before .before .before .before .args .regular .now) (c .before .before .before .before .before .before .before .before .before .before .before .before .before .before .before .before .args .alternate .now)) (c .before .before .before .before .before .before .before .before .before .before .before .before .before .before .before .before .args .seg .now) (inTable (c .before .before .before .before .before .before .before .before .before .before .before .before .before .before .before .before .args .arrays .now)) (c .before .before .before .before .before .before .before .before .before .before .loop .base) (c .before .before .before .before .before .before .before .before .before .before .loop .top) (c .before .before .before .before .before .before .before .before .before .before .loop .left) (c .before .before .before .before .before .before .before .before .before .loop-test .taken) ((c .before .before .before .before .before .before .minus .ensures) ∙ ap (λ (v : ℕ). (c .before .before .before .before .before .before .before .before .before .before .loop .base) - v) ((rw (c .before .before .before .before .before .before .before .before .of .ensures) at (c .before .before .before .before .before .before .before .frame-at .ensures)) .variables)) ((rw (c .before .before .before .before .before .before .before .before .of .ensures) at (c .before .before .before .before .before .before .before .frame-at .ensures)) .arguments) ((rw (c .before .before .before .before .before .before .before .before .of .ensures) at (c .before .before .before .before .before .before .before .frame-at .ensures)) .last) (c .before .before .before .before .before .before .before .before .before .before .loop .marks) (c .before .before .before .before .before .before .before .before .before .before .loop .inv .3) (c .before .before .before .frame-cells .ensures .0) (not-true _ (c .if1 .taken))), never))
-    (λ c. omega (arith, (c .before .before .before .before .before .before .before .before .before .before .before .before .loop .inv .2)))
-    (λ c. (sym ((c .before .before .before .before .before .before .before .before .before .before .before .before .loop .inv .4) ∙ frame-bottom (arguments (c .before .before .before .before .before .before .before .before .before .before .before .before .before .before .before .before .before .before .args .regular .now) (c .before .before .before .before .before .before .before .before .before .before .before .before .before .before .before .before .before .before .args .alternate .now)) (variables (c .before .before .before .before .before .before .before .before .before .before .before .before .before .before .before .before .before .before .args .regular .now) (c .before .before .before .before .before .before .before .before .before .before .before .before .before .before .before .before .before .before .args .alternate .now)) (c .before .before .before .before .before .before .before .before .before .before .before .before .before .before .before .before .before .before .args .seg .now) (inTable (c .before .before .before .before .before .before .before .before .before .before .before .before .before .before .before .before .before .before .args .arrays .now)) (c .before .before .before .before .before .before .before .before .before .before .before .before .loop .base) (c .before .before .before .before .before .before .before .before .before .before .before .before .loop .top) (c .before .before .before .before .before .before .before .before .before .before .before .before .loop .left) (c .before .before .before .before .before .before .before .before .before .before .before .loop-test .taken) ((c .before .before .before .before .before .before .before .before .minus .ensures) ∙ ap (λ (v : ℕ). (c .before .before .before .before .before .before .before .before .before .before .before .before .loop .base) - v) ((rw (c .before .before .before .before .before .before .before .before .before .before .of .ensures) at (c .before .before .before .before .before .before .before .before .before .frame-at .ensures)) .variables)) ((rw (c .before .before .before .before .before .before .before .before .before .before .of .ensures) at (c .before .before .before .before .before .before .before .before .before .frame-at .ensures)) .arguments) ((rw (c .before .before .before .before .before .before .before .before .before .before .of .ensures) at (c .before .before .before .before .before .before .before .before .before .frame-at .ensures)) .last) (c .before .before .before .before .before .before .before .before .before .before .before .before .loop .marks) (c .before .before .before .before .before .before .before .before .before .before .before .before .loop .inv .3) (c .before .before .before .before .before .frame-cells .ensures .0) (not-false _ (c .before .before .if1 .left)) (c .if2 .taken)), λ e. bottom-clear (arguments (c .before .before .before .before .before .before .before .before .before .before .before .before .before .before .before .before .before .before .args .regular .now) (c .before .before .before .before .before .before .before .before .before .before .before .before .before .before .before .before .before .before .args .alternate .now)) (variables (c .before .before .before .before .before .before .before .before .before .before .before .before .before .before .before .before .before .before .args .regular .now) (c .before .before .before .before .before .before .before .before .before .before .before .before .before .before .before .before .before .before .args .alternate .now)) (c .before .before .before .before .before .before .before .before .before .before .before .before .before .before .before .before .before .before .args .seg .now) (inTable (c .before .before .before .before .before .before .before .before .before .before .before .before .before .before .before .before .before .before .args .arrays .now)) (c .before .before .before .before .before .before .before .before .before .before .before .before .loop .base) (c .before .before .before .before .before .before .before .before .before .before .before .before .loop .top) (c .before .before .before .before .before .before .before .before .before .before .before .before .loop .left) (c .before .before .before .before .before .before .before .before .before .before .before .loop-test .taken) ((c .before .before .before .before .before .before .before .before .minus .ensures) ∙ ap (λ (v : ℕ). (c .before .before .before .before .before .before .before .before .before .before .before .before .loop .base) - v) ((rw (c .before .before .before .before .before .before .before .before .before .before .of .ensures) at (c .before .before .before .before .before .before .before .before .before .frame-at .ensures)) .variables)) ((rw (c .before .before .before .before .before .before .before .before .before .before .of .ensures) at (c .before .before .before .before .before .before .before .before .before .frame-at .ensures)) .arguments) ((rw (c .before .before .before .before .before .before .before .before .before .before .of .ensures) at (c .before .before .before .before .before .before .before .before .before .frame-at .ensures)) .last) (c .before .before .before .before .before .before .before .before .before .before .before .before .loop .marks) (c .before .before .before .before .before .before .before .before .before .before .before .before .loop .inv .3) ((c .before .before .before .before .before .frame-cells .ensures .1) (not-false _ (c .before .before .if1 .left))) (c .if2 .taken)))
-    (λ c. search needs)
-    (λ c. search needs)
-    (λ c. (omega arith, omega (arith, (c .before .before .before .before .before .before .before .before .minus .ensures), (c .before .before .before .before .before .before .before .before .before .before .before .before .loop .inv .0)), omega (arith, (c .before .before .before .before .before .before .before .before .before .before .before .before .loop .inv .2)), older-marked (arguments (c .before .before .before .before .before .before .before .before .before .before .before .before .before .before .before .before .before .before .args .regular .now) (c .before .before .before .before .before .before .before .before .before .before .before .before .before .before .before .before .before .before .args .alternate .now)) (variables (c .before .before .before .before .before .before .before .before .before .before .before .before .before .before .before .before .before .before .args .regular .now) (c .before .before .before .before .before .before .before .before .before .before .before .before .before .before .before .before .before .before .args .alternate .now)) (c .before .before .before .before .before .before .before .before .before .before .before .before .before .before .before .before .before .before .args .seg .now) (inTable (c .before .before .before .before .before .before .before .before .before .before .before .before .before .before .before .before .before .before .args .arrays .now)) (c .before .before .before .before .before .before .before .before .before .before .before .before .loop .base) (c .before .before .before .before .before .before .before .before .before .before .before .before .loop .top) (c .before .before .before .before .before .before .before .before .before .before .before .before .loop .left) (c .before .before .before .before .before .before .before .before .before .before .before .loop-test .taken) ((c .before .before .before .before .before .before .before .before .minus .ensures) ∙ ap (λ (v : ℕ). (c .before .before .before .before .before .before .before .before .before .before .before .before .loop .base) - v) ((rw (c .before .before .before .before .before .before .before .before .before .before .of .ensures) at (c .before .before .before .before .before .before .before .before .before .frame-at .ensures)) .variables)) ((rw (c .before .before .before .before .before .before .before .before .before .before .of .ensures) at (c .before .before .before .before .before .before .before .before .before .frame-at .ensures)) .arguments) ((rw (c .before .before .before .before .before .before .before .before .before .before .of .ensures) at (c .before .before .before .before .before .before .before .before .before .frame-at .ensures)) .last) (c .before .before .before .before .before .before .before .before .before .before .before .before .loop .marks) (c .before .before .before .before .before .before .before .before .before .before .before .before .loop .inv .3) ((c .before .before .before .before .before .frame-cells .ensures .1) (not-false _ (c .before .before .if1 .left))) (c .if2 .left), (c .before .before .before .before .before .before .before .before .before .before .before .before .loop .inv .4) ∙ frame-on (arguments (c .before .before .before .before .before .before .before .before .before .before .before .before .before .before .before .before .before .before .args .regular .now) (c .before .before .before .before .before .before .before .before .before .before .before .before .before .before .before .before .before .before .args .alternate .now)) (variables (c .before .before .before .before .before .before .before .before .before .before .before .before .before .before .before .before .before .before .args .regular .now) (c .before .before .before .before .before .before .before .before .before .before .before .before .before .before .before .before .before .before .args .alternate .now)) (c .before .before .before .before .before .before .before .before .before .before .before .before .before .before .before .before .before .before .args .seg .now) (inTable (c .before .before .before .before .before .before .before .before .before .before .before .before .before .before .before .before .before .before .args .arrays .now)) (c .before .before .before .before .before .before .before .before .before .before .before .before .loop .base) (c .before .before .before .before .before .before .before .before .before .before .before .before .loop .top) (c .before .before .before .before .before .before .before .before .before .before .before .before .loop .left) (c .before .before .before .before .before .before .before .before .before .before .before .loop-test .taken) ((c .before .before .before .before .before .before .before .before .minus .ensures) ∙ ap (λ (v : ℕ). (c .before .before .before .before .before .before .before .before .before .before .before .before .loop .base) - v) ((rw (c .before .before .before .before .before .before .before .before .before .before .of .ensures) at (c .before .before .before .before .before .before .before .before .before .frame-at .ensures)) .variables)) ((rw (c .before .before .before .before .before .before .before .before .before .before .of .ensures) at (c .before .before .before .before .before .before .before .before .before .frame-at .ensures)) .arguments) ((rw (c .before .before .before .before .before .before .before .before .before .before .of .ensures) at (c .before .before .before .before .before .before .before .before .before .frame-at .ensures)) .last) (c .before .before .before .before .before .before .before .before .before .before .before .before .loop .marks) (c .before .before .before .before .before .before .before .before .before .before .before .before .loop .inv .3) (c .before .before .before .before .before .frame-cells .ensures .0) (not-false _ (c .before .before .if1 .left)) (c .if2 .left)))
-    (λ c. (c .before .loop .inv .2))
-    (λ c. (sym ((c .before .loop .inv .4) ∙ cells-none _ _ _ _ _ _ _ (c .loop-test .left)), never)))
+    loop-holds
+    of-requires
+    frame-at-requires
+    number-requires
+    sub-start
+    cast-frame-cells
+    frame-cells-requires
+    same-length
+    same-length-2
+    returns
+    same-length-3
+    same-length-4
+    returns-2
+    sub-left
+    loop-less
+    loop-again
+    same-length-5
+    same-length-6
+    returns-3)

@@ -1,19 +1,52 @@
+use Prim.Native.Nat.{_-_}
+use mathlib.Core.Path.{_≡_, refl}
 use borrow.Author.Needs.{needs}
-use mathlib.Core.Path.{_≡_, refl, sym, _∙_}
-use Prim.Native.Nat.{_+_, _-_}
-use native.Mathlib.Omega.{arith}
 use borrow.Author.Tests.{not-true, not-false}
-use Rattle.storage_tests.specs.Tests.{words}
+use lib.ListN.{length}
 use Rattle.acceptance.specs.Cells.{inTable, freeCell}
-use Rattle.acceptance.proofs.Words.{words-none, words-pass, words-fail}
+use Rattle.acceptance.proofs.Meeting.{Meeting, meeting-start, meeting-room, meeting-bad, meeting-on, meeting-done, free-alike}
+use Rattle.acceptance.proofs.FrameCells.{never}
 use Rattle.acceptance.proofs.cells.free_cells.Statement.{statement}
 use Rattle.acceptance.proofs.cells.free_cells.Tie as tie
 
 abbrev Inv-loop : tie.InvT-loop
-Inv-loop seg arrays variables from count i₀ left₀ i left = (i + left ≡ from + count) × (words count (freeCell seg (inTable arrays) (inTable variables)) seg from ≡ words left (freeCell seg (inTable arrays) (inTable variables)) seg i)
+Inv-loop seg cells variables arrays₀ i₀ arrays i = (length arrays ≡ length arrays₀) × Meeting (λ table. freeCell seg table (inTable variables)) arrays₀ arrays cells i
 
 abbrev μ-loop : tie.MeasureT-loop
-μ-loop seg arrays variables from count i₀ left₀ i left = left
+μ-loop seg cells variables arrays₀ i₀ arrays i = length cells - i
+
+loop-holds : tie.Need-loop-holds Inv-loop μ-loop
+loop-holds c = (refl, meeting-start _ _ _)
+
+mul-is-proper : tie.Need-mul-is-proper Inv-loop μ-loop
+mul-is-proper c = search needs
+
+shared-slice-read-is-proper : tie.Need-shared-slice-read-is-proper Inv-loop μ-loop
+shared-slice-read-is-proper c = search needs
+
+is-proper-requires : tie.Need-is-proper-requires Inv-loop μ-loop
+is-proper-requires c κs = meeting-room (c .before .before .before .loop .inv .1) (c .before .before .loop-test .taken) (c .before .before .before .before .before .before .before .before .pre)
+
+same-length : tie.Need-same-length Inv-loop μ-loop
+same-length c = search needs
+
+returns : tie.Need-returns Inv-loop μ-loop
+returns c = (meeting-bad (c .before .before .before .before .before .before .before .loop .inv .1) (c .before .before .before .before .before .before .loop-test .taken) (free-alike (c .before .before .before .before .before .before .before .before .before .before .before .before .args .seg .now) (inTable (c .before .before .before .before .before .before .before .before .before .before .before .before .args .variables .now))) (c .before .before .before .is-proper .ensures .0) (not-true _ (c .if1 .taken)), (never, never))
+
+add-i : tie.Need-add-i Inv-loop μ-loop
+add-i c = search needs
+
+loop-less : tie.Need-loop-less Inv-loop μ-loop
+loop-less c = search needs
+
+loop-again : tie.Need-loop-again Inv-loop μ-loop
+loop-again c = (search needs, meeting-on (c .before .before .before .before .before .before .before .loop .inv .1) (c .before .before .before .before .before .before .loop-test .taken) (free-alike (c .before .before .before .before .before .before .before .before .before .before .before .before .args .seg .now) (inTable (c .before .before .before .before .before .before .before .before .before .before .before .before .args .variables .now))) (c .before .before .before .is-proper .ensures .0) (not-false _ (c .if1 .left)) (c .before .before .before .is-proper .ensures .1))
+
+same-length-2 : tie.Need-same-length-2 Inv-loop μ-loop
+same-length-2 c = search needs
+
+returns-2 : tie.Need-returns-2 Inv-loop μ-loop
+returns-2 c = meeting-done (c .before .loop .inv .1) (c .loop-test .left)
 
 pub free-cells-spec : {M : Type 1} → statement M
 free-cells-spec =
@@ -21,12 +54,14 @@ free-cells-spec =
     (tie.spec
     Inv-loop
     μ-loop
-    (λ c. (refl, refl))
-    (λ c κs. search needs)
-    (λ c κs. search needs)
-    (λ c. sym ((c .before .before .before .before .loop .inv .1) ∙ words-fail _ _ _ _ (c .before .before .before .loop-test .taken) (c .before .before .word .ensures) (sym (c .before .is-proper .ensures) ∙ not-true _ (c .if1 .taken))))
-    (λ c. search needs)
-    (λ c. search needs)
-    (λ c. search needs)
-    (λ c. (omega arith, (c .before .before .before .before .loop .inv .1) ∙ words-pass _ _ _ _ (c .before .before .before .loop-test .taken) (c .before .before .word .ensures) (sym (c .before .is-proper .ensures) ∙ not-false _ (c .if1 .left))))
-    (λ c. sym ((c .before .loop .inv .1) ∙ words-none _ _ _ _ (c .loop-test .left))))
+    loop-holds
+    mul-is-proper
+    shared-slice-read-is-proper
+    is-proper-requires
+    same-length
+    returns
+    add-i
+    loop-less
+    loop-again
+    same-length-2
+    returns-2)

@@ -1,19 +1,48 @@
+use mathlib.Core.Path.{_∙_}
+use native.Mathlib.Omega.{arith}
 use borrow.Author.Needs.{needs}
-use borrow.Author.Tests.{eq-eqb, ne-eqb}
-use Rattle.acceptance.specs.Cells.{direct}
+use Rattle.acceptance.specs.Cells.{inTable}
+use Rattle.acceptance.proofs.Meeting.{meet-other, meet-array, direct-small, direct-array, direct-undefined, direct-scalar}
 use Rattle.acceptance.proofs.cells.is_direct.Statement.{statement}
 use Rattle.acceptance.proofs.cells.is_direct.Tie as tie
 
+returns : tie.Need-returns
+returns c = (direct-small (inTable (c .before .before .args .arrays .now)) (c .before .before .args .w) (search needs) (c .if1 .taken), meet-other (c .before .before .args .arrays .now) (c .before .before .args .w) (λ z. omega arith))
+
+cast-raise-marked : tie.Need-cast-raise-marked
+cast-raise-marked c = search needs
+
+raise-marked-requires : tie.Need-raise-marked-requires
+raise-marked-requires c κs = c .before .before .before .before .pre _
+
+same-length : tie.Need-same-length
+same-length c = search needs
+
+returns-2 : tie.Need-returns-2
+returns-2 c = (c .before .before .raise-marked .ensures .0 ∙ direct-array (inTable (c .before .before .before .before .before .before .before .args .arrays .now)) (c .before .before .before .before .before .before .before .args .w) (search needs) (c .before .before .before .before .if2 .taken), c .before .before .raise-marked .ensures .1 ∙ meet-array (c .before .before .before .before .before .before .before .args .arrays .now) (c .before .before .before .before .before .before .before .args .w) (c .before .before .before .before .if2 .taken))
+
+returns-3 : tie.Need-returns-3
+returns-3 c = (direct-undefined (inTable (c .before .before .before .before .args .arrays .now)) (c .before .before .before .before .args .w) (search needs) (c .if3 .taken), meet-other (c .before .before .before .before .args .arrays .now) (c .before .before .before .before .args .w) (c .before .if2 .left))
+
+of-requires : tie.Need-of-requires
+of-requires c κs = search needs
+
+is-scalar-requires : tie.Need-is-scalar-requires
+is-scalar-requires c κs = search needs
+
+returns-4 : tie.Need-returns-4
+returns-4 c = ((cc) ∙ direct-scalar (inTable (c .before .before .before .before .before .before .args .arrays .now)) (c .before .before .before .before .before .before .args .w) (search needs) (c .before .before .before .if2 .left) (c .before .before .if3 .left), meet-other (c .before .before .before .before .before .before .args .arrays .now) (c .before .before .before .before .before .before .args .w) (c .before .before .before .if2 .left))
+
 pub is-direct-spec : {M : Type 1} → statement M
-unfolding direct
 is-direct-spec =
     tie.close
     (tie.spec
-    (λ c κs. search needs)
-    (λ c κs. search needs)
-    (λ c. simp (← (c .before .before .of .ensures), ← (c .before .is-scalar .ensures), (c .if1 .taken)))
-    (λ c. simp (← (c .before .before .before .of .ensures), ← (c .before .before .is-scalar .ensures), (c .before .if1 .left), eq-eqb _ _ (c .if2 .taken)))
-    (λ c. simp (← (c .before .before .before .before .of .ensures), ← (c .before .before .before .is-scalar .ensures), (c .before .before .if1 .left), ne-eqb _ _ (c .before .if2 .left), ne-eqb _ _ (c .if3 .taken)))
-    (λ c. search needs)
-    (λ c κs. search needs)
-    (λ c. simp (← (c .before .before .before .before .before .of .ensures), ← (c .before .before .before .before .is-scalar .ensures), (c .before .before .before .if1 .left), ne-eqb _ _ (c .before .before .if2 .left), eq-eqb _ _ (c .before .if3 .left), (c .mark-at .ensures))))
+    returns
+    cast-raise-marked
+    raise-marked-requires
+    same-length
+    returns-2
+    returns-3
+    of-requires
+    is-scalar-requires
+    returns-4)

@@ -1,6 +1,8 @@
+use mathlib.Core.Path.{sym, _∙_}
 use borrow.Author.Needs.{needs}
-use borrow.Author.Tests.{le-leb, lt-leb}
+use borrow.Author.Tests.{lt-leb}
 use Rattle.acceptance.specs.Counts.{countTest}
+use Rattle.acceptance.proofs.Compared.{counted}
 use Rattle.acceptance.proofs.counts.is_counted.Statement.{statement}
 use Rattle.acceptance.proofs.counts.is_counted.Tie as tie
 
@@ -17,15 +19,25 @@ returns-2 : tie.Need-returns-2
 unfolding countTest
 returns-2 c = simp (← (c .before .before .before .free-at .ensures), c .before .before .if1 .left, ← (c .before .count .ensures), lt-leb _ _ (c .if2 .taken))
 
+cast-result : tie.Need-cast-result
+cast-result c = search needs
+
+add-result : tie.Need-add-result
+add-result c = search needs
+
 index-requires : tie.Need-index-requires
 index-requires c κs = search needs
 
 mark-at-requires : tie.Need-mark-at-requires
 mark-at-requires c κs = search needs
 
+cast-result-2 : tie.Need-cast-result-2
+cast-result-2 c = search needs
+
 returns-3 : tie.Need-returns-3
-unfolding countTest
-returns-3 c = simp (← (c .before .before .before .before .before .free-at .ensures), c .before .before .before .before .if1 .left, ← (c .before .before .before .count .ensures), le-leb _ _ (c .before .before .if2 .left), c .mark-at .ensures, c .before .index .ensures, c .before .before .before .before .before .before .before .before .pre)
+returns-3 c =
+    let f = sym (c .before .before .before .before .before .free-at .ensures) ∙ c .before .before .before .before .if1 .left in
+    counted (c .before .before .before .before .before .before .before .before .args .seg .now) (c .before .before .before .before .before .before .before .before .args .block .0) (c .before .before .before .count .result) (c .mark-at .result) f (c .before .before .before .count .ensures) (c .before .before .if2 .left) (c .mark-at .ensures ∙ rw (c .before .index .ensures) (c .before .before .before .before .before .before .before .before .pre f))
 
 pub is-counted-spec : {M : Type 1} → statement M
 is-counted-spec =
@@ -35,6 +47,9 @@ is-counted-spec =
     returns
     count-requires
     returns-2
+    cast-result
+    add-result
     index-requires
     mark-at-requires
+    cast-result-2
     returns-3)

@@ -3,17 +3,51 @@ use Rattle.acceptance.proofs.Chain.{header-arguments, header-variables}
 use Rattle.acceptance.proofs.frames.frame_at.Statement.{statement}
 use Rattle.acceptance.proofs.frames.frame_at.Tie as tie
 
+sbase-requires : tie.Need-sbase-requires
+sbase-requires c κs = search needs
+
+index-requires : tie.Need-index-requires
+index-requires c κs = search needs
+
+add-word : tie.Need-add-word
+add-word c = search needs
+
+word-requires : tie.Need-word-requires
+word-requires c κs = search needs
+
+header-of-requires : tie.Need-header-of-requires
+header-of-requires c κs = search needs
+
+word-requires-2 : tie.Need-word-requires-2
+word-requires-2 c κs = search needs
+
+of-requires : tie.Need-of-requires
+of-requires c κs = search needs
+
+cast-t12 : tie.Need-cast-t12
+cast-t12 c = search needs
+
+cast-t13 : tie.Need-cast-t13
+cast-t13 c = search needs
+
+add-t14 : tie.Need-add-t14
+add-t14 c = search needs
+
+returns : tie.Need-returns
+returns c = record { last = (cc); code = (cc); arguments = header-arguments _ _ (c .before .before .before .before .before .word .result) (c .before .before .before .before .header-of .ensures) (cc); variables = header-variables _ _ (c .before .before .before .before .before .word .result) (c .before .before .before .before .header-of .ensures) (cc) }
+
 pub frame-at-spec : {M : Type 1} → statement M
 frame-at-spec =
     tie.close
     (tie.spec
-    (λ c κs. search needs)
-    (λ c κs. search needs)
-    (λ c. search needs)
-    (λ c κs. search needs)
-    (λ c κs. search needs)
-    (λ c κs. search needs)
-    (λ c. search needs)
-    (λ c. search needs)
-    (λ c. search needs)
-    (λ c. record { last = (cc); code = (cc); arguments = header-arguments _ _ (c .before .before .before .before .word .result) (c .before .before .before .header-of .ensures) (cc); variables = header-variables _ _ (c .before .before .before .before .word .result) (c .before .before .before .header-of .ensures) (cc) }))
+    sbase-requires
+    index-requires
+    add-word
+    word-requires
+    header-of-requires
+    word-requires-2
+    of-requires
+    cast-t12
+    cast-t13
+    add-t14
+    returns)

@@ -1,17 +1,59 @@
-use borrow.Author.Needs.{needs}
-use mathlib.Core.Path.{_∙_, ap}
 use Prim.Native.Nat.{ℕ, _-_, _<_}
+use mathlib.Core.Path.{_∙_, ap}
 use native.Mathlib.Omega.{arith}
+use borrow.Author.Needs.{needs}
 use Rattle.acceptance.specs.Frames.{variables}
 use Rattle.acceptance.proofs.VariableMarks.{Marked, marked-start, marked-none, marked-bottom, marked-on}
 use Rattle.acceptance.proofs.variables.mark_variables.Statement.{statement}
 use Rattle.acceptance.proofs.variables.mark_variables.Tie as tie
 
 abbrev Inv-loop : tie.InvT-loop
-Inv-loop seg regular alternate from marks₀ base₀ left₀ marks base left = (base < 16384) × Marked (variables regular alternate) seg from marks₀ marks base left
+Inv-loop seg regular alternate marks₀ base₀ left₀ marks base left = (base < 16384) × Marked (variables regular alternate) seg base₀ marks₀ marks base left
 
 abbrev μ-loop : tie.MeasureT-loop
-μ-loop seg regular alternate from marks₀ base₀ left₀ marks base left = left
+μ-loop seg regular alternate marks₀ base₀ left₀ marks base left = left
+
+number-requires : tie.Need-number-requires Inv-loop μ-loop
+number-requires c κs = search needs
+
+loop-holds : tie.Need-loop-holds Inv-loop μ-loop
+loop-holds c = (omega arith, marked-start _ _ _ _ (omega arith) (omega arith) (c .before .before .before .before .before .pre .2))
+
+of-requires : tie.Need-of-requires Inv-loop μ-loop
+of-requires c κs = search needs
+
+frame-at-requires : tie.Need-frame-at-requires Inv-loop μ-loop
+frame-at-requires c κs = search needs
+
+minus-requires : tie.Need-minus-requires Inv-loop μ-loop
+minus-requires c κs = search needs
+
+mark-requires : tie.Need-mark-requires Inv-loop μ-loop
+mark-requires c κs = (omega (arith, c .before .before .before .before .before .loop .inv .1 .low), λ x. omega (arith, c .before .before .before .before .before .loop .inv .1 .room x))
+
+number-requires-2 : tie.Need-number-requires-2 Inv-loop μ-loop
+number-requires-2 c κs = search needs
+
+same-length : tie.Need-same-length Inv-loop μ-loop
+same-length c = omega (arith, c .before .before .before .before .before .before .before .before .before .before .loop .inv .1 .long)
+
+returns : tie.Need-returns Inv-loop μ-loop
+returns c = rw (← (c .before .before .before .before .before .before .before .before .before .before .before .number .ensures)) (marked-bottom (c .before .before .before .before .before .before .before .before .before .before .loop .inv .1) (c .before .before .before .before .before .before .before .before .before .loop-test .taken) (c .before .before .before .before .before .before .minus .ensures ∙ ap (λ (v : ℕ). c .before .before .before .before .before .before .before .before .before .before .loop .base - v) ((rw (c .before .before .before .before .before .before .before .before .of .ensures) at (c .before .before .before .before .before .before .before .frame-at .ensures)) .variables)) (c .before .number2 .ensures ∙ (rw (c .before .before .before .before .before .before .before .before .of .ensures) at (c .before .before .before .before .before .before .before .frame-at .ensures)) .last) (c .before .before .before .before .mark .ensures) (c .if1 .taken))
+
+sub-left : tie.Need-sub-left Inv-loop μ-loop
+sub-left c = search needs
+
+loop-less : tie.Need-loop-less Inv-loop μ-loop
+loop-less c = search needs
+
+loop-again : tie.Need-loop-again Inv-loop μ-loop
+loop-again c = (omega arith, marked-on (c .before .before .before .before .before .before .before .before .before .before .loop .inv .1) (c .before .before .before .before .before .before .before .before .before .loop-test .taken) (c .before .before .before .before .before .before .minus .ensures ∙ ap (λ (v : ℕ). c .before .before .before .before .before .before .before .before .before .before .loop .base - v) ((rw (c .before .before .before .before .before .before .before .before .of .ensures) at (c .before .before .before .before .before .before .before .frame-at .ensures)) .variables)) (c .before .number2 .ensures ∙ (rw (c .before .before .before .before .before .before .before .before .of .ensures) at (c .before .before .before .before .before .before .before .frame-at .ensures)) .last) (c .before .before .before .before .mark .ensures) (c .if1 .left) (search needs))
+
+same-length-2 : tie.Need-same-length-2 Inv-loop μ-loop
+same-length-2 c = c .before .loop .inv .1 .long
+
+returns-2 : tie.Need-returns-2 Inv-loop μ-loop
+returns-2 c = rw (← (c .before .before .number .ensures)) (marked-none (c .before .loop .inv .1) (c .loop-test .left))
 
 pub mark-variables-spec : {M : Type 1} → statement M
 mark-variables-spec =
@@ -19,15 +61,17 @@ mark-variables-spec =
     (tie.spec
     Inv-loop
     μ-loop
-    (λ c. ((c .before .before .before .before .pre .0), marked-start _ _ _ _ (c .before .before .before .before .pre .0) (c .before .before .before .before .pre .1) (c .before .before .before .before .pre .2)))
-    (λ c κs. search needs)
-    (λ c κs. search needs)
-    (λ c κs. search needs)
-    (λ c κs. (omega (arith, (c .before .before .before .before .before .loop .inv .1 .low)), λ x. omega (arith, (c .before .before .before .before .before .loop .inv .1 .room) x)))
-    (λ c. omega (arith, (c .before .before .before .before .before .before .before .before .before .before .loop .inv .1 .long)))
-    (λ c. marked-bottom (c .before .before .before .before .before .before .before .before .before .before .loop .inv .1) (c .before .before .before .before .before .before .before .before .before .loop-test .taken) ((c .before .before .before .before .before .before .minus .ensures) ∙ ap (λ (v : ℕ). (c .before .before .before .before .before .before .before .before .before .before .loop .base) - v) ((rw (c .before .before .before .before .before .before .before .before .of .ensures) at (c .before .before .before .before .before .before .before .frame-at .ensures)) .variables)) ((rw (c .before .before .before .before .before .before .before .before .of .ensures) at (c .before .before .before .before .before .before .before .frame-at .ensures)) .last) (c .before .before .before .before .mark .ensures) (c .if1 .taken))
-    (λ c. search needs)
-    (λ c. search needs)
-    (λ c. (omega arith, marked-on (c .before .before .before .before .before .before .before .before .before .before .loop .inv .1) (c .before .before .before .before .before .before .before .before .before .loop-test .taken) ((c .before .before .before .before .before .before .minus .ensures) ∙ ap (λ (v : ℕ). (c .before .before .before .before .before .before .before .before .before .before .loop .base) - v) ((rw (c .before .before .before .before .before .before .before .before .of .ensures) at (c .before .before .before .before .before .before .before .frame-at .ensures)) .variables)) ((rw (c .before .before .before .before .before .before .before .before .of .ensures) at (c .before .before .before .before .before .before .before .frame-at .ensures)) .last) (c .before .before .before .before .mark .ensures) (c .if1 .left) (search needs)))
-    (λ c. (c .before .loop .inv .1 .long))
-    (λ c. marked-none (c .before .loop .inv .1) (c .loop-test .left)))
+    number-requires
+    loop-holds
+    of-requires
+    frame-at-requires
+    minus-requires
+    mark-requires
+    number-requires-2
+    same-length
+    returns
+    sub-left
+    loop-less
+    loop-again
+    same-length-2
+    returns-2)

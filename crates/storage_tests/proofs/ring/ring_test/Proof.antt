@@ -1,5 +1,4 @@
 use Rattle.storage_tests.proofs.Tests.{never}
-use Prim.Native.Nat.{_-_}
 use mathlib.Core.Path.{sym, _∙_}
 use borrow.Author.Tests.{not-true, not-false}
 use Rattle.storage_tests.proofs.Rounds.{ring-off, ring-on}

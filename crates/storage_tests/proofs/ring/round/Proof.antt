@@ -1,6 +1,5 @@
 use Rattle.storage_tests.proofs.Tests.{never}
 use lib.ListN.{length}
-use Prim.Native.Nat.{_-_, _<_}
 use mathlib.Core.Path.{_≡_, refl, sym, _∙_}
 use native.Mathlib.Omega.{arith}
 use borrow.Author.Needs.{needs}

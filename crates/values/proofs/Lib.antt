@@ -1,0 +1,8 @@
+-- Laws of the crate.
+pub mod Carrying
+pub mod Taking
+pub mod Few
+pub mod Fronts
+pub mod Elementwise
+pub mod Vectors
+pub mod Indexing
