@@ -83,6 +83,6 @@ module _ (s : List ℕ) (p : Procedures) (l : Layout) where
   pub lay-out-words : layOutRefusal s (p .regular) (p .other) l ≡ 0 → Words (laidOut s (p .regular) (p .other) l)
   lay-out-words e =
       let k = passed (p .regular) (p .other) l s e in
-      let w : wordOf l < 2 ^ 32 = omega (arith, word-made (k .function), k .function .selector, k .function .number) in
+      let w : wordOf l < 2 ^ 32 = omega (arith, word-made l (k .function .selector), k .function .selector, k .function .number) in
       subst Words (sym (laid-out (p .regular) (p .other) l s e))
       (fresh-words (length s) (localsOf (p .regular) (p .other) l) (wordOf l) l (k .room) w)

@@ -96,20 +96,14 @@ gives s (l ∷ lengths) ravel h =
 
 -- ---- storage full
 
-module _ (b : Bool) (n : ℕ) (some : n ≢ 0) where
-  full-asked : (s : List ℕ) → cond (eqb (cond b n 0) 0) false (noneFor s (cond b n 0)) ≡ cond b (noneFor s n) false
-  full-asked s = go b
-    where
-      go : (c : Bool) → cond (eqb (cond c n 0) 0) false (noneFor s (cond c n 0)) ≡ cond c (noneFor s n) false
-      go true = rw (ne-eqb n 0 some)
-      go false = refl
+full-asked : (b : Bool) (n : ℕ) → n ≢ 0 → (s : List ℕ) → cond (eqb (cond b n 0) 0) false (noneFor s (cond b n 0)) ≡ cond b (noneFor s n) false
+full-asked true n some s = rw (ne-eqb n 0 some)
+full-asked false n some s = refl
 
-  vain-asked : (blocks : List Block) → ((cond b n 0 ≢ 0) × (HasRoom blocks (cond b n 0) → ⊥)) ↔ ((b ≡ true) × (HasRoom blocks n → ⊥))
-  vain-asked blocks = go b
-    where
-      go : (c : Bool) → ((cond c n 0 ≢ 0) × (HasRoom blocks (cond c n 0) → ⊥)) ↔ ((c ≡ true) × (HasRoom blocks n → ⊥))
-      go true = (λ h. (refl, h .1), λ h. (some, h .1))
-      go false = (λ h. absurd (h .0 refl), λ h. never (sym (h .0)))
+vain-asked : (b : Bool) (n : ℕ) → n ≢ 0 → (blocks : List Block)
+    → ((cond b n 0 ≢ 0) × (HasRoom blocks (cond b n 0) → ⊥)) ↔ ((b ≡ true) × (HasRoom blocks n → ⊥))
+vain-asked true n some blocks = (λ h. (refl, h .1), λ h. (some, h .1))
+vain-asked false n some blocks = (λ h. absurd (h .0 refl), λ h. never (sym (h .0)))
 
 -- ---- the call
 
