@@ -1,4 +1,5 @@
 // Answers on standard output, a line each.
+use crate::session::first_bytes;
 use libc::STDOUT_FILENO;
 use script::explain::Last;
 use script::explain::put_last;
@@ -142,4 +143,11 @@ fn flush(out: &[u8], at: usize) {
     if at <= out.len() {
         io::write_all(STDOUT_FILENO, &out[0..at]);
     }
+}
+
+// Told on standard error, with the reason why the last call failed.
+pub fn cannot_read(name: &[u8], out: &mut [u8]) {
+    let a = put(out, 0, b"crms: cannot read ");
+    let b = put(out, a, name);
+    os::fail(first_bytes(out, b));
 }
