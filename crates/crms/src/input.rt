@@ -22,7 +22,17 @@ pub fn obey_all(
     out: &mut [u8],
 ) {
     let mut buffer = io::large_buffer();
-    let session = read_all(fd, name, &mut buffer, line, numbers, data, regular, alternate, out);
+    let session = read_all(
+        fd,
+        name,
+        &mut buffer,
+        line,
+        numbers,
+        data,
+        regular,
+        alternate,
+        out,
+    );
     end_line(session, line, numbers, data, regular, alternate, out);
 }
 
@@ -50,7 +60,16 @@ fn read_all(
         if n == 0 {
             return session;
         }
-        session = take(session, &buffer[..n], line, numbers, data, regular, alternate, out);
+        session = take(
+            session,
+            &buffer[..n],
+            line,
+            numbers,
+            data,
+            regular,
+            alternate,
+            out,
+        );
         left -= 1;
     }
     session
@@ -71,14 +90,40 @@ fn take(
     let mut at = 0;
     while at < bytes.len() {
         let end = line_end(bytes, at);
-        session = hold(session, &bytes[at..end], line);
-        if bytes.len() <= end {
-            return session;
-        }
-        session = end_line(session, line, numbers, data, regular, alternate, out);
-        at = end + 1;
+        let next = end + 1;
+        session = take_part(
+            session,
+            &bytes[at..end],
+            end < bytes.len(),
+            line,
+            numbers,
+            data,
+            regular,
+            alternate,
+            out,
+        );
+        at = next;
     }
     session
+}
+
+// Bytes of one line, which may end with them.
+fn take_part(
+    session: Session,
+    part: &[u8],
+    ends: bool,
+    line: &mut [u8],
+    numbers: &mut [u32],
+    data: &mut [u32],
+    regular: &mut [u8],
+    alternate: &mut [u8],
+    out: &mut [u8],
+) -> Session {
+    let longer = hold(session, part, line);
+    if ends {
+        return end_line(longer, line, numbers, data, regular, alternate, out);
+    }
+    longer
 }
 
 // More bytes of a line; of one that is too long the beginning is kept.

@@ -23,10 +23,27 @@ fn main() {
     let mut out = io::large_buffer();
     let count = os::arg_count();
     if count < 2 {
-        obey_all(STDIN_FILENO, b"standard input", &mut line, &mut numbers, &mut data, &mut regular, &mut alternate, &mut out);
+        obey_all(
+            STDIN_FILENO,
+            b"standard input",
+            &mut line,
+            &mut numbers,
+            &mut data,
+            &mut regular,
+            &mut alternate,
+            &mut out,
+        );
         return;
     }
-    obey_arguments(count, &mut line, &mut numbers, &mut data, &mut regular, &mut alternate, &mut out);
+    obey_arguments(
+        count,
+        &mut line,
+        &mut numbers,
+        &mut data,
+        &mut regular,
+        &mut alternate,
+        &mut out,
+    );
 }
 
 fn obey_arguments(
