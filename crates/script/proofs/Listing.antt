@@ -27,8 +27,8 @@ turn base line left at n out token =
     cond (eqb (token .start) (token .end)) (listed (Numbers n at) out)
     (withNumber (numberIn base (textOf line token))
     (λ value.
-        cond (leb (length out) n) (listed (Wrong PastEnd token) out)
-        (numbersAt base line left (token .end) (n + 1) (set out n value)))
+    cond (leb (length out) n) (listed (Wrong PastEnd token) out)
+    (numbersAt base line left (token .end) (n + 1) (set out n value)))
     (λ fault. listed (Wrong fault token) out))
 
 turn-is : (base : Base) (line : List ℕ) (left at n : ℕ) (out : List ℕ) → 0 < left → turn base line (left - 1) at n out (tokenAt line at) ≡ numbersAt base line left at n out

@@ -112,8 +112,8 @@ sets-after o at a b r e =
     ⊎-elim
     (λ (h : at + length a - length o ≡ 0). let s : r ≡ at + length a = omega arith in rw s (sym (sets-append o at a b)))
     (λ (h : 0 < at + length a - length o).
-        sets-past (sets o at a) b r (at + length a) (rw (length-sets o at a) (omega arith)) (rw (length-sets o at a) (omega arith))
-        ∙ sym (sets-append o at a b))
+    sets-past (sets o at a) b r (at + length a) (rw (length-sets o at a) (omega arith)) (rw (length-sets o at a) (omega arith))
+    ∙ sym (sets-append o at a b))
     (eq-zero-or-pos (at + length a - length o))
 
 writes-after : (o : List ℕ) (at : ℕ) (a b : List ℕ) (r : ℕ) (out : List ℕ) → wrote r out ≡ writes o at a → writes out r b ≡ writes o at (a ++ b)

@@ -1,6 +1,6 @@
 -- Statuses and traps in words: the former by document 01's table of returned numbers, the latter by the manual's appendix of
 -- trap classes and numbers. A reader must believe: the tables are theirs. Assumes nothing.
-use Prim.Native.Nat.{ℕ}
+use Prim.Native.Nat.{ℕ, _+_, _*_}
 use Prim.Native.String.{String}
 use mathlib.Core.Path.{_≡_, refl}
 use mathlib.Core.Bool.{cond}
@@ -47,83 +47,63 @@ statusWords n =
     ∷ [])
     (laterWords n)
 
-unfoldable pub storageWords : ℕ → String
-storageWords n =
-    lookup n
-    ((1, "storage overflow: the runtime stack")
-    ∷ (2, "storage overflow: array block storage")
+-- Operands, values, subscripts and variables. A trap stands as in word 3: its class in the high byte, its number in the low one.
+unfoldable pub valueWords : ℕ → String
+valueWords word =
+    lookup word
+    ((0x0500, "rank error")
+    ∷ (0x0600, "length error")
+    ∷ (0x0700, "type error: a character where a number is wanted")
+    ∷ (0x0801, "domain error: integer overflow")
+    ∷ (0x0802, "domain error: floating-point exponent underflow")
+    ∷ (0x0803, "domain error: floating-point exponent overflow")
+    ∷ (0x0804, "domain error: division by zero")
+    ∷ (0x0805, "domain error: another value that does not serve")
+    ∷ (0x0901, "index error: the wrong number of subscripts")
+    ∷ (0x0902, "index error: a subscript is too large or small")
+    ∷ (0x0a00, "value error: an undefined variable or result")
     ∷ [])
     "no such trap"
 
-unfoldable pub debugWords : ℕ → String
-debugWords n =
-    lookup n
-    ((1, "debug: an instruction was completed in step mode")
-    ∷ (2, "debug: a function was called in call-trace mode")
-    ∷ (3, "debug: a function returned in return-trace mode")
-    ∷ (4, "debug: a breakpoint")
-    ∷ [])
-    "no such trap"
-
+-- System errors.
 unfoldable pub systemWords : ℕ → String
-systemWords n =
-    lookup n
-    ((1, "system error: a procedure segment address is too large")
-    ∷ (2, "system error: a stack address is too large")
-    ∷ (3, "system error: a global variable or array block address is too large")
-    ∷ (4, "system error: an operand is missing")
-    ∷ (5, "system error: an operand of a kind unknown to the instruction")
-    ∷ (6, "system error: double indirection")
-    ∷ (7, "system error: a malformed MEMREF instruction")
-    ∷ (8, "system error: an undefined MEMREF suboperation")
-    ∷ (9, "system error: an undefined GENSCALAR suboperation")
-    ∷ (10, "system error: OPWE is too large on an interrupt's restart")
-    ∷ (11, "system error: an undefined ETC suboperation")
-    ∷ (12, "system error: a temporary is still on the stack on return")
-    ∷ (13, "system error: a return from the bottom function")
+systemWords word =
+    lookup word
+    ((0x0301, "system error: code, a jump or a function outside its bounds")
+    ∷ (0x0302, "system error: a local outside its frame")
+    ∷ (0x0303, "system error: an address that is no global")
+    ∷ (0x0304, "system error: an operand is missing, or CALL's NARGS is not the header's")
+    ∷ (0x0305, "system error: a word not of the kind wanted")
+    ∷ (0x0306, "system error: double indirection")
+    ∷ (0x0307, "system error: a MEMREF address of no known form")
+    ∷ (0x0308, "system error: undefined MEMREF suboperation")
+    ∷ (0x0309, "system error: undefined GENSCALAR suboperation")
+    ∷ (0x030a, "system error: OPWE is too large on a restart")
+    ∷ (0x030b, "system error: undefined ETC suboperation or first byte")
+    ∷ (0x030c, "system error: temporaries left on return")
+    ∷ (0x030d, "system error: a return from the bottom frame")
     ∷ [])
-    "no such trap"
+    (valueWords word)
 
-unfoldable pub domainWords : ℕ → String
-domainWords n =
-    lookup n
-    ((1, "domain error: integer overflow")
-    ∷ (2, "domain error: floating-point exponent underflow")
-    ∷ (3, "domain error: floating-point exponent overflow")
-    ∷ (4, "domain error: division by zero")
-    ∷ (5, "domain error")
+-- Storage, debugging and attention.
+unfoldable pub trapWords : ℕ → String
+trapWords word =
+    lookup word
+    ((0x0101, "storage overflow: the stack is full")
+    ∷ (0x0102, "storage overflow: no free block is long enough")
+    ∷ (0x0201, "debug: an instruction was completed in step mode")
+    ∷ (0x0202, "debug: a function was called in call-trace mode")
+    ∷ (0x0203, "debug: a function was left in return-trace mode")
+    ∷ (0x0204, "debug: a breakpoint")
+    ∷ (0x0400, "attention")
     ∷ [])
-    "no such trap"
-
-unfoldable pub indexWords : ℕ → String
-indexWords n =
-    lookup n
-    ((1, "index error: the wrong number of subscripts")
-    ∷ (2, "index error: a subscript is too large or small")
-    ∷ [])
-    "no such trap"
-
-unfoldable pub trapWords : ℕ → ℕ → String
-trapWords class n =
-    lookup class
-    ((1, storageWords n)
-    ∷ (2, debugWords n)
-    ∷ (3, systemWords n)
-    ∷ (4, "attention")
-    ∷ (5, "rank error")
-    ∷ (6, "length error")
-    ∷ (7, "type error: a character where a number is expected")
-    ∷ (8, domainWords n)
-    ∷ (9, indexWords n)
-    ∷ (10, "value error")
-    ∷ [])
-    "no such trap"
+    (systemWords word)
 
 unfoldable pub statusText : ℕ → List ℕ
 statusText n = bytes "status " ++ decimal n ++ bytes ": " ++ bytes (statusWords n)
 
 unfoldable pub trapText : ℕ → ℕ → List ℕ
-trapText class n = bytes "trap (" ++ decimal class ++ bytes "," ++ decimal n ++ bytes "): " ++ bytes (trapWords class n)
+trapText class n = bytes "trap (" ++ decimal class ++ bytes "," ++ decimal n ++ bytes "): " ++ bytes (trapWords (class * 0x100 + n))
 
 unfoldable pub lastText : Last → List ℕ
 lastText Nothing = bytes "no status yet"
@@ -135,5 +115,5 @@ unfolding lastText statusText statusWords laterWords decimal
 undefined-global = refl
 
 by-zero : lastText (Trap 8 4) ≡ bytes "trap (8,4): domain error: division by zero"
-unfolding lastText trapText trapWords domainWords decimal
+unfolding lastText trapText trapWords systemWords valueWords decimal
 by-zero = refl

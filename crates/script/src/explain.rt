@@ -40,7 +40,7 @@ fn put_trap(out: &mut [u8], at: usize, class: u8, n: u8) -> usize
     let c = put(out, b, b",");
     let d = put_decimal(out, c, n as u32);
     let e = put(out, d, b"): ");
-    put_trap_words(out, e, class, n)
+    put_trap_words(out, e, class as u16 * 0x100 + n as u16)
 }
 
 fn put_status_words(out: &mut [u8], at: usize, n: u8) -> usize
@@ -102,114 +102,73 @@ fn put_later_words(out: &mut [u8], at: usize, n: u8) -> usize
     }
 }
 
-fn put_trap_words(out: &mut [u8], at: usize, class: u8, n: u8) -> usize
-    ensures { λ r. ⌜ wrote r (now (out .exit)) ≡ writes (now (out .entry)) at (bytes (meaning.trapWords class n)) ⌝ }
+// The words of a trap by word 3, its class in the high byte and its number in the low one: the traps of storage, of debugging
+// and of attention.
+fn put_trap_words(out: &mut [u8], at: usize, word: u16) -> usize
+    ensures { λ r. ⌜ wrote r (now (out .exit)) ≡ writes (now (out .entry)) at (bytes (meaning.trapWords word)) ⌝ }
 {
-    match class {
-        1 => put_storage_words(out, at, n),
-        2 => put_debug_words(out, at, n),
-        3 => put_system_words(out, at, n),
-        4 => put(out, at, b"attention"),
-        5 => put(out, at, b"rank error"),
-        6 => put(out, at, b"length error"),
-        7 => put(
-            out,
-            at,
-            b"type error: a character where a number is expected",
-        ),
-        8 => put_domain_words(out, at, n),
-        9 => put_index_words(out, at, n),
-        10 => put(out, at, b"value error"),
-        _ => put(out, at, b"no such trap"),
+    match word {
+        0x0101 => put(out, at, b"storage overflow: the stack is full"),
+        0x0102 => put(out, at, b"storage overflow: no free block is long enough"),
+        0x0201 => put(out, at, b"debug: an instruction was completed in step mode"),
+        0x0202 => put(out, at, b"debug: a function was called in call-trace mode"),
+        0x0203 => put(out, at, b"debug: a function was left in return-trace mode"),
+        0x0204 => put(out, at, b"debug: a breakpoint"),
+        0x0400 => put(out, at, b"attention"),
+        _ => put_system_words(out, at, word),
     }
 }
 
-fn put_storage_words(out: &mut [u8], at: usize, n: u8) -> usize
-    ensures { λ r. ⌜ wrote r (now (out .exit)) ≡ writes (now (out .entry)) at (bytes (meaning.storageWords n)) ⌝ }
+// The system errors.
+fn put_system_words(out: &mut [u8], at: usize, word: u16) -> usize
+    ensures { λ r. ⌜ wrote r (now (out .exit)) ≡ writes (now (out .entry)) at (bytes (meaning.systemWords word)) ⌝ }
 {
-    match n {
-        1 => put(out, at, b"storage overflow: the runtime stack"),
-        2 => put(out, at, b"storage overflow: array block storage"),
-        _ => put(out, at, b"no such trap"),
+    match word {
+        0x0301 => put(
+            out,
+            at,
+            b"system error: code, a jump or a function outside its bounds",
+        ),
+        0x0302 => put(out, at, b"system error: a local outside its frame"),
+        0x0303 => put(out, at, b"system error: an address that is no global"),
+        0x0304 => put(
+            out,
+            at,
+            b"system error: an operand is missing, or CALL's NARGS is not the header's",
+        ),
+        0x0305 => put(out, at, b"system error: a word not of the kind wanted"),
+        0x0306 => put(out, at, b"system error: double indirection"),
+        0x0307 => put(out, at, b"system error: a MEMREF address of no known form"),
+        0x0308 => put(out, at, b"system error: undefined MEMREF suboperation"),
+        0x0309 => put(out, at, b"system error: undefined GENSCALAR suboperation"),
+        0x030a => put(out, at, b"system error: OPWE is too large on a restart"),
+        0x030b => put(
+            out,
+            at,
+            b"system error: undefined ETC suboperation or first byte",
+        ),
+        0x030c => put(out, at, b"system error: temporaries left on return"),
+        0x030d => put(out, at, b"system error: a return from the bottom frame"),
+        _ => put_value_words(out, at, word),
     }
 }
 
-fn put_debug_words(out: &mut [u8], at: usize, n: u8) -> usize
-    ensures { λ r. ⌜ wrote r (now (out .exit)) ≡ writes (now (out .entry)) at (bytes (meaning.debugWords n)) ⌝ }
+// The traps of operands, values, subscripts and variables.
+fn put_value_words(out: &mut [u8], at: usize, word: u16) -> usize
+    ensures { λ r. ⌜ wrote r (now (out .exit)) ≡ writes (now (out .entry)) at (bytes (meaning.valueWords word)) ⌝ }
 {
-    match n {
-        1 => put(out, at, b"debug: an instruction was completed in step mode"),
-        2 => put(out, at, b"debug: a function was called in call-trace mode"),
-        3 => put(out, at, b"debug: a function returned in return-trace mode"),
-        4 => put(out, at, b"debug: a breakpoint"),
-        _ => put(out, at, b"no such trap"),
-    }
-}
-
-fn put_system_words(out: &mut [u8], at: usize, n: u8) -> usize
-    ensures { λ r. ⌜ wrote r (now (out .exit)) ≡ writes (now (out .entry)) at (bytes (meaning.systemWords n)) ⌝ }
-{
-    match n {
-        1 => put(
-            out,
-            at,
-            b"system error: a procedure segment address is too large",
-        ),
-        2 => put(out, at, b"system error: a stack address is too large"),
-        3 => put(
-            out,
-            at,
-            b"system error: a global variable or array block address is too large",
-        ),
-        4 => put(out, at, b"system error: an operand is missing"),
-        5 => put(
-            out,
-            at,
-            b"system error: an operand of a kind unknown to the instruction",
-        ),
-        6 => put(out, at, b"system error: double indirection"),
-        7 => put(out, at, b"system error: a malformed MEMREF instruction"),
-        8 => put(out, at, b"system error: an undefined MEMREF suboperation"),
-        9 => put(
-            out,
-            at,
-            b"system error: an undefined GENSCALAR suboperation",
-        ),
-        10 => put(
-            out,
-            at,
-            b"system error: OPWE is too large on an interrupt's restart",
-        ),
-        11 => put(out, at, b"system error: an undefined ETC suboperation"),
-        12 => put(
-            out,
-            at,
-            b"system error: a temporary is still on the stack on return",
-        ),
-        13 => put(out, at, b"system error: a return from the bottom function"),
-        _ => put(out, at, b"no such trap"),
-    }
-}
-
-fn put_domain_words(out: &mut [u8], at: usize, n: u8) -> usize
-    ensures { λ r. ⌜ wrote r (now (out .exit)) ≡ writes (now (out .entry)) at (bytes (meaning.domainWords n)) ⌝ }
-{
-    match n {
-        1 => put(out, at, b"domain error: integer overflow"),
-        2 => put(out, at, b"domain error: floating-point exponent underflow"),
-        3 => put(out, at, b"domain error: floating-point exponent overflow"),
-        4 => put(out, at, b"domain error: division by zero"),
-        5 => put(out, at, b"domain error"),
-        _ => put(out, at, b"no such trap"),
-    }
-}
-
-fn put_index_words(out: &mut [u8], at: usize, n: u8) -> usize
-    ensures { λ r. ⌜ wrote r (now (out .exit)) ≡ writes (now (out .entry)) at (bytes (meaning.indexWords n)) ⌝ }
-{
-    match n {
-        1 => put(out, at, b"index error: the wrong number of subscripts"),
-        2 => put(out, at, b"index error: a subscript is too large or small"),
+    match word {
+        0x0500 => put(out, at, b"rank error"),
+        0x0600 => put(out, at, b"length error"),
+        0x0700 => put(out, at, b"type error: a character where a number is wanted"),
+        0x0801 => put(out, at, b"domain error: integer overflow"),
+        0x0802 => put(out, at, b"domain error: floating-point exponent underflow"),
+        0x0803 => put(out, at, b"domain error: floating-point exponent overflow"),
+        0x0804 => put(out, at, b"domain error: division by zero"),
+        0x0805 => put(out, at, b"domain error: another value that does not serve"),
+        0x0901 => put(out, at, b"index error: the wrong number of subscripts"),
+        0x0902 => put(out, at, b"index error: a subscript is too large or small"),
+        0x0a00 => put(out, at, b"value error: an undefined variable or result"),
         _ => put(out, at, b"no such trap"),
     }
 }

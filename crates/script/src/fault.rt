@@ -30,13 +30,13 @@ pub fn put_fault(out: &mut [u8], at: usize, fault: Fault) -> usize
         Fault::Extra => put(out, at, b"more than the command takes"),
         Fault::NotDecimal => put(out, at, b"not a decimal number"),
         Fault::TooLarge => put(out, at, b"a number above 4294967295"),
-        Fault::NotHex => put(out, at, b"not hexadecimal digits"),
+        Fault::NotHex => put(out, at, b"not only digits 0 to 9 and a to f"),
         Fault::TooLong => put(out, at, b"a word of more than 8 digits"),
-        Fault::Odd => put(out, at, b"an odd number of digits"),
+        Fault::Odd => put(out, at, b"an odd number of digits, two are a byte"),
         Fault::TooManyBytes => put(out, at, b"more than 40000 bytes"),
         Fault::TooManyWords => put(out, at, b"more than 40000 words"),
         Fault::PastEnd => put(out, at, b"past the end of the segment"),
-        Fault::NoBar => put(out, at, b"a bar is wanted here"),
+        Fault::NoBar => put(out, at, b"no bar | where the lengths end"),
         Fault::LongLine => put(out, at, b"the line is too long, it begins with"),
     }
 }
