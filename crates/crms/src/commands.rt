@@ -68,48 +68,14 @@ fn use_segments(
 ) -> Last {
     let n = least(m.words, data.len());
     let seg = &mut data[0..n];
+    let regular = first_bytes(regular, m.regular);
+    let alternate = first_bytes(alternate, m.alternate);
     let last = m.last;
     match command {
-        Command::Layout => lay_out(
-            last,
-            line,
-            at,
-            numbers,
-            seg,
-            first_bytes(regular, m.regular),
-            first_bytes(alternate, m.alternate),
-            out,
-        ),
-        Command::Run => run(
-            last,
-            line,
-            at,
-            numbers,
-            seg,
-            first_bytes(regular, m.regular),
-            first_bytes(alternate, m.alternate),
-            out,
-        ),
-        Command::Load => load(
-            last,
-            line,
-            at,
-            numbers,
-            seg,
-            first_bytes(regular, m.regular),
-            first_bytes(alternate, m.alternate),
-            out,
-        ),
-        Command::Look => look(
-            last,
-            line,
-            at,
-            numbers,
-            seg,
-            first_bytes(regular, m.regular),
-            first_bytes(alternate, m.alternate),
-            out,
-        ),
+        Command::Layout => lay_out(last, line, at, numbers, seg, regular, alternate, out),
+        Command::Run => run(last, line, at, numbers, seg, regular, alternate, out),
+        Command::Load => load(last, line, at, numbers, seg, regular, alternate, out),
+        Command::Look => look(last, line, at, numbers, seg, regular, alternate, out),
         Command::Word => {
             set_words(1, line, at, numbers, seg, out);
             last

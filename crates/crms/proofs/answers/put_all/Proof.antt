@@ -11,45 +11,18 @@ Inv-loop out₀ from base numbers at₀ i₀ out at i = length out ≡ length ou
 abbrev μ-loop : tie.MeasureT-loop
 μ-loop out₀ from base numbers at₀ i₀ out at i = length numbers - i
 
-loop-holds : tie.Need-loop-holds Inv-loop μ-loop
-loop-holds c = search needs
-
-mul-put-next : tie.Need-mul-put-next Inv-loop μ-loop
-mul-put-next c = search needs
-
-shared-slice-read-put-next : tie.Need-shared-slice-read-put-next Inv-loop μ-loop
-shared-slice-read-put-next c = search needs
-
-put-next-requires : tie.Need-put-next-requires Inv-loop μ-loop
-put-next-requires c κs = search needs
-
-add-i : tie.Need-add-i Inv-loop μ-loop
-add-i c = search needs
-
-loop-less : tie.Need-loop-less Inv-loop μ-loop
-loop-less c = search needs
-
-loop-again : tie.Need-loop-again Inv-loop μ-loop
-loop-again c = search needs
-
-same-length : tie.Need-same-length Inv-loop μ-loop
-same-length c = search needs
-
-returns : tie.Need-returns Inv-loop μ-loop
-returns c = search needs
-
 pub put-all-spec : {M : Type 1} → statement M
 put-all-spec =
     tie.close
     (tie.spec
     Inv-loop
     μ-loop
-    loop-holds
-    mul-put-next
-    shared-slice-read-put-next
-    put-next-requires
-    add-i
-    loop-less
-    loop-again
-    same-length
-    returns)
+    (λ c. search needs)  -- loop-holds
+    (λ c. search needs)  -- mul-put-next
+    (λ c. search needs)  -- shared-slice-read-put-next
+    (λ c κs. search needs)  -- put-next-requires
+    (λ c. search needs)  -- add-i
+    (λ c. search needs)  -- loop-less
+    (λ c. search needs)  -- loop-again
+    (λ c. search needs)  -- same-length
+    (λ c. search needs))  -- returns
