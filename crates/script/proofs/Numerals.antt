@@ -78,7 +78,7 @@ not-digit : (b : Bool) {rest : Bool} → cond b false rest ≡ true → (b ≡ f
 not-digit true e = absurd (false≢true e)
 not-digit false e = (refl, e)
 
-pub numeral-bound : (base n : ℕ) (w : List ℕ) → isNumeral base w ≡ true → numberFrom base n w < (n + 1) * base ^ length w
+numeral-bound : (base n : ℕ) (w : List ℕ) → isNumeral base w ≡ true → numberFrom base n w < (n + 1) * base ^ length w
 numeral-bound base n [] e = rw (pow-zero base, mul-one (n + 1)) (omega arith)
 numeral-bound base n (b ∷ w) e = lt-of-lt-of-le (numeral-bound base (n * base + digitOf b) w (rest .1)) more
   where
@@ -92,7 +92,7 @@ numeral-bound base n (b ∷ w) e = lt-of-lt-of-le (numeral-bound base (n * base 
     more = rw (pow-succ' base (length w), ← mul-assoc (n + 1) base (base ^ length w)) (mul-le-mul-right (base ^ length w) digit-more)
 
 -- a HEX word of at most 8 digits is a word
-pub hex-bound : (w : List ℕ) → isNumeral 16 w ≡ true → length w ≤ 8 → numberOf 16 w < 2 ^ 32
+hex-bound : (w : List ℕ) → isNumeral 16 w ≡ true → length w ≤ 8 → numberOf 16 w < 2 ^ 32
 hex-bound w e h = lt-of-lt-of-le (numeral-bound 16 0 w e) (rw (one-mul (16 ^ length w)) (pow-le-pow-right (lit< tt) h))
 
 -- the next number of the loop is far from wrapping

@@ -35,6 +35,16 @@ pairs [] = []
 pairs (high ∷ []) = []
 pairs (high ∷ low ∷ word) = pair high low ∷ pairs word
 
+dash : isDash (bytes "-") ≡ true
+dash = refl
+
+two-dashes : isDash (bytes "--") ≡ false
+two-dashes = refl
+
+one-byte : pair 50 101 ≡ 0x2e
+unfolding digitOf
+one-byte = refl
+
 header : pairs (bytes "00012e0F") ≡ 0 ∷ 1 ∷ 46 ∷ 15 ∷ []
 unfolding digitOf
 header = refl
@@ -42,6 +52,10 @@ header = refl
 none : counted (bytes "-") 40000 ≡ Bytes 0
 unfolding counted digitOf
 none = refl
+
+some : counted (bytes "00012e0F") 4 ≡ Bytes 4
+unfolding counted digitOf
+some = refl
 
 odd : counted (bytes "000") 40000 ≡ Wrong Odd
 unfolding counted digitOf

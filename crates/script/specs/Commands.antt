@@ -43,6 +43,22 @@ commandOf word =
     (cond (is word (bytes "alt")) Alt
     (operationOf word)))))
 
+same : is (bytes "run") (bytes "run") ≡ true
+unfolding is
+same = refl
+
+shorter : is (bytes "ru") (bytes "run") ≡ false
+unfolding is
+shorter = refl
+
+question : questionOf (bytes "explain") ≡ Explain
+unfolding questionOf is
+question = refl
+
+operation : operationOf (bytes "look") ≡ Look
+unfolding operationOf is
+operation = refl
+
 longer : commandOf (bytes "words") ≡ Words
 unfolding commandOf is
 longer = refl

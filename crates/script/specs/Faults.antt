@@ -1,6 +1,7 @@
--- The words of an error. A reader must believe nothing. Assumes nothing.
+-- The words of an error, which stand before a colon and the token that is wrong. A reader must believe nothing. Assumes nothing.
 use Prim.Native.Nat.{ℕ}
 use Prim.Native.String.{String}
+use mathlib.Core.Path.{_≡_, refl}
 use mathlib.Core.Bool.{cond}
 use mathlib.Core.List.{List, _++_}
 use lib.Dec.{leb}
@@ -27,3 +28,15 @@ words F.LongLine = "the line is too long, it begins with"
 -- A token of an error: its first 40 bytes.
 unfoldable pub shown : List ℕ → List ℕ
 shown token = cond (leb (length token) 40) token (take 40 token ++ bytes "..")
+
+missing : words F.Missing ≡ "something is missing after"
+unfolding words
+missing = refl
+
+whole : shown (bytes "0x12") ≡ bytes "0x12"
+unfolding shown
+whole = refl
+
+cut : shown (bytes "0123456789012345678901234567890123456789z") ≡ bytes "0123456789012345678901234567890123456789.."
+unfolding shown
+cut = refl

@@ -12,3 +12,6 @@ hashFrom h (w ∷ ws) = hashFrom (hashStep h w) ws
 
 three : hashFrom 0 (0xffff_ffff ∷ 1 ∷ 2 ∷ []) ≡ 31 * 125 + 2
 three = refl
+
+one-step : hashStep 0xffff_ffff 7 ≡ 131
+one-step = refl

@@ -32,26 +32,37 @@ unfoldable pub withNumber : Number → (ℕ → Listing) → (Fault → Listing)
 withNumber (Value v) value wrong = value v
 withNumber (number.Wrong fault) value wrong = wrong fault
 
+-- What a token gives at a place: the end of the list where it is empty, a fault, or a number, with which the rest goes on.
+unfoldable pub turn : Base → List ℕ → ℕ → ℕ → List ℕ → Token → (ℕ → Listing) → Listing
+turn base line at n out token rest =
+    cond (eqb (token .start) (token .end)) (listed (Numbers n at) out)
+    (withNumber (numberIn base (textOf line token))
+    (λ value. cond (leb (length out) n) (listed (Wrong PastEnd token) out) (rest value))
+    (λ fault. listed (Wrong fault token) out))
+
 -- The numbers from a place on, at most so many, into a buffer that has n of them already.
 unfoldable pub numbersAt : Base → List ℕ → ℕ → ℕ → ℕ → List ℕ → Listing
 numbersAt base line zero at n out = listed (Numbers n at) out
 numbersAt base line (suc left) at n out =
     let token = tokenAt line at in
-    cond (eqb (token .start) (token .end)) (listed (Numbers n at) out)
-    (withNumber (numberIn base (textOf line token))
-    (λ value.
-    cond (leb (length out) n) (listed (Wrong PastEnd token) out)
-    (numbersAt base line left (token .end) (n + 1) (set out n value)))
-    (λ fault. listed (Wrong fault token) out))
+    turn base line at n out token (λ value. numbersAt base line left (token .end) (n + 1) (set out n value))
+
+value-goes-on : withNumber (Value 5) (λ v. listed (Numbers v 0) []) (λ fault. listed (Numbers 0 0) []) ≡ listed (Numbers 5 0) []
+unfolding withNumber
+value-goes-on = refl
 
 shape : numbersAt Decimal (bytes "load 8 2 3 4 | 1") 2 8 0 (0 ∷ 0 ∷ 0 ∷ []) ≡ listed (Numbers 2 12) (3 ∷ 4 ∷ 0 ∷ [])
-unfolding numbersAt withNumber tokenAt textOf afterAll numberIn decimal digitOf
+unfolding numbersAt turn withNumber tokenAt textOf afterAll numberIn decimal digitOf
 shape = refl
 
+line-ends : numbersAt Decimal (bytes "7 ") 3 0 0 (0 ∷ []) ≡ listed (Numbers 1 1) (7 ∷ [])
+unfolding numbersAt turn withNumber tokenAt textOf afterAll numberIn decimal digitOf
+line-ends = refl
+
 bad : numbersAt Hex (bytes "1f g") 4 0 0 (0 ∷ 0 ∷ []) ≡ listed (Wrong NotHex (record { start = 3; end = 4 })) (31 ∷ 0 ∷ [])
-unfolding numbersAt withNumber tokenAt textOf afterAll numberIn hex digitOf
+unfolding numbersAt turn withNumber tokenAt textOf afterAll numberIn hex digitOf
 bad = refl
 
 no-room : numbersAt Hex (bytes "1 2") 3 0 0 (0 ∷ []) ≡ listed (Wrong PastEnd (record { start = 2; end = 3 })) (1 ∷ [])
-unfolding numbersAt withNumber tokenAt textOf afterAll numberIn hex digitOf
+unfolding numbersAt turn withNumber tokenAt textOf afterAll numberIn hex digitOf
 no-room = refl

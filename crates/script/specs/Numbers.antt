@@ -55,6 +55,30 @@ unfoldable pub numberIn : Base → List ℕ → Number
 numberIn Decimal word = decimal word
 numberIn Hex word = hex word
 
+upper-case : digitOf 70 ≡ 15
+unfolding digitOf
+upper-case = refl
+
+no-digit : digitOf 103 ≡ 16
+unfolding digitOf
+no-digit = refl
+
+octal : isNumeral 8 (bytes "777") ≡ true
+unfolding digitOf
+octal = refl
+
+not-octal : isNumeral 8 (bytes "78") ≡ false
+unfolding digitOf
+not-octal = refl
+
+further-digits : numberFrom 10 4 (bytes "07") ≡ 407
+unfolding digitOf
+further-digits = refl
+
+sixteens : numberOf 16 (bytes "1f") ≡ 31
+unfolding digitOf
+sixteens = refl
+
 greatest : decimal (bytes "4294967295") ≡ Value 0xffff_ffff
 unfolding decimal digitOf
 greatest = refl
@@ -74,3 +98,11 @@ either-case = refl
 nine-digits : hex (bytes "000000001") ≡ Wrong TooLong
 unfolding hex digitOf
 nine-digits = refl
+
+no-digits : hex [] ≡ Wrong Missing
+unfolding hex
+no-digits = refl
+
+by-base : numberIn Hex (bytes "10") ≡ Value 16
+unfolding numberIn hex digitOf
+by-base = refl

@@ -48,6 +48,30 @@ isPassedOver line =
     let start = afterAll (isOf Blank) line 0 in
     cond (leb (length line) start) true (eqb (getD line start 0) 35)
 
+tab : isBlank 9 ≡ true
+tab = refl
+
+line-feed : isOf InLine 10 ≡ false
+line-feed = refl
+
+not-blank : isOf Other 35 ≡ true
+not-blank = refl
+
+two-blanks : leading (isOf Blank) (bytes "  seg ") ≡ 2
+two-blanks = refl
+
+after-command : afterAll (isOf Other) (bytes "seg 96") 1 ≡ 3
+unfolding afterAll
+after-command = refl
+
+one-line : lineEnd (115 ∷ 10 ∷ 116 ∷ []) 0 ≡ 1
+unfolding lineEnd afterAll
+one-line = refl
+
+last-line : lineEnd (115 ∷ 10 ∷ 116 ∷ []) 2 ≡ 3
+unfolding lineEnd afterAll
+last-line = refl
+
 first : tokenAt (bytes " seg 96") 0 ≡ record { start = 1; end = 4 }
 unfolding tokenAt afterAll
 first = refl
@@ -55,6 +79,10 @@ first = refl
 second : textOf (bytes " seg 96") (tokenAt (bytes " seg 96") 4) ≡ bytes "96"
 unfolding tokenAt textOf afterAll
 second = refl
+
+none-left : tokenAt (bytes "run ") 3 ≡ record { start = 4; end = 4 }
+unfolding tokenAt afterAll
+none-left = refl
 
 comment : isPassedOver (bytes " # of par lists") ≡ true
 unfolding isPassedOver afterAll

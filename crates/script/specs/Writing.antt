@@ -45,6 +45,16 @@ hex w =
     ∷ glyph w
     ∷ []
 
+room : writes (1 ∷ 2 ∷ 3 ∷ []) 0 (7 ∷ 8 ∷ []) ≡ wrote 2 (7 ∷ 8 ∷ 3 ∷ [])
+unfolding writes
+room = refl
+
+three-places : digits 3 407 ≡ bytes "407"
+three-places = refl
+
+low-digit : glyph 0x2e ≡ 101
+low-digit = refl
+
 zeros : hex 0x0200_001f ≡ bytes "0200001f"
 unfolding hex
 zeros = refl

@@ -1,6 +1,5 @@
 // The bytes of a procedure segment: two HEX digits a byte, - for none.
 ghost use mathlib.Core.Path.{_≡_};
-ghost use Prim.Native.Nat.{_≤_};
 ghost use lib.Seq.{sets};
 ghost use Rattle.script.specs.Bytes as meaning;
 use crate::fault::Fault;

@@ -1,4 +1,4 @@
-// Statuses and traps in words: the former by document 01's table, the latter by the manual's appendix.
+// Statuses and traps in words: the former by document 01's table, the latter by the manual's appendix as document 01 reads it.
 ghost use mathlib.Core.Path.{_≡_};
 ghost use Rattle.script.specs.Text.{bytes};
 ghost use Rattle.script.specs.Explain as meaning;

@@ -1,5 +1,5 @@
-use Rattle.script.specs.Explain.{laterWords}
-use borrow.Author.Tests.{ne-eqb}
+use Rattle.script.specs.Explain.{laterStatuses, laterWords}
+use Rattle.script.proofs.Tables.{missed}
 use borrow.Author.Needs.{needs}
 use Rattle.script.proofs.explain.put_later_words.Statement.{statement}
 use Rattle.script.proofs.explain.put_later_words.Tie as tie
@@ -36,4 +36,4 @@ put-later-words-spec =
     (λ c. search needs)
     (λ c. simp (c .before .before .before .before .before .match .keys6, ← c .before .before .put6 .ensures))
     (λ c. search needs)
-    (λ c. simp (ne-eqb _ _ (c .before .before .before .before .before .match .rest .0 .0 .0 .0 .0 .1), ne-eqb _ _ (c .before .before .before .before .before .match .rest .0 .0 .0 .0 .1), ne-eqb _ _ (c .before .before .before .before .before .match .rest .0 .0 .0 .1), ne-eqb _ _ (c .before .before .before .before .before .match .rest .0 .0 .1), ne-eqb _ _ (c .before .before .before .before .before .match .rest .0 .1), ne-eqb _ _ (c .before .before .before .before .before .match .rest .1), ← c .before .before .put7 .ensures)))
+    (λ c. simp (missed (c .before .before .before .before .before .before .before .args .n) laterStatuses (c .before .before .before .before .before .match .rest), ← c .before .before .put7 .ensures)))

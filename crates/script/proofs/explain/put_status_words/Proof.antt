@@ -1,5 +1,5 @@
-use Rattle.script.specs.Explain.{statusWords}
-use borrow.Author.Tests.{ne-eqb}
+use Rattle.script.specs.Explain.{statuses, statusWords}
+use Rattle.script.proofs.Tables.{missed}
 use borrow.Author.Needs.{needs}
 use Rattle.script.proofs.explain.put_status_words.Statement.{statement}
 use Rattle.script.proofs.explain.put_status_words.Tie as tie
@@ -59,4 +59,4 @@ put-status-words-spec =
     (λ c. search needs)
     (λ c. simp (c .before .before .before .before .before .match .keys12, ← c .before .before .put12 .ensures))
     (λ c. search needs)
-    (λ c. simp (ne-eqb _ _ (c .before .before .before .before .match .rest .0 .0 .0 .0 .0 .0 .0 .0 .0 .0 .0 .1), ne-eqb _ _ (c .before .before .before .before .match .rest .0 .0 .0 .0 .0 .0 .0 .0 .0 .0 .1), ne-eqb _ _ (c .before .before .before .before .match .rest .0 .0 .0 .0 .0 .0 .0 .0 .0 .1), ne-eqb _ _ (c .before .before .before .before .match .rest .0 .0 .0 .0 .0 .0 .0 .0 .1), ne-eqb _ _ (c .before .before .before .before .match .rest .0 .0 .0 .0 .0 .0 .0 .1), ne-eqb _ _ (c .before .before .before .before .match .rest .0 .0 .0 .0 .0 .0 .1), ne-eqb _ _ (c .before .before .before .before .match .rest .0 .0 .0 .0 .0 .1), ne-eqb _ _ (c .before .before .before .before .match .rest .0 .0 .0 .0 .1), ne-eqb _ _ (c .before .before .before .before .match .rest .0 .0 .0 .1), ne-eqb _ _ (c .before .before .before .before .match .rest .0 .0 .1), ne-eqb _ _ (c .before .before .before .before .match .rest .0 .1), ne-eqb _ _ (c .before .before .before .before .match .rest .1), ← c .before .before .put-later-words .ensures)))
+    (λ c. simp (missed (c .before .before .before .before .before .before .args .n) statuses (c .before .before .before .before .match .rest), ← c .before .before .put-later-words .ensures)))

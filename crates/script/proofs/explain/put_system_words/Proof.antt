@@ -1,5 +1,5 @@
-use Rattle.script.specs.Explain.{systemWords}
-use borrow.Author.Tests.{ne-eqb}
+use Rattle.script.specs.Explain.{systemTraps, systemWords}
+use Rattle.script.proofs.Tables.{missed}
 use borrow.Author.Needs.{needs}
 use Rattle.script.proofs.explain.put_system_words.Statement.{statement}
 use Rattle.script.proofs.explain.put_system_words.Tie as tie
@@ -63,4 +63,4 @@ put-system-words-spec =
     (λ c. search needs)
     (λ c. simp (c .before .before .before .before .before .match .keys13, ← c .before .before .put13 .ensures))
     (λ c. search needs)
-    (λ c. simp (ne-eqb _ _ (c .before .before .before .before .match .rest .0 .0 .0 .0 .0 .0 .0 .0 .0 .0 .0 .0 .1), ne-eqb _ _ (c .before .before .before .before .match .rest .0 .0 .0 .0 .0 .0 .0 .0 .0 .0 .0 .1), ne-eqb _ _ (c .before .before .before .before .match .rest .0 .0 .0 .0 .0 .0 .0 .0 .0 .0 .1), ne-eqb _ _ (c .before .before .before .before .match .rest .0 .0 .0 .0 .0 .0 .0 .0 .0 .1), ne-eqb _ _ (c .before .before .before .before .match .rest .0 .0 .0 .0 .0 .0 .0 .0 .1), ne-eqb _ _ (c .before .before .before .before .match .rest .0 .0 .0 .0 .0 .0 .0 .1), ne-eqb _ _ (c .before .before .before .before .match .rest .0 .0 .0 .0 .0 .0 .1), ne-eqb _ _ (c .before .before .before .before .match .rest .0 .0 .0 .0 .0 .1), ne-eqb _ _ (c .before .before .before .before .match .rest .0 .0 .0 .0 .1), ne-eqb _ _ (c .before .before .before .before .match .rest .0 .0 .0 .1), ne-eqb _ _ (c .before .before .before .before .match .rest .0 .0 .1), ne-eqb _ _ (c .before .before .before .before .match .rest .0 .1), ne-eqb _ _ (c .before .before .before .before .match .rest .1), ← c .before .before .put-value-words .ensures)))
+    (λ c. simp (missed (c .before .before .before .before .before .before .args .word) systemTraps (c .before .before .before .before .match .rest), ← c .before .before .put-value-words .ensures)))

@@ -1,5 +1,5 @@
-use Rattle.script.specs.Explain.{trapWords}
-use borrow.Author.Tests.{ne-eqb}
+use Rattle.script.specs.Explain.{traps, trapWords}
+use Rattle.script.proofs.Tables.{missed}
 use borrow.Author.Needs.{needs}
 use Rattle.script.proofs.explain.put_trap_words.Statement.{statement}
 use Rattle.script.proofs.explain.put_trap_words.Tie as tie
@@ -39,4 +39,4 @@ put-trap-words-spec =
     (λ c. search needs)
     (λ c. simp (c .before .before .before .before .before .match .keys7, ← c .before .before .put7 .ensures))
     (λ c. search needs)
-    (λ c. simp (ne-eqb _ _ (c .before .before .before .before .match .rest .0 .0 .0 .0 .0 .0 .1), ne-eqb _ _ (c .before .before .before .before .match .rest .0 .0 .0 .0 .0 .1), ne-eqb _ _ (c .before .before .before .before .match .rest .0 .0 .0 .0 .1), ne-eqb _ _ (c .before .before .before .before .match .rest .0 .0 .0 .1), ne-eqb _ _ (c .before .before .before .before .match .rest .0 .0 .1), ne-eqb _ _ (c .before .before .before .before .match .rest .0 .1), ne-eqb _ _ (c .before .before .before .before .match .rest .1), ← c .before .before .put-system-words .ensures)))
+    (λ c. simp (missed (c .before .before .before .before .before .before .args .word) traps (c .before .before .before .before .match .rest), ← c .before .before .put-system-words .ensures)))

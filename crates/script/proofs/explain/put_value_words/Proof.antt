@@ -1,5 +1,5 @@
-use Rattle.script.specs.Explain.{valueWords}
-use borrow.Author.Tests.{ne-eqb}
+use Rattle.script.specs.Explain.{valueTraps, valueWords}
+use Rattle.script.proofs.Tables.{missed}
 use borrow.Author.Needs.{needs}
 use Rattle.script.proofs.explain.put_value_words.Statement.{statement}
 use Rattle.script.proofs.explain.put_value_words.Tie as tie
@@ -56,4 +56,4 @@ put-value-words-spec =
     (λ c. search needs)
     (λ c. simp (c .before .before .before .before .before .match .keys11, ← c .before .before .put11 .ensures))
     (λ c. search needs)
-    (λ c. simp (ne-eqb _ _ (c .before .before .before .before .before .match .rest .0 .0 .0 .0 .0 .0 .0 .0 .0 .0 .1), ne-eqb _ _ (c .before .before .before .before .before .match .rest .0 .0 .0 .0 .0 .0 .0 .0 .0 .1), ne-eqb _ _ (c .before .before .before .before .before .match .rest .0 .0 .0 .0 .0 .0 .0 .0 .1), ne-eqb _ _ (c .before .before .before .before .before .match .rest .0 .0 .0 .0 .0 .0 .0 .1), ne-eqb _ _ (c .before .before .before .before .before .match .rest .0 .0 .0 .0 .0 .0 .1), ne-eqb _ _ (c .before .before .before .before .before .match .rest .0 .0 .0 .0 .0 .1), ne-eqb _ _ (c .before .before .before .before .before .match .rest .0 .0 .0 .0 .1), ne-eqb _ _ (c .before .before .before .before .before .match .rest .0 .0 .0 .1), ne-eqb _ _ (c .before .before .before .before .before .match .rest .0 .0 .1), ne-eqb _ _ (c .before .before .before .before .before .match .rest .0 .1), ne-eqb _ _ (c .before .before .before .before .before .match .rest .1), ← c .before .before .put12 .ensures)))
+    (λ c. simp (missed (c .before .before .before .before .before .before .before .args .word) valueTraps (c .before .before .before .before .before .match .rest), ← c .before .before .put12 .ensures)))

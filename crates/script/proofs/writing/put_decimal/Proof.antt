@@ -1,7 +1,3 @@
-use Prim.Native.Nat.{ℕ}
-use mathlib.Core.Path.{ap, _∙_}
-use mathlib.Core.List.{List}
-use Rattle.script.specs.Writing.{writes}
 use Rattle.script.proofs.Putting.{digits-cut}
 use borrow.Author.Needs.{needs}
 use Rattle.script.proofs.writing.put_decimal.Statement.{statement}
