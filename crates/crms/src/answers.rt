@@ -1,10 +1,12 @@
 // Answers on standard output, a line each.
+use crate::session::first_bytes;
 use libc::STDOUT_FILENO;
 use script::explain::Last;
 use script::explain::put_last;
 use script::fault::Fault;
 use script::fault::put_fault;
 use script::fault::put_token;
+use script::number::Base;
 use script::tokens::Token;
 use script::tokens::text;
 use script::tokens::token_at;
@@ -57,15 +59,15 @@ pub fn scalar(out: &mut [u8], word: u32) {
 pub fn array(out: &mut [u8], lengths: &[u32], elements: &[u32]) {
     let a = put(out, 0, b"look 0 array ");
     let b = put_decimal(out, a, (lengths.len() % 0x1_0000_0000) as u32);
-    let c = numbers(out, b, lengths);
+    let c = put_all(out, b, Base::Decimal, lengths);
     let d = put(out, c, b" |");
-    let e = words(out, d, elements);
+    let e = put_all(out, d, Base::Hex, elements);
     end(out, e);
 }
 
 pub fn dump(out: &mut [u8], seg: &[u32]) {
     let a = put(out, 0, b"dump");
-    let b = words(out, a, seg);
+    let b = put_all(out, a, Base::Hex, seg);
     end(out, b);
 }
 
@@ -81,43 +83,38 @@ pub fn explain(out: &mut [u8], last: Last) {
 }
 
 pub fn help(out: &mut [u8]) {
-    let a = put(out, 0, b"seg N, word I HEX, words I HEX .., reg HEXBYTES, alt HEXBYTES, ");
-    let b = put(out, a, b"layout P FN GLOBALS ARRAYWORDS, run BUDGET, load ADDR RANK LEN .. | HEX .., look ADDR, ");
+    let a = put(
+        out,
+        0,
+        b"seg N, word I HEX, words I HEX .., reg HEXBYTES, alt HEXBYTES, ",
+    );
+    let b = put(
+        out,
+        a,
+        b"layout P FN GLOBALS ARRAYWORDS, run BUDGET, load ADDR RANK LEN .. | HEX .., look ADDR, ",
+    );
     let c = put(out, b, b"dump, hash, explain, help");
     end(out, c);
 }
 
-// Words, each after a blank. They may be more than the buffer holds.
-fn words(out: &mut [u8], from: usize, seg: &[u32]) -> usize {
+// Numbers, each after a blank. They may be more than the buffer holds.
+fn put_all(out: &mut [u8], from: usize, base: Base, numbers: &[u32]) -> usize {
     let mut at = from;
     let mut i = 0;
-    while i < seg.len() {
-        at = word(out, at, seg[i]);
+    while i < numbers.len() {
+        at = put_next(out, at, base, numbers[i]);
         i += 1;
     }
     at
 }
 
-fn word(out: &mut [u8], from: usize, w: u32) -> usize {
+fn put_next(out: &mut [u8], from: usize, base: Base, n: u32) -> usize {
     let a = room(out, from);
     let b = put(out, a, b" ");
-    put_hex(out, b, w)
-}
-
-fn numbers(out: &mut [u8], from: usize, all: &[u32]) -> usize {
-    let mut at = from;
-    let mut i = 0;
-    while i < all.len() {
-        at = number(out, at, all[i]);
-        i += 1;
+    match base {
+        Base::Decimal => put_decimal(out, b, n),
+        Base::Hex => put_hex(out, b, n),
     }
-    at
-}
-
-fn number(out: &mut [u8], from: usize, n: u32) -> usize {
-    let a = room(out, from);
-    let b = put(out, a, b" ");
-    put_decimal(out, b, n)
 }
 
 // The place to go on at: the same, or the first once a buffer with less than a number's room is written out.
@@ -142,4 +139,11 @@ fn flush(out: &[u8], at: usize) {
     if at <= out.len() {
         io::write_all(STDOUT_FILENO, &out[0..at]);
     }
+}
+
+// Told on standard error, with the reason why the last call failed.
+pub fn cannot_read(name: &[u8], out: &mut [u8]) {
+    let a = put(out, 0, b"crms: cannot read ");
+    let b = put(out, a, name);
+    os::fail(first_bytes(out, b));
 }

@@ -1,10 +1,12 @@
 // What stands after a command's word. What is wrong with it is answered here.
 use crate::answers::error;
+use script::command::is;
 use script::fault::Fault;
 use script::list::Listed;
 use script::list::numbers_at;
 use script::number::Base;
 use script::tokens::Token;
+use script::tokens::text;
 use script::tokens::token_at;
 
 pub enum Place {
@@ -21,7 +23,13 @@ pub fn takes(count: usize, line: &[u8], at: usize, numbers: &mut [u32], out: &mu
 }
 
 // The place after so many decimal numbers.
-pub fn decimals(count: usize, line: &[u8], at: usize, numbers: &mut [u32], out: &mut [u8]) -> Place {
+pub fn decimals(
+    count: usize,
+    line: &[u8],
+    at: usize,
+    numbers: &mut [u32],
+    out: &mut [u8],
+) -> Place {
     match numbers_at(Base::Decimal, line, at, count, numbers) {
         Listed::Wrong(fault, token) => {
             error(out, fault, line, token);
@@ -35,6 +43,19 @@ pub fn decimals(count: usize, line: &[u8], at: usize, numbers: &mut [u32], out: 
             Place::After(next)
         }
     }
+}
+
+// The place after so many lengths and the bar.
+pub fn lengths(rank: usize, line: &[u8], at: usize, numbers: &mut [u32], out: &mut [u8]) -> Place {
+    let Place::After(next) = decimals(rank, line, at, numbers, out) else {
+        return Place::Wrong;
+    };
+    let bar = token_at(line, next);
+    if is(text(line, bar), b"|") {
+        return Place::After(bar.end);
+    }
+    error(out, Fault::NoBar, line, bar);
+    Place::Wrong
 }
 
 // Is a place the end of the line?

@@ -1,35 +1,39 @@
-// The four operations, called with what a line says, and their answers.
+// The four operations, called with what a line says, and their answers. Each hands back what was answered last.
 use crate::answers;
 use crate::answers::error;
 use crate::arguments::Place;
 use crate::arguments::decimals;
+use crate::arguments::lengths;
 use crate::arguments::takes;
-use crate::session::Session;
-use crate::session::first_bytes;
 use crate::session::first_words;
 use crate::session::least;
+use crate::session::words_from;
 use operations::Answer;
 use operations::Looked;
 use operations::Run;
-use script::command::is;
 use script::explain::Last;
-use script::fault::Fault;
 use script::list::Listed;
 use script::list::numbers_at;
 use script::number::Base;
-use script::tokens::text;
-use script::tokens::token_at;
 use segment::word;
 
-pub fn lay_out(m: Session, line: &[u8], at: usize, numbers: &mut [u32], data: &mut [u32], regular: &[u8], alternate: &[u8], out: &mut [u8]) -> Last {
+pub fn lay_out(
+    last: Last,
+    line: &[u8],
+    at: usize,
+    numbers: &mut [u32],
+    seg: &mut [u32],
+    regular: &[u8],
+    alternate: &[u8],
+    out: &mut [u8],
+) -> Last {
     if !takes(4, line, at, numbers, out) {
-        return m.last;
+        return last;
     }
-    let n = least(m.words, data.len());
     let answer = engine::lay_out::lay_out(
-        &mut data[0..n],
-        first_bytes(regular, m.regular),
-        first_bytes(alternate, m.alternate),
+        seg,
+        regular,
+        alternate,
         word(numbers, 0),
         word(numbers, 1),
         word(numbers, 2),
@@ -38,63 +42,118 @@ pub fn lay_out(m: Session, line: &[u8], at: usize, numbers: &mut [u32], data: &m
     answered(b"layout ", answer, out)
 }
 
-pub fn run(m: Session, line: &[u8], at: usize, numbers: &mut [u32], data: &mut [u32], regular: &[u8], alternate: &[u8], out: &mut [u8]) -> Last {
+pub fn run(
+    last: Last,
+    line: &[u8],
+    at: usize,
+    numbers: &mut [u32],
+    seg: &mut [u32],
+    regular: &[u8],
+    alternate: &[u8],
+    out: &mut [u8],
+) -> Last {
     if !takes(1, line, at, numbers, out) {
-        return m.last;
+        return last;
     }
-    let n = least(m.words, data.len());
-    let answer = engine::run::run(&mut data[0..n], first_bytes(regular, m.regular), first_bytes(alternate, m.alternate), word(numbers, 0));
-    ended(answer, word(data, 3), out)
+    let answer = engine::run::run(seg, regular, alternate, word(numbers, 0));
+    ended(answer, word(seg, 3), out)
 }
 
-pub fn load(m: Session, line: &[u8], at: usize, numbers: &mut [u32], data: &mut [u32], regular: &[u8], alternate: &[u8], out: &mut [u8]) -> Last {
+pub fn load(
+    last: Last,
+    line: &[u8],
+    at: usize,
+    numbers: &mut [u32],
+    seg: &mut [u32],
+    regular: &[u8],
+    alternate: &[u8],
+    out: &mut [u8],
+) -> Last {
     let Place::After(next) = decimals(2, line, at, numbers, out) else {
-        return m.last;
+        return last;
     };
     let global = word(numbers, 0);
     let rank = word(numbers, 1) as usize;
-    let Place::After(end) = decimals(rank, line, next, numbers, out) else {
-        return m.last;
+    let Place::After(end) = lengths(rank, line, next, numbers, out) else {
+        return last;
     };
-    let bar = token_at(line, end);
-    if !is(text(line, bar), b"|") {
-        error(out, Fault::NoBar, line, bar);
-        return m.last;
-    }
-    load_value(m, line, bar.end, global, rank, numbers, data, regular, alternate, out)
+    load_elements(
+        last,
+        global,
+        rank,
+        line,
+        end,
+        numbers,
+        seg,
+        regular,
+        alternate,
+        out,
+    )
 }
 
 // The lengths are the first numbers; the elements are still to be read.
-fn load_value(m: Session, line: &[u8], at: usize, global: u32, rank: usize, numbers: &mut [u32], data: &mut [u32], regular: &[u8], alternate: &[u8], out: &mut [u8]) -> Last {
-    if numbers.len() < rank {
-        return m.last;
-    }
-    match numbers_at(Base::Hex, line, at, line.len(), &mut numbers[rank..]) {
+fn load_elements(
+    last: Last,
+    global: u32,
+    rank: usize,
+    line: &[u8],
+    at: usize,
+    numbers: &mut [u32],
+    seg: &mut [u32],
+    regular: &[u8],
+    alternate: &[u8],
+    out: &mut [u8],
+) -> Last {
+    let from = least(rank, numbers.len());
+    match numbers_at(Base::Hex, line, at, line.len(), &mut numbers[from..]) {
         Listed::Wrong(fault, token) => {
             error(out, fault, line, token);
-            m.last
+            last
         }
-        Listed::Numbers(count, _) => {
-            let n = least(m.words, data.len());
-            let answer = engine::load::load(
-                &mut data[0..n],
-                first_bytes(regular, m.regular),
-                first_bytes(alternate, m.alternate),
-                global,
-                &numbers[0..rank],
-                first_words(&numbers[rank..], count),
-            );
-            answered(b"load ", answer, out)
-        }
+        Listed::Numbers(count, _) => load_value(
+            global,
+            from,
+            count,
+            numbers,
+            seg,
+            regular,
+            alternate,
+            out,
+        ),
     }
 }
 
-pub fn look(m: Session, line: &[u8], at: usize, numbers: &mut [u32], data: &[u32], regular: &[u8], alternate: &[u8], out: &mut [u8]) -> Last {
+// As many lengths as the rank, then so many elements.
+fn load_value(
+    global: u32,
+    rank: usize,
+    count: usize,
+    numbers: &[u32],
+    seg: &mut [u32],
+    regular: &[u8],
+    alternate: &[u8],
+    out: &mut [u8],
+) -> Last {
+    let lengths = first_words(numbers, rank);
+    let elements = first_words(words_from(numbers, rank), count);
+    let answer = engine::load::load(seg, regular, alternate, global, lengths, elements);
+    answered(b"load ", answer, out)
+}
+
+pub fn look(
+    last: Last,
+    line: &[u8],
+    at: usize,
+    numbers: &mut [u32],
+    seg: &[u32],
+    regular: &[u8],
+    alternate: &[u8],
+    out: &mut [u8],
+) -> Last {
     if !takes(1, line, at, numbers, out) {
-        return m.last;
+        return last;
     }
-    let seg = first_words(data, m.words);
-    match engine::look::look(seg, first_bytes(regular, m.regular), first_bytes(alternate, m.alternate), word(numbers, 0)) {
+    match engine::look::look(seg, regular, alternate, word(numbers, 0)) {
         Looked::Refused(n) => {
             answers::status(out, b"look ", n);
             Last::Status(n)
@@ -104,7 +163,11 @@ pub fn look(m: Session, line: &[u8], at: usize, numbers: &mut [u32], data: &[u32
             Last::Status(0)
         }
         Looked::Array(block) => {
-            answers::array(out, engine::look::lengths(seg, block), engine::look::elements(seg, block));
+            answers::array(
+                out,
+                engine::look::lengths(seg, block),
+                engine::look::elements(seg, block),
+            );
             Last::Status(0)
         }
     }

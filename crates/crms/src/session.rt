@@ -65,6 +65,11 @@ pub fn first_words(words: &[u32], n: usize) -> &[u32] {
     &words[0..n]
 }
 
+pub fn words_from(words: &[u32], n: usize) -> &[u32] {
+    let from = least(n, words.len());
+    &words[from..]
+}
+
 pub fn first_bytes(bytes: &[u8], n: usize) -> &[u8] {
     if bytes.len() < n {
         return bytes;

@@ -1,4 +1,6 @@
 // The commands that set what the operations are lent.
+ghost use Prim.Native.Nat.{_≤_};
+ghost use lib.ListN.{length};
 use crate::answers::error;
 use crate::arguments::Place;
 use crate::arguments::decimals;
@@ -6,6 +8,7 @@ use crate::arguments::ends;
 use crate::arguments::missing;
 use crate::arguments::takes;
 use crate::session::first_words;
+use crate::session::least;
 use elements::copies::fill;
 use script::bytes::Counted;
 use script::bytes::count;
@@ -20,7 +23,14 @@ use segment::put_all;
 use segment::word;
 
 // How many words the data segment has from now on.
-pub fn set_segment(old: usize, line: &[u8], at: usize, numbers: &mut [u32], data: &mut [u32], out: &mut [u8]) -> usize {
+pub fn set_segment(
+    old: usize,
+    line: &[u8],
+    at: usize,
+    numbers: &mut [u32],
+    data: &mut [u32],
+    out: &mut [u8],
+) -> usize {
     if !takes(1, line, at, numbers, out) {
         return old;
     }
@@ -34,22 +44,38 @@ pub fn set_segment(old: usize, line: &[u8], at: usize, numbers: &mut [u32], data
 }
 
 // At most so many words, from an index that the line names.
-pub fn set_words(most: usize, size: usize, line: &[u8], at: usize, numbers: &mut [u32], data: &mut [u32], out: &mut [u8]) {
+pub fn set_words(
+    most: usize,
+    line: &[u8],
+    at: usize,
+    numbers: &mut [u32],
+    seg: &mut [u32],
+    out: &mut [u8],
+) {
     let Place::After(next) = decimals(1, line, at, numbers, out) else {
         return;
     };
     let index = word(numbers, 0) as usize;
-    if size <= index {
+    if seg.len() <= index {
         error(out, Fault::PastEnd, line, token_at(line, at));
         return;
     }
-    set_from(index, size - index, most, line, next, numbers, data, out);
+    set_from(index, most, line, next, numbers, seg, out);
 }
 
-fn set_from(index: usize, room: usize, most: usize, line: &[u8], at: usize, numbers: &mut [u32], data: &mut [u32], out: &mut [u8]) {
-    if numbers.len() < room {
-        return;
-    }
+// There is room for the words up to the end of the segment.
+fn set_from(
+    index: usize,
+    most: usize,
+    line: &[u8],
+    at: usize,
+    numbers: &mut [u32],
+    seg: &mut [u32],
+    out: &mut [u8],
+)
+    requires { ⌜ index ≤ length (now seg) ⌝ }
+{
+    let room = least(seg.len() - index, numbers.len());
     match numbers_at(Base::Hex, line, at, most, &mut numbers[0..room]) {
         Listed::Wrong(fault, token) => error(out, fault, line, token),
         Listed::Numbers(n, next) => {
@@ -58,14 +84,20 @@ fn set_from(index: usize, room: usize, most: usize, line: &[u8], at: usize, numb
                 return;
             }
             if ends(line, next, out) {
-                put_all(data, index, first_words(numbers, n));
+                put_all(seg, index, first_words(numbers, n));
             }
         }
     }
 }
 
 // How many bytes a procedure segment has from now on.
-pub fn set_procedure(old: usize, line: &[u8], at: usize, bytes: &mut [u8], out: &mut [u8]) -> usize {
+pub fn set_procedure(
+    old: usize,
+    line: &[u8],
+    at: usize,
+    bytes: &mut [u8],
+    out: &mut [u8],
+) -> usize {
     let token = token_at(line, at);
     match count(text(line, token), bytes.len()) {
         Counted::Wrong(fault) => {

@@ -1,0 +1,2 @@
+-- What the loops of the line tool keep.
+pub mod Kept

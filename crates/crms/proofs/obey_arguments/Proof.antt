@@ -1,0 +1,32 @@
+use Prim.Native.Nat.{_-_}
+use borrow.Author.Needs.{needs}
+use Rattle.crms.proofs.Kept.{Kept}
+use Rattle.crms.proofs.obey_arguments.Statement.{statement}
+use Rattle.crms.proofs.obey_arguments.Tie as tie
+
+abbrev Inv-loop : tie.InvT-loop
+Inv-loop count line₀ numbers₀ data₀ regular₀ alternate₀ out₀ k₀ line numbers «data» regular alternate out k =
+    Kept line₀ numbers₀ data₀ regular₀ alternate₀ out₀ line numbers «data» regular alternate out
+
+abbrev μ-loop : tie.MeasureT-loop
+μ-loop count line₀ numbers₀ data₀ regular₀ alternate₀ out₀ k₀ line numbers «data» regular alternate out k =
+    count - k
+
+pub obey-arguments-spec : {M : Type 1} → statement M
+obey-arguments-spec =
+    tie.close
+    (tie.spec
+    Inv-loop
+    μ-loop
+    (λ c. search needs)  -- loop-holds
+    (λ c κs. search needs)  -- obey-argument-requires
+    (λ c. search needs)  -- add-k
+    (λ c. search needs)  -- loop-less
+    (λ c. search needs)  -- loop-again
+    (λ c. search needs)  -- same-length
+    (λ c. search needs)  -- same-length-2
+    (λ c. search needs)  -- same-length-3
+    (λ c. search needs)  -- same-length-4
+    (λ c. search needs)  -- same-length-5
+    (λ c. search needs)  -- same-length-6
+    (λ c. search needs))  -- returns

@@ -1,0 +1,174 @@
+// The lines of one file, each obeyed as soon as it has ended.
+use crate::answers::cannot_read;
+use crate::answers::error;
+use crate::commands::obey;
+use crate::session::Session;
+use crate::session::first_bytes;
+use script::fault::Fault;
+use script::tokens::is_passed_over;
+use script::tokens::line_end;
+use script::tokens::token_at;
+use script::writing::put;
+
+// All lines of a file, in a session of their own. The last may lack its line feed.
+pub fn obey_all(
+    fd: i32,
+    name: &[u8],
+    line: &mut [u8],
+    numbers: &mut [u32],
+    data: &mut [u32],
+    regular: &mut [u8],
+    alternate: &mut [u8],
+    out: &mut [u8],
+) {
+    let mut buffer = io::large_buffer();
+    let session = read_all(
+        fd,
+        name,
+        &mut buffer,
+        line,
+        numbers,
+        data,
+        regular,
+        alternate,
+        out,
+    );
+    end_line(session, line, numbers, data, regular, alternate, out);
+}
+
+// Reads until the file ends. Where it cannot be read on, the line that was begun is dropped.
+fn read_all(
+    fd: i32,
+    name: &[u8],
+    buffer: &mut [u8],
+    line: &mut [u8],
+    numbers: &mut [u32],
+    data: &mut [u32],
+    regular: &mut [u8],
+    alternate: &mut [u8],
+    out: &mut [u8],
+) -> Session {
+    let mut session = Session::new();
+    let mut left: u64 = 0xffff_ffff_ffff_ffff;
+    while 0 < left {
+        let got = libc::read(fd, buffer);
+        if got < 0 {
+            cannot_read(name, out);
+            return session.with_held(0, false);
+        }
+        let n = io::count(got, buffer);
+        if n == 0 {
+            return session;
+        }
+        session = take(
+            session,
+            &buffer[..n],
+            line,
+            numbers,
+            data,
+            regular,
+            alternate,
+            out,
+        );
+        left -= 1;
+    }
+    session
+}
+
+// Bytes of the file: each line that ends in them is obeyed, and what is left is held.
+fn take(
+    start: Session,
+    bytes: &[u8],
+    line: &mut [u8],
+    numbers: &mut [u32],
+    data: &mut [u32],
+    regular: &mut [u8],
+    alternate: &mut [u8],
+    out: &mut [u8],
+) -> Session {
+    let mut session = start;
+    let mut at = 0;
+    while at < bytes.len() {
+        let end = line_end(bytes, at);
+        let next = end + 1;
+        session = take_part(
+            session,
+            &bytes[at..end],
+            end < bytes.len(),
+            line,
+            numbers,
+            data,
+            regular,
+            alternate,
+            out,
+        );
+        at = next;
+    }
+    session
+}
+
+// Bytes of one line, which may end with them.
+fn take_part(
+    session: Session,
+    part: &[u8],
+    ends: bool,
+    line: &mut [u8],
+    numbers: &mut [u32],
+    data: &mut [u32],
+    regular: &mut [u8],
+    alternate: &mut [u8],
+    out: &mut [u8],
+) -> Session {
+    let longer = hold(session, part, line);
+    if ends {
+        return end_line(longer, line, numbers, data, regular, alternate, out);
+    }
+    longer
+}
+
+// More bytes of a line; of one that is too long the beginning is kept.
+fn hold(session: Session, more: &[u8], line: &mut [u8]) -> Session {
+    let from = session.held;
+    if line.len() < from {
+        return session;
+    }
+    let room = line.len() - from;
+    let to = put(line, from, more);
+    if room < more.len() {
+        return session.with_held(to, true);
+    }
+    session.with_held(to, session.long)
+}
+
+// The line that is held has ended.
+fn end_line(
+    session: Session,
+    line: &[u8],
+    numbers: &mut [u32],
+    data: &mut [u32],
+    regular: &mut [u8],
+    alternate: &mut [u8],
+    out: &mut [u8],
+) -> Session {
+    let next = session.with_held(0, false);
+    let whole = first_bytes(line, session.held);
+    if session.long {
+        end_long_line(whole, out);
+        return next;
+    }
+    if is_passed_over(whole) {
+        return next;
+    }
+    obey(next, whole, numbers, data, regular, alternate, out)
+}
+
+// Of a line that is too long only the beginning is known: it may be passed over as a comment, but not as a blank line.
+fn end_long_line(beginning: &[u8], out: &mut [u8]) {
+    let first = token_at(beginning, 0);
+    if is_passed_over(beginning) {
+        if !first.is_empty() {
+            return;
+        }
+    }
+    error(out, Fault::LongLine, beginning, first);
+}
