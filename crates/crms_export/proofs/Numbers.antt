@@ -22,7 +22,7 @@ pub run-told : (number : ℕ) (answer : Run) (s : List ℕ) (e : Ended) → numb
     → (number ≡ runNumber (e .answer)) × (s ≡ e .words)
 run-told number answer s e same told = (same ∙ ap (λ (e : Ended). runNumber (e .answer)) told, ap (λ (e : Ended). e .words) told)
 
-part-length : (n : ℕ) (s : List ℕ) (a : ℕ) → length (part s a n) ≡ n
+pub part-length : (n : ℕ) (s : List ℕ) (a : ℕ) → length (part s a n) ≡ n
 part-length zero s a = refl
 part-length (suc n) s a = ap suc (part-length n s (a + 1))
 
