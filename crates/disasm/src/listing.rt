@@ -1,6 +1,5 @@
 // The listing of one procedure segment.
 ghost use Prim.Native.Nat.{_+_, _^_, _<_};
-ghost use lib.ListN.{length};
 use crate::text::array_name;
 use crate::text::control_name;
 use crate::text::field;
@@ -17,7 +16,7 @@ use crate::text::variable;
 use descriptor::address::CodeAddress;
 use instruction::Decoded;
 use instruction::Instruction;
-use instruction::decode::instruction_at;
+use instruction::Jump;
 use instruction::family::Family;
 use instruction::family::family_of;
 use procedure::bytes::byte_at;
@@ -30,6 +29,7 @@ use procedure::header::Line;
 use procedure::refusal::Fault;
 use procedure::refusal::FunctionFault;
 use procedure::refusal::fault_of;
+use reader::Reader;
 
 // All functions of a segment that the tests 11 and 12 accept; else what is wrong.
 pub fn segment(p: &[u8]) {
@@ -119,13 +119,34 @@ fn line_entry(p: &[u8], block: Block, i: u32) {
 
 // Instruction after instruction; a byte that starts none is passed over.
 fn instructions(p: &[u8], block: Block) {
-    let code = block.code(p);
     let end = block.code_end();
-    let mut at: u32 = 8;
-    while at < end {
-        lines(p, block, at);
-        at = instruction(code, at);
+    let mut r = Reader::new(block.code(p));
+    while r.place.number() < end {
+        let at = r.place;
+        listed(p, block, at, r.next());
+        r.place = past(at, r.place);
     }
+}
+
+// The lines that start at a place, and what was found there.
+fn listed(p: &[u8], block: Block, at: CodeAddress, found: Decoded) {
+    lines(p, block, at.number());
+    let code = block.code(p);
+    match found {
+        Decoded::Trap(class, n) => trapped(code, at.number(), class, n),
+        Decoded::Instruction(i, next) => decoded(code, at.number(), next.number(), i),
+    }
+}
+
+// Where the listing goes on: where the reader now stands, and past the byte where it stayed.
+fn past(at: CodeAddress, now: CodeAddress) -> CodeAddress
+    requires { ⌜ at .0 + 1 < 2 ^ 32 ⌝ }
+    ensures { λ r. ⌜ at .0 < r .0 ⌝ }
+{
+    if at.number() < now.number() {
+        return now;
+    }
+    CodeAddress::of(at.number() + 1)
 }
 
 // The lines that start at a place.
@@ -146,23 +167,6 @@ fn line(p: &[u8], block: Block, i: u32, at: u32) {
         say(b"line ");
         number(i as u64);
         say(b"\n");
-    }
-}
-
-// One instruction, and the place after it, which is a later one.
-fn instruction(code: &[u8], at: u32) -> u32
-    requires { ⌜ (at + 1 < 2 ^ 32) × (length (now code) < 2 ^ 32) ⌝ }
-    ensures { λ r. ⌜ at < r ⌝ }
-{
-    match instruction_at(code, CodeAddress::of(at)) {
-        Decoded::Trap(class, n) => {
-            trapped(code, at, class, n);
-            at + 1
-        }
-        Decoded::Instruction(i, next) => {
-            decoded(code, at, next.number(), i);
-            next.number()
-        }
     }
 }
 
@@ -213,13 +217,7 @@ fn name(code: &[u8], first: u8, i: Instruction) {
         Instruction::ShortConstant {
             negative,
             magnitude,
-        } => {
-            say(b"SHORTCONST ");
-            if negative {
-                say(b"-");
-            }
-            number(magnitude as u64);
-        }
+        } => short_constant(negative, magnitude),
         Instruction::Scalar(o) => operator_name(o),
         Instruction::Memory(o, a) => {
             memory_name(o);
@@ -228,11 +226,7 @@ fn name(code: &[u8], first: u8, i: Instruction) {
         Instruction::Stack(o) => stack_name(o),
         Instruction::Array(o) => array_name(o),
         Instruction::Control(o) => control_name(o),
-        Instruction::Jump(o, to) => {
-            jump_name(o);
-            say(b" ");
-            number(to.number() as u64);
-        }
+        Instruction::Jump(o, to) => jump(o, to),
         Instruction::ConstantScalar(w) => {
             say(b"CONSTANT_SCALAR ");
             hex(w as u64, 8);
@@ -259,6 +253,20 @@ fn load_name(family: Family) {
         Family::LongLocal => say(b"LONGLOCAL"),
         _ => say(b"LONGGLOBAL"),
     }
+}
+
+fn short_constant(negative: bool, magnitude: u32) {
+    say(b"SHORTCONST ");
+    if negative {
+        say(b"-");
+    }
+    number(magnitude as u64);
+}
+
+fn jump(o: Jump, to: CodeAddress) {
+    jump_name(o);
+    say(b" ");
+    number(to.number() as u64);
 }
 
 fn call(arguments: u16, alternate: bool, callee: u16) {

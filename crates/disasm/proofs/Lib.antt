@@ -1,2 +1,0 @@
--- What the listing's loops rest on.
-pub mod Later

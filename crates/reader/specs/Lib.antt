@@ -1,0 +1,4 @@
+-- Walking one function's code.
+pub mod Walking
+pub mod Examples
+pub mod Theorems
