@@ -1,16 +1,19 @@
 -- GO, and GO_TRUE and GO_FALSE with the integer 0 or 1, to a place of the code.
-use Prim.Native.Nat.{ℕ, _-_, _≤_, _<_}
+use Prim.Native.Nat.{ℕ, _+_, _-_, _*_, _/_, _%_, _^_, _≤_, _<_}
 use native.Mathlib.Omega.{arith}
+use native.Mathlib.Nat.{mod-eq-of-lt}
 use mathlib.Core.Path.{_≡_, refl, sym, ap, _∙_}
 use mathlib.Core.Bool.{Bool, true, false, cond, not, _||_}
 use mathlib.Core.List.{List, [], _∷_, _++_}
 use lib.Dec.{ltb, leb, eqb}
+use lib.ListN.{set}
 use borrow.Author.Tests.{le-ltb, lt-leb, eqb-true, eqb-false}
 use Rattle.descriptor.specs.Kinds.{bit, kindOf, integerKind, isScalar}
 use Rattle.scalar.specs.declared.Truth.the-variants as T
 use Rattle.scalar.specs.Reading.{truthOf, truthUnits}
 use Rattle.scalar.specs.Value.{units}
-use Rattle.segment.specs.State.{ltop, setLtop}
+use Rattle.segment.specs.State.{sbase, lbase, ltop, setLtop}
+use Rattle.segment.specs.Stack.{codeWordAt, setPctr}
 use Rattle.procedure.specs.declared.header.Header.{Header}
 use Rattle.procedure.specs.Headers.{codeStart, codeEnd}
 use Rattle.manual.specs.OrTrap.{gives}
@@ -23,6 +26,11 @@ use Rattle.access.proofs.Seen.{count-seen}
 use Rattle.perform.specs.declared.Outcome.the-variants.{Finished}
 use Rattle.perform.specs.Carried.{did, carry}
 use Rattle.quick.proofs.Words.{scalar-no-array, scalar-operand, discarded}
+
+-- PCTR written with the whole of its word: a place of sixteen bits is the lower half.
+pub whole-jumped : (s : List ℕ) (place : ℕ) {t : List ℕ} → place < 2 ^ 16 → t ≡ set s (sbase s + lbase s + 1) (codeWordAt s (lbase s) / 2 ^ 16 * 2 ^ 16 + place) → t ≡ perform s (jumps place)
+unfolding setPctr
+whole-jumped s place small done = done ∙ rw (mod-eq-of-lt small)
 
 -- A place that is none of the function's code.
 abbrev outside : Header → ℕ → Bool

@@ -37,12 +37,13 @@ use operator::Dyadic;
 use operator::Operator;
 use operator::Suboperation;
 use operator::operator_of;
+use perform::taking;
 use perform::taking::base;
-use perform::taking::jump;
 use perform::taking::replace_by_word;
 use perform::taking::top;
 use procedure::header::Header;
 use scalar::Answer;
+use segment::high;
 use segment::minus;
 use segment::put;
 use segment::state::lbase;
@@ -277,6 +278,20 @@ fn go(seg: &mut [u32], to: u32) -> bool
 {
     jump(seg, to);
     true
+}
+
+// The current function goes on at that place. PCTR is written with the whole of its word: a read of the word right after its
+// half was written would wait for the write.
+fn jump(seg: &mut [u32], place: u32)
+    ensures { λ _. ⌜ now (seg .exit) ≡ perform (now (seg .entry)) (effect.jumps place) ⌝ }
+{
+    if 0xFFFF < place {
+        taking::jump(seg, place);
+        return;
+    }
+    let i = lbase(seg).index(sbase(seg)) + 1;
+    let kept = high(word(seg, i)) as u32;
+    put(seg, i, kept * 0x1_0000 + place);
 }
 
 // The operand is the integer 0 or 1.
