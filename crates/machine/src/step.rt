@@ -7,9 +7,8 @@ ghost use lib.Dec.{eqb};
 ghost use Rattle.procedure.specs.Directory.{selected, functionOf};
 ghost use Rattle.segment.specs.State as state;
 ghost use Rattle.stepping.specs.Step as meaning;
-use super::dispatch::execute;
-use instruction::Decoded;
-use instruction::decode::decode;
+use super::dispatch::obey;
+use quick::quick;
 use perform::Outcome;
 use procedure::directory::Function;
 use procedure::directory::find;
@@ -19,7 +18,7 @@ use procedure::header::Header;
 use procedure::header::header_at;
 use segment::stack::alternate;
 use segment::stack::function_number;
-use segment::stack::pctr;
+use descriptor::address::CodeAddress;
 use segment::state::fcnctrc;
 use segment::state::fcnrtrc;
 use segment::state::lbase;
@@ -27,54 +26,24 @@ use segment::state::set_trap;
 use segment::state::step_flag;
 use stepping::Stepped;
 
-pub fn step(seg: &mut [u32], regular: &[u8], other: &[u8], scratch: &mut [u32]) -> Stepped
-    requires { ⌜ (length (now seg) ≤ 16384) × (length (now scratch) ≡ 16384) ⌝ }
-    ensures { λ r. ⌜ meaning.after r (now (seg .exit)) ≡ meaning.stepOf (now (regular .entry)) (now (other .entry)) (now (seg .entry)) ⌝ }
-{
-    let base = lbase(seg);
-    let selector = alternate(seg, base);
-    match function(regular, other, selector, function_number(seg, base) as u16) {
-        Function::Absent => trap(seg, 3, 1),
-        Function::At(block) => step_in(seg, regular, other, selector, block, scratch),
-    }
-}
-
-fn function(regular: &[u8], other: &[u8], selector: bool, number: u16) -> Function
-    ensures { λ r. ⌜ r ≡ functionOf (selected selector (now (regular .entry)) (now (other .entry))) number ⌝ }
-{
-    if selector {
-        return find(other, number);
-    }
-    find(regular, number)
-}
-
-fn step_in(
+pub fn step_in(
     seg: &mut [u32],
     regular: &[u8],
     other: &[u8],
     selector: bool,
     block: Block,
+    code: &[u8],
+    place: u32,
     scratch: &mut [u32],
 ) -> Stepped
     requires { ⌜ (length (now seg) ≤ 16384) × (length (now scratch) ≡ 16384) ⌝ }
     ensures { λ r. ⌜ meaning.after r (now (seg .exit)) ≡ meaning.stepIn (record { regular = now (regular .entry); alternate = now (other .entry); selector = selector; block = block }) (now (seg .entry)) ⌝ }
 {
-    match decode(regular, other, selector, block, pctr(seg, lbase(seg))) {
-        Decoded::Trap(class, number) => trap(seg, class, number),
-        Decoded::Instruction(i, next) => {
-            let outcome = execute(
-                seg,
-                regular,
-                other,
-                selector,
-                block,
-                i,
-                next.number(),
-                scratch,
-            );
-            settle(seg, regular, other, block.header.rtntrace, outcome)
-        }
+    if quick(seg, block.header, code, place) {
+        return step_trap(seg);
     }
+    let outcome = obey(seg, regular, other, selector, block, code, CodeAddress::of(place), scratch);
+    settle(seg, regular, other, block.header.rtntrace, outcome)
 }
 
 // What is due after an instruction: its trap, or a trace or the step trap.
