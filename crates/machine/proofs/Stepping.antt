@@ -1,18 +1,19 @@
 -- A step by the ways that the code goes.
-use Prim.Native.Nat.{ℕ, _/_, _%_, _^_, _<_}
+use Prim.Native.Nat.{ℕ, _+_, _*_, _/_, _%_, _^_, _<_, _≤_}
 use native.Mathlib.Omega.{arith}
 use mathlib.Core.Path.{_≡_, sym, ap, _∙_}
 use mathlib.Core.Bool.{Bool, true, false}
 use mathlib.Core.List.{List}
 use lib.Dec.{eqb}
-use borrow.Author.Tests.{ne-eqb, eqb-true, eqb-false}
+use borrow.Author.Tests.{eq-eqb, ne-eqb, eqb-true, eqb-false}
+use mir.Val.{boolByte}
 use Rattle.procedure.specs.declared.header.Block.{Block}
 use Rattle.procedure.specs.declared.directory.Function.the-variants as F
 use Rattle.procedure.specs.Headers.{codeOf}
 use Rattle.procedure.specs.Directory.{selected, functionOf}
 use Rattle.instruction.specs.Decoding.{decodeOf}
 use Rattle.segment.specs.State.{lbase, flags, stepFlag, setTrap}
-use Rattle.segment.specs.Stack.{codeWordAt, pctr}
+use Rattle.segment.specs.Stack.{codeWordAt, alternate, functionNumber, pctr}
 use Rattle.manual.specs.Instructions.{Running, segmentOf, headerOf, planDecoded, planAt}
 use Rattle.effects.specs.Seen.{seen}
 use Rattle.perform.specs.declared.Outcome.{Outcome}
@@ -26,6 +27,28 @@ eight-bits n small = omega arith
 
 flag-clear : (w : ℕ) → (w / 2 ^ 3 % 2 ≡ 1 → ⊥) → w / 2 ^ 3 % 2 ≡ 0
 flag-clear w clear = omega (arith, clear)
+
+pub bit-small : (P : Bool) → boolByte P ≤ 1
+bit-small true = omega arith
+bit-small false = omega arith
+
+pub number-small : (s : List ℕ) {number : ℕ} → numberOf s ≡ number → number < 2 ^ 11
+number-small s is = omega arith
+
+-- P and the function's number in a frame's word, apart and at once
+module _ (w number : ℕ) where
+  pub function-in : (P : Bool) → eqb (alternate w) 1 ≡ P → functionNumber w ≡ number → w / 2 ^ 16 % 2 ^ 12 ≡ number + 2048 * boolByte P
+  function-in true set is = omega (arith, eqb-true (alternate w) 1 set)
+  function-in false clear is = omega (arith, eqb-false (alternate w) 1 clear)
+
+  module _ (small : number < 2 ^ 11) where
+    pub selector-of : (P : Bool) → w / 2 ^ 16 % 2 ^ 12 ≡ number + 2048 * boolByte P → eqb (alternate w) 1 ≡ P
+    selector-of true is = eq-eqb (alternate w) 1 (omega arith)
+    selector-of false is = ne-eqb (alternate w) 1 (omega arith)
+
+    pub number-of : (P : Bool) → w / 2 ^ 16 % 2 ^ 12 ≡ number + 2048 * boolByte P → functionNumber w ≡ number
+    number-of true is = omega arith
+    number-of false is = omega arith
 
 module _ (s : List ℕ) where
   pub trap-set : (class number : ℕ) → class < 256 → number < 256 → after (Trapped class number) (setTrap s class number) ≡ trapped s class number
@@ -61,3 +84,10 @@ module _ (s : List ℕ) where
 
     pub step-found : (block : Block) → functionOf (selected selector regular other) number ≡ F.At block → stepIn (record { regular = regular; alternate = other; selector = selector; block = block }) s ≡ stepOf regular other s
     step-found block is = ap (stepFound regular other s selector) (sym is) ∙ found
+
+  -- the function that the second word of the current frame tells at once
+  pub step-here : (regular other : List ℕ) (P : Bool) {number : ℕ} (block : Block) {w : ℕ} → number < 2 ^ 11 → functionOf (selected P regular other) number ≡ F.At block → w ≡ codeWordAt s (lbase s) → w / 2 ^ 16 % 2 ^ 12 ≡ number + 2048 * boolByte P → stepIn (record { regular = regular; alternate = other; selector = P; block = block }) s ≡ stepOf regular other s
+  step-here regular other P {number} block {w} small is held same =
+      let word = codeWordAt s (lbase s) in
+      let told : word / 2 ^ 16 % 2 ^ 12 ≡ number + 2048 * boolByte P = rw (← held) same in
+      step-found regular other (selector-of word number small P told) (number-of word number small P told) block is

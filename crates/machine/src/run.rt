@@ -136,7 +136,7 @@ fn stretch_of(
 }
 
 fn trap_absent(seg: &mut [u32], steps: u32) -> Ran
-    ensures { λ r. ⌜ ended r (now (seg .exit)) ≡ ended (R.Trapped steps) (state.setTrap (now (seg .entry)) 3 1) ⌝ }
+    ensures { λ r. ⌜ (r ≡ R.Trapped steps) × (now (seg .exit) ≡ state.setTrap (now (seg .entry)) 3 1) ⌝ }
 {
     set_trap(seg, 3, 1);
     Ran::Trapped(steps)

@@ -1,58 +1,43 @@
+use native.Mathlib.Omega.{arith}
+use Rattle.machine.proofs.Budget.{run-absent}
+use Rattle.machine.proofs.Stepping.{step-absent}
 use borrow.Author.Needs.{needs}
 use Rattle.machine.proofs.run.stretch_of.Statement.{statement}
 use Rattle.machine.proofs.run.stretch_of.Tie as tie
-use Rattle.machine.proofs.run.stretch_of.Reads as reads
-use Rattle.machine.proofs.run.stretch_of.Lts as lts
-use Rattle.machine.proofs.run.steps_in.Reads as steps-in-reads
-use Rattle.machine.proofs.run.trap_absent.Reads as trap-absent-reads
-use Rattle.procedure.proofs.directory.find.Reads as find-reads
-use Rattle.procedure.proofs.header.Block.code.Reads as code-reads
 
--- src/run.rt:121:19
 cast-find : tie.Need-cast-find
 cast-find c = search needs
 
--- src/run.rt:121:11
 find-requires : tie.Need-find-requires
 find-requires c κs = search needs
 
--- src/run.rt:122:41
 enum-told : tie.Need-enum-told
 enum-told c = search needs
 
--- src/run.rt:122:29
 trap-absent-requires : tie.Need-trap-absent-requires
 trap-absent-requires c κs = search needs
 
--- src/run.rt:123:22
 enum-known-block : tie.Need-enum-known-block
 enum-known-block c = search needs
 
--- src/run.rt:130:13
 code-requires : tie.Need-code-requires
 code-requires c κs = search needs
 
--- src/run.rt:123:32
 steps-in-requires : tie.Need-steps-in-requires
-steps-in-requires c κs = ?
+steps-in-requires c κs = let q = c .before .before .before .before .before .before .before .before .before .before .before .before .pre in (search needs, ((cc), (cc), q .1 .1, q .1 .2))
 
--- src/run.rt:105:1
 same-length : tie.Need-same-length
 same-length c = search needs
 
--- src/run.rt:105:1
 returns : tie.Need-returns
-returns c = ?
+returns c = let a = c .before .before .before .before .before .before .before .before .before .before .before .before .args in let p = c .before .before .before .before .before .before .before .before .before .before .before .before .pre in let t = c .before .before .trap-absent .ensures in run-absent (a .regular .now) (a .other .now) (a .budget) (a .start) (a .seg .now) (omega arith) (step-absent (a .seg .now) (a .regular .now) (a .other .now) (p .1 .1) (p .1 .2) (cc)) (t .0) (t .1)
 
--- src/run.rt:105:1
 same-length-2 : tie.Need-same-length-2
 same-length-2 c = search needs
 
--- src/run.rt:105:1
 same-length-3 : tie.Need-same-length-3
 same-length-3 c = search needs
 
--- src/run.rt:105:1
 returns-2 : tie.Need-returns-2
 returns-2 c = search needs
 
