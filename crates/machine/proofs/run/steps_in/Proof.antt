@@ -82,7 +82,7 @@ same-length-4 : tie.Need-same-length-4 Inv-loop μ-loop
 same-length-4 c = search needs
 
 returns-2 : tie.Need-returns-2 Inv-loop μ-loop
-returns-2 c = let a = c .before .before .before .before .before .before .before .before .before .before .before .before .before .before .before .before .before .before .before .before .before .before .before .args in let q = c .before .before .before .before .before .before .before .before .before .before .before .before .before .before .before .before .before .before .before .before .before .before .before .pre in let l = c .before .before .before .before .before .before .before .before .before .before .before .before .before .before .before .before .before .loop in let p = c .before .before .before .before .before .before .step-in in let is = p .ensures ∙ step-here (l .seg) (a .regular .now) (a .other .now) (a .selector) (a .block) (number-small (a .seg .now) (q .1 .3)) (q .1 .0) (c .before .before .before .before .before .before .before .before .before .before .before .before .before .before .here .ensures) (c .before .before .before .before .before .before .before .before .before .before .before .before .before .if1 .left) in (run-traced _ _ _ _ _ (p .result) (p .last .0) (omega arith) is _ _ (c .enum-told2 .given .1) ∙ l .inv .5, tt)
+returns-2 c = let a = c .before .before .before .before .before .before .before .before .before .before .before .before .before .before .before .before .before .before .before .before .before .before .before .args in let q = c .before .before .before .before .before .before .before .before .before .before .before .before .before .before .before .before .before .before .before .before .before .before .before .pre in let l = c .before .before .before .before .before .before .before .before .before .before .before .before .before .before .before .before .before .loop in let p = c .before .before .before .before .before .before .step-in in let is = p .ensures ∙ step-here (l .seg) (a .regular .now) (a .other .now) (a .selector) (a .block) (number-small (a .seg .now) (q .1 .3)) (q .1 .0) (c .before .before .before .before .before .before .before .before .before .before .before .before .before .before .here .ensures) (c .before .before .before .before .before .before .before .before .before .before .before .before .before .if1 .left) in (run-traced _ _ _ _ _ (p .result) (p .last .0) (omega arith) is _ _ (c .enum-told2 .given .1) ∙ l .inv .5, search needs)
 
 enum-told-3 : tie.Need-enum-told-3 Inv-loop μ-loop
 enum-told-3 c = search needs
@@ -94,7 +94,7 @@ same-length-6 : tie.Need-same-length-6 Inv-loop μ-loop
 same-length-6 c = search needs
 
 returns-3 : tie.Need-returns-3 Inv-loop μ-loop
-returns-3 c = let a = c .before .before .before .before .before .before .before .before .before .before .before .before .before .before .before .before .before .before .before .before .before .before .before .args in let q = c .before .before .before .before .before .before .before .before .before .before .before .before .before .before .before .before .before .before .before .before .before .before .before .pre in let l = c .before .before .before .before .before .before .before .before .before .before .before .before .before .before .before .before .before .loop in let p = c .before .before .before .before .before .before .step-in in let is = p .ensures ∙ step-here (l .seg) (a .regular .now) (a .other .now) (a .selector) (a .block) (number-small (a .seg .now) (q .1 .3)) (q .1 .0) (c .before .before .before .before .before .before .before .before .before .before .before .before .before .before .here .ensures) (c .before .before .before .before .before .before .before .before .before .before .before .before .before .if1 .left) in (run-trapped _ _ _ _ _ (p .result) (p .last .0) (omega arith) is _ _ (c .enum-told3 .given .1) ∙ l .inv .5, tt)
+returns-3 c = let a = c .before .before .before .before .before .before .before .before .before .before .before .before .before .before .before .before .before .before .before .before .before .before .before .args in let q = c .before .before .before .before .before .before .before .before .before .before .before .before .before .before .before .before .before .before .before .before .before .before .before .pre in let l = c .before .before .before .before .before .before .before .before .before .before .before .before .before .before .before .before .before .loop in let p = c .before .before .before .before .before .before .step-in in let is = p .ensures ∙ step-here (l .seg) (a .regular .now) (a .other .now) (a .selector) (a .block) (number-small (a .seg .now) (q .1 .3)) (q .1 .0) (c .before .before .before .before .before .before .before .before .before .before .before .before .before .before .here .ensures) (c .before .before .before .before .before .before .before .before .before .before .before .before .before .if1 .left) in (run-trapped _ _ _ _ _ (p .result) (p .last .0) (omega arith) is _ _ (c .enum-told3 .given .1) ∙ l .inv .5, search needs)
 
 same-length-7 : tie.Need-same-length-7 Inv-loop μ-loop
 same-length-7 c = search needs
