@@ -1,0 +1,63 @@
+-- An operator on two operands that are scalars, and that gives a word.
+use Prim.Native.Nat.{ℕ, _+_, _-_, _≤_}
+use native.Mathlib.Omega.{arith}
+use mathlib.Core.Path.{_≡_, sym, ap, _∙_}
+use mathlib.Core.Bool.{true}
+use mathlib.Core.List.{List, [], _∷_}
+use lib.ListN.{getD}
+use borrow.Author.Tests.{le-ltb}
+use Rattle.descriptor.specs.Fields.{isArray}
+use Rattle.descriptor.specs.Kinds.{isScalar}
+use Rattle.operator.specs.declared.Dyadic.{Dyadic}
+use Rattle.scalar.specs.declared.Answer.{Answer}
+use Rattle.scalar.specs.declared.Answer.the-variants.{Word}
+use Rattle.scalar.specs.Operators.{dyadicOf}
+use Rattle.segment.specs.State.{sbase, ltop}
+use Rattle.storage.specs.Arrays.{drops}
+use Rattle.manual.specs.OrTrap.{gives}
+use Rattle.manual.specs.Effects.{word, replaces, jumps}
+use Rattle.manual.specs.Values as values
+use Rattle.manual.specs.Scalars as plan
+use Rattle.effects.specs.Sources.{operandAt}
+use Rattle.effects.specs.Seen.{temporaries, seen}
+use Rattle.effects.specs.Perform.{bottomOf, finish, replace, perform}
+use Rattle.access.proofs.Seen.{count-seen}
+use Rattle.perform.specs.declared.Outcome.the-variants.{Finished}
+use Rattle.perform.specs.Carried.{did, carry}
+use Rattle.quick.proofs.Words.{scalar-no-array, scalar-operand, dropped-two}
+
+module _ (s : List ℕ) (two : 2 ≤ temporaries s) {x y : ℕ} (top : x ≡ operandAt s 0) (first : isScalar x ≡ true) (under : y ≡ operandAt s 1) (second : isScalar y ≡ true) where
+  scalar-top : isScalar (operandAt s 0) ≡ true
+  scalar-top = ap isScalar (sym top) ∙ first
+
+  scalar-under : isScalar (operandAt s 1) ≡ true
+  scalar-under = ap isScalar (sym under) ∙ second
+
+  taken : (w : ℕ) → finish s (bottomOf s 2) w ≡ replace s 2 (word w)
+  unfolding replace
+  taken w = ap (λ (u : List ℕ). finish u (bottomOf s 2) w) (sym kept)
+    where
+      high : bottomOf s 2 + 1 ≡ sbase s + ltop s - 0
+      high = omega arith
+
+      low : bottomOf s 2 ≡ sbase s + ltop s - 1
+      low = omega arith
+
+      kept : drops 2 s (bottomOf s 2) ≡ s
+      kept =
+          dropped-two s (bottomOf s 2)
+          (ap (λ (i : ℕ). isArray (getD s i 0)) high ∙ scalar-no-array (operandAt s 0) scalar-top)
+          (ap (λ (i : ℕ). isArray (getD s i 0)) low ∙ scalar-no-array (operandAt s 1) scalar-under)
+
+  module _ (next : ℕ) (op : Dyadic) {answer : Answer} {w : ℕ} (combined : answer ≡ dyadicOf op x y) (gave : answer ≡ Word w) where
+    result : dyadicOf op (operandAt s 0) (operandAt s 1) ≡ Word w
+    result = cc
+
+    planned : plan.dyadic (seen s) next op ≡ gives (replaces 2 (word w) ∷ jumps next ∷ [])
+    unfolding plan.dyadic values.dyadic values.conform values.pairwise
+    planned = rw (count-seen s, le-ltb (temporaries s) 2 two, scalar-operand s 0 (omega arith) scalar-top, scalar-operand s 1 (omega arith) scalar-under, result)
+
+    pub scalars-combined : {t : List ℕ} → t ≡ perform (finish s (bottomOf s 2) w) (jumps next) → did Finished t ≡ carry s (plan.dyadic (seen s) next op)
+    scalars-combined done =
+        ap (did Finished) (done ∙ ap (λ (u : List ℕ). perform u (jumps next)) (taken w))
+        ∙ ap (carry s) (sym planned)

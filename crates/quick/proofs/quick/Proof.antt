@@ -1,0 +1,156 @@
+use mathlib.Core.Path.{refl}
+use native.Mathlib.Omega.{arith}
+use Rattle.quick.proofs.Decoding.{load-at, constant-at, scalar-at, memory-at, etc-at}
+use Rattle.quick.proofs.Answers.{left-at}
+use borrow.Author.Needs.{needs}
+use Rattle.quick.proofs.quick.Statement.{statement}
+use Rattle.quick.proofs.quick.Tie as tie
+
+returns : tie.Need-returns
+returns c = left-at
+
+returns-2 : tie.Need-returns-2
+returns-2 c = left-at
+
+shared-slice-read-first : tie.Need-shared-slice-read-first
+shared-slice-read-first c = search needs
+
+family-of-requires : tie.Need-family-of-requires
+family-of-requires c κs = search needs
+
+enum-told : tie.Need-enum-told
+enum-told c = search needs
+
+after-requires : tie.Need-after-requires
+after-requires c κs = search needs
+
+load-requires : tie.Need-load-requires
+load-requires c κs = search needs
+
+enum-told-2 : tie.Need-enum-told-2
+enum-told-2 c = search needs
+
+constant-requires : tie.Need-constant-requires
+constant-requires c κs = search needs
+
+enum-told-3 : tie.Need-enum-told-3
+enum-told-3 c = search needs
+
+operator-of-requires : tie.Need-operator-of-requires
+operator-of-requires c κs = search needs
+
+scalar-operation-requires : tie.Need-scalar-operation-requires
+scalar-operation-requires c κs = search needs
+
+enum-told-4 : tie.Need-enum-told-4
+enum-told-4 c = search needs
+
+memory-of-requires : tie.Need-memory-of-requires
+memory-of-requires c κs = search needs
+
+memory-requires : tie.Need-memory-requires
+memory-requires c κs = search needs
+
+enum-told-5 : tie.Need-enum-told-5
+enum-told-5 c = search needs
+
+etc-of-requires : tie.Need-etc-of-requires
+etc-of-requires c κs = search needs
+
+etc-requires : tie.Need-etc-requires
+etc-requires c κs = search needs
+
+enum-told-6 : tie.Need-enum-told-6
+enum-told-6 c = search needs
+
+enum-told-7 : tie.Need-enum-told-7
+enum-told-7 c = search needs
+
+enum-told-8 : tie.Need-enum-told-8
+enum-told-8 c = search needs
+
+enum-told-9 : tie.Need-enum-told-9
+enum-told-9 c = search needs
+
+same-length : tie.Need-same-length
+same-length c = search needs
+
+returns-3 : tie.Need-returns-3
+returns-3 c = load-at _ _ _ _ (omega arith) (omega arith) refl (c .before .before .before .before .before .before .before .family-of .ensures) (c .before .before .before .before .before .enum-told .given .1) (c .before .before .before .after .ensures) (c .before .before .load .ensures)
+
+same-length-2 : tie.Need-same-length-2
+same-length-2 c = search needs
+
+returns-4 : tie.Need-returns-4
+returns-4 c = constant-at _ _ _ _ (omega arith) (omega arith) refl (c .before .before .before .before .before .before .family-of .ensures) (c .before .before .before .before .enum-told2 .given .1) (c .before .before .constant .ensures _)
+
+same-length-3 : tie.Need-same-length-3
+same-length-3 c = search needs
+
+returns-5 : tie.Need-returns-5
+returns-5 c = scalar-at _ _ _ _ (omega arith) (omega arith) refl (c .before .before .before .before .before .before .before .family-of .ensures) (c .before .before .before .before .before .enum-told3 .given .1) (c .before .before .before .operator-of .ensures) (c .before .before .scalar-operation .ensures _)
+
+same-length-4 : tie.Need-same-length-4
+same-length-4 c = search needs
+
+returns-6 : tie.Need-returns-6
+returns-6 c = memory-at _ _ _ _ (omega arith) (omega arith) refl (c .before .before .before .before .before .before .before .family-of .ensures) (c .before .before .before .before .before .enum-told4 .given .1) (c .before .before .before .memory-of .ensures) (c .before .before .memory .ensures)
+
+same-length-5 : tie.Need-same-length-5
+same-length-5 c = search needs
+
+returns-7 : tie.Need-returns-7
+returns-7 c = etc-at _ _ _ _ (omega arith) (omega arith) refl (c .before .before .before .before .before .before .before .family-of .ensures) (c .before .before .before .before .before .enum-told5 .given .1) (c .before .before .before .etc-of .ensures) (c .before .before .etc .ensures)
+
+returns-8 : tie.Need-returns-8
+returns-8 c = left-at
+
+returns-9 : tie.Need-returns-9
+returns-9 c = left-at
+
+returns-10 : tie.Need-returns-10
+returns-10 c = left-at
+
+returns-11 : tie.Need-returns-11
+returns-11 c = left-at
+
+pub quick-spec : {M : Type 1} → statement M
+quick-spec =
+    tie.close
+    (tie.spec
+    returns
+    returns-2
+    shared-slice-read-first
+    family-of-requires
+    enum-told
+    after-requires
+    load-requires
+    enum-told-2
+    constant-requires
+    enum-told-3
+    operator-of-requires
+    scalar-operation-requires
+    enum-told-4
+    memory-of-requires
+    memory-requires
+    enum-told-5
+    etc-of-requires
+    etc-requires
+    enum-told-6
+    enum-told-7
+    enum-told-8
+    enum-told-9
+    same-length
+    returns-3
+    same-length-2
+    returns-4
+    same-length-3
+    returns-5
+    same-length-4
+    returns-6
+    same-length-5
+    returns-7
+    returns-8
+    returns-9
+    returns-10
+    returns-11)

@@ -1,0 +1,2 @@
+-- What the short way of an instruction answers.
+pub mod Went
