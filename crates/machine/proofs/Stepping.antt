@@ -73,6 +73,10 @@ module _ (s : List ℕ) where
     unfolding stepIn
     step-done done = ap (settle (f .regular) (f .alternate) (headerOf f .rtntrace)) (done ∙ ap (carry s) planned)
 
+    -- after what has changed no word
+    pub step-kept : (u : List ℕ) {r : Outcome} {t : List ℕ} → u ≡ s → did r t ≡ carry u (planDecoded f (seen u) (decodeOf (f .regular) (f .alternate) code at)) → settled (f .regular) (f .alternate) (headerOf f .rtntrace) r t ≡ stepIn f s
+    step-kept u kept done = step-done (rw kept at done)
+
   -- the function of the current frame
   module _ (regular other : List ℕ) {selector : Bool} {number : ℕ} (P : selectorOf s ≡ selector) (n : numberOf s ≡ number) where
     found : stepFound regular other s selector (functionOf (selected selector regular other) number) ≡ stepOf regular other s

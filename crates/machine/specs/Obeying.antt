@@ -1,4 +1,5 @@
--- What an instruction comes to on the words of a segment, by how it was read. Assumes nothing.
+-- What an instruction comes to on the words of a segment, by how it was read. Contracts inside the crate cite it and that of
+-- `run` does not, so a reader need not believe it. Assumes nothing.
 use Prim.Native.Nat.{ℕ}
 use mathlib.Core.List.{List}
 use Rattle.instruction.specs.declared.Decoded.{Decoded}

@@ -1,4 +1,5 @@
--- A run that is under way: some instructions have finished, and it goes on or has trapped. Assumes nothing.
+-- A run that is under way: some instructions have finished, and it goes on or has trapped. Contracts inside the crate cite it and
+-- that of `run` does not, so a reader need not believe it. Assumes nothing.
 use Prim.Native.Nat.{ℕ, _-_, _<_, _≤_}
 use mathlib.Core.List.{List}
 use Rattle.stepping.specs.declared.Ran.{Ran}

@@ -1,8 +1,7 @@
 // The instruction at a place of a function's code: each is done as its bytes are read.
 ghost use mathlib.Core.Path.{_≡_};
-ghost use Prim.Native.Nat.{_≤_, _%_, _^_};
+ghost use Prim.Native.Nat.{_≤_};
 ghost use lib.ListN.{length};
-ghost use Rattle.operator.specs.Table.{operatorOf};
 ghost use Rattle.procedure.specs.Headers.{codeOf, lineOf};
 ghost use Rattle.procedure.specs.Directory.{selected};
 ghost use Rattle.instruction.specs.Decoding as decoding;

@@ -1,6 +1,6 @@
 // Runs: steps up to a budget, or a trap.
 ghost use mathlib.Core.Path.{_≡_};
-ghost use Prim.Native.Nat.{_≤_, _<_, _-_, _^_};
+ghost use Prim.Native.Nat.{_≤_, _<_, _-_};
 ghost use lib.ListN.{length};
 ghost use Rattle.procedure.specs.declared.directory.Function.the-variants as F;
 ghost use Rattle.procedure.specs.Headers.{codeOf};
@@ -182,7 +182,8 @@ fn steps_in(
     Ran::Done(steps)
 }
 
-// The second word of the current frame. PCTR is read apart: an instruction writes that half, and a read of the whole waits for it.
+// The second word of the current frame: P and the function's number. PCTR is read apart, by itself, since a read of the whole
+// word would wait for the last instruction's write of that half.
 fn here(seg: &[u32]) -> u32
     ensures { λ r. ⌜ r ≡ stack.codeWordAt (now (seg .entry)) (state.lbase (now (seg .entry))) ⌝ }
 {

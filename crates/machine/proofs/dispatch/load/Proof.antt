@@ -2,7 +2,6 @@ use mathlib.Core.Path.{_∙_}
 use Rattle.instruction.specs.Decoding.{loadAt, callChecked}
 use Rattle.manual.specs.Instructions.{planOf}
 use Rattle.machine.proofs.Dispatching.{variable-seen}
-use Rattle.instruction.specs.Variables.{addressIn}
 use borrow.Author.Needs.{needs}
 use Rattle.machine.proofs.dispatch.load.Statement.{statement}
 use Rattle.machine.proofs.dispatch.load.Tie as tie
