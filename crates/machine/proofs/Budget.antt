@@ -1,13 +1,33 @@
--- What is left of a run, before and after one step of it.
-use Prim.Native.Nat.{ℕ, suc, _+_, _-_, _<_, _≤_}
+-- What is left of a run, before and after one step or one stretch of it.
+use Prim.Native.Nat.{ℕ, suc, _+_, _-_, _/_, _%_, _^_, _<_, _≤_}
 use native.Mathlib.Omega.{arith}
 use mathlib.Core.Path.{_≡_, refl}
 use mathlib.Core.List.{List}
+use Rattle.segment.specs.State.{setTrap}
 use Rattle.stepping.specs.declared.Stepped.{Stepped}
 use Rattle.stepping.specs.declared.Stepped.the-variants as answers
+use Rattle.stepping.specs.declared.Ran.{Ran}
 use Rattle.stepping.specs.declared.Ran.the-variants.{Done, Trapped}
-use Rattle.stepping.specs.Step.{after, stepOf}
-use Rattle.stepping.specs.Run.{ended, stepsFrom}
+use Rattle.stepping.specs.Step.{after, trapped, stepOf}
+use Rattle.stepping.specs.Run.{Outcome, ended, stepsFrom}
+use Rattle.machine.specs.Stretches.{resumed, Advanced}
+
+-- a stretch by what it answers
+module _ (regular other : List ℕ) (budget n : ℕ) (t : List ℕ) {r : Ran} {o : Outcome} where
+  pub goes-on : r ≡ Done n → resumed r budget regular other t ≡ o → stepsFrom (budget - n) n regular other t ≡ o
+  goes-on is told = rw is at told
+
+  pub stops : r ≡ Trapped n → resumed r budget regular other t ≡ o → ended (Trapped n) t ≡ o
+  stops is told = rw is at told
+
+pub advances : (start budget n : ℕ) {r : Ran} → r ≡ Done n → Advanced start budget r → (start < n) × (n ≤ budget)
+advances start budget n is told = rw is at told
+
+-- a stretch that is left is not at its start, where the frame is of its function
+pub left-later : {start n w held function : ℕ} → start ≤ n → (n ≡ start → held / 2 ^ 16 % 2 ^ 12 ≡ function) → w ≡ held → (w / 2 ^ 16 % 2 ^ 12 ≡ function → ⊥) → start < n
+left-later {start} {n} from same is differs =
+    let later : (n ≡ start → ⊥) = λ e. differs (rw is (same e)) in
+    omega arith
 
 module _ (regular other : List ℕ) (budget n : ℕ) (s : List ℕ) where
   pub run-ends : budget ≤ n → ended (Done n) s ≡ stepsFrom (budget - n) n regular other s
@@ -32,3 +52,7 @@ module _ (regular other : List ℕ) (budget n : ℕ) (s : List ℕ) where
     pub run-trapped : (class number : ℕ) → r ≡ answers.Trapped class number → ended (Trapped n) t ≡ stepsFrom (budget - n) n regular other s
     unfolding stepsFrom
     run-trapped class number trapped = rw (one, ← is, trapped)
+
+  -- a stretch in a function that is not there
+  pub run-absent : {r : Ran} {t : List ℕ} → n < budget → trapped s 3 1 ≡ stepOf regular other s → r ≡ Trapped n → t ≡ setTrap s 3 1 → (resumed r budget regular other t ≡ stepsFrom (budget - n) n regular other s) × Advanced n budget r
+  run-absent more absent is words = rw (is, words) (run-trapped (answers.Trapped 3 1) (setTrap s 3 1) more absent 3 1 refl, tt)

@@ -1,29 +1,25 @@
 -- A step by the ways that the code goes.
-use Prim.Native.Nat.{ℕ, _/_, _%_, _^_, _<_}
+use Prim.Native.Nat.{ℕ, _+_, _*_, _/_, _%_, _^_, _<_, _≤_}
 use native.Mathlib.Omega.{arith}
 use mathlib.Core.Path.{_≡_, sym, ap, _∙_}
-use mathlib.Core.Bool.{true, false}
+use mathlib.Core.Bool.{Bool, true, false}
 use mathlib.Core.List.{List}
 use lib.Dec.{eqb}
-use borrow.Author.Tests.{ne-eqb, eqb-true, eqb-false}
-use Rattle.descriptor.specs.declared.address.CodeAddress.{CodeAddress}
+use borrow.Author.Tests.{eq-eqb, ne-eqb, eqb-true, eqb-false}
+use mir.Val.{boolByte}
 use Rattle.procedure.specs.declared.header.Block.{Block}
 use Rattle.procedure.specs.declared.directory.Function.the-variants as F
+use Rattle.procedure.specs.Headers.{codeOf}
 use Rattle.procedure.specs.Directory.{selected, functionOf}
-use Rattle.instruction.specs.declared.Instruction.{Instruction}
-use Rattle.instruction.specs.declared.Decoded.{Decoded}
-use Rattle.instruction.specs.declared.Decoded.the-variants as D
-use Rattle.instruction.specs.Decoding.{decodeIn}
+use Rattle.instruction.specs.Decoding.{decodeOf}
 use Rattle.segment.specs.State.{lbase, flags, stepFlag, setTrap}
-use Rattle.segment.specs.Stack.{codeWordAt, pctr}
-use Rattle.manual.specs.OrTrap.{trap}
-use Rattle.manual.specs.Effects.{Plan}
-use Rattle.manual.specs.Instructions.{Running, headerOf, planOf, planDecoded, planAt}
+use Rattle.segment.specs.Stack.{codeWordAt, alternate, functionNumber, pctr}
+use Rattle.manual.specs.Instructions.{Running, segmentOf, headerOf, planDecoded, planAt}
 use Rattle.effects.specs.Seen.{seen}
 use Rattle.perform.specs.declared.Outcome.{Outcome}
 use Rattle.perform.specs.Carried.{did, carry}
 use Rattle.stepping.specs.declared.Stepped.the-variants.{Finished, Traced, Trapped}
-use Rattle.stepping.specs.Step.{after, selectorOf, numberOf, trapped, finished, settled, settle, stepIn, stepOf}
+use Rattle.stepping.specs.Step.{after, selectorOf, numberOf, trapped, finished, settled, settle, stepIn, stepFound, stepOf}
 
 -- a class and a number of eight bits are themselves
 eight-bits : (n : ℕ) → n < 256 → n % 2 ^ 8 ≡ n
@@ -31,6 +27,28 @@ eight-bits n small = omega arith
 
 flag-clear : (w : ℕ) → (w / 2 ^ 3 % 2 ≡ 1 → ⊥) → w / 2 ^ 3 % 2 ≡ 0
 flag-clear w clear = omega (arith, clear)
+
+pub bit-small : (P : Bool) → boolByte P ≤ 1
+bit-small true = omega arith
+bit-small false = omega arith
+
+pub number-small : (s : List ℕ) {number : ℕ} → numberOf s ≡ number → number < 2 ^ 11
+number-small s is = omega arith
+
+-- P and the function's number in a frame's word, apart and at once
+module _ (w number : ℕ) where
+  pub function-in : (P : Bool) → eqb (alternate w) 1 ≡ P → functionNumber w ≡ number → w / 2 ^ 16 % 2 ^ 12 ≡ number + 2048 * boolByte P
+  function-in true set is = omega (arith, eqb-true (alternate w) 1 set)
+  function-in false clear is = omega (arith, eqb-false (alternate w) 1 clear)
+
+  module _ (small : number < 2 ^ 11) where
+    pub selector-of : (P : Bool) → w / 2 ^ 16 % 2 ^ 12 ≡ number + 2048 * boolByte P → eqb (alternate w) 1 ≡ P
+    selector-of true is = eq-eqb (alternate w) 1 (omega arith)
+    selector-of false is = ne-eqb (alternate w) 1 (omega arith)
+
+    pub number-of : (P : Bool) → w / 2 ^ 16 % 2 ^ 12 ≡ number + 2048 * boolByte P → functionNumber w ≡ number
+    number-of true is = omega arith
+    number-of false is = omega arith
 
 module _ (s : List ℕ) where
   pub trap-set : (class number : ℕ) → class < 256 → number < 256 → after (Trapped class number) (setTrap s class number) ≡ trapped s class number
@@ -45,30 +63,35 @@ module _ (s : List ℕ) where
   pub step-clear : eqb (stepFlag (flags s)) 1 ≡ false → after Finished s ≡ finished (stepFlag (flags s)) s
   step-clear clear = ap (λ (n : ℕ). finished n s) (sym (flag-clear (flags s) (eqb-false (stepFlag (flags s)) 1 clear)))
 
-  -- what is decoded in the current function
-  module _ (f : Running) {d : Decoded} {base place : ℕ} (top : base ≡ lbase s) (at : place ≡ pctr (codeWordAt s base)) (is : d ≡ decodeIn (f .regular) (f .alternate) (f .selector) (f .block) place) where
-    planned : planDecoded f (seen s) d ≡ planAt f (seen s) (pctr (codeWordAt s (lbase s)))
+  -- the instruction at PCTR, done in a function whose code is at hand
+  module _ (f : Running) {code : List ℕ} {place at : ℕ} (is : code ≡ codeOf (segmentOf f) (f .block)) (held : at ≡ place) (counted : place ≡ pctr (codeWordAt s (lbase s))) where
+    planned : planDecoded f (seen s) (decodeOf (f .regular) (f .alternate) code at) ≡ planAt f (seen s) (pctr (codeWordAt s (lbase s)))
     unfolding planAt
-    planned = ap (planDecoded f (seen s)) (is ∙ ap (decodeIn (f .regular) (f .alternate) (f .selector) (f .block)) (at ∙ ap (λ (b : ℕ). pctr (codeWordAt s b)) top))
+    planned = rw (is, held, counted)
 
-    stepped : (p : Plan) → p ≡ planDecoded f (seen s) d → settle (f .regular) (f .alternate) (headerOf f .rtntrace) (carry s p) ≡ stepIn f s
+    pub step-done : {r : Outcome} {t : List ℕ} → did r t ≡ carry s (planDecoded f (seen s) (decodeOf (f .regular) (f .alternate) code at)) → settled (f .regular) (f .alternate) (headerOf f .rtntrace) r t ≡ stepIn f s
     unfolding stepIn
-    stepped p told = ap (λ (q : Plan). settle (f .regular) (f .alternate) (headerOf f .rtntrace) (carry s q)) (told ∙ planned)
+    step-done done = ap (settle (f .regular) (f .alternate) (headerOf f .rtntrace)) (done ∙ ap (carry s) planned)
 
-    pub step-refused : {class number : ℕ} → d ≡ D.Trap class number → trapped s class number ≡ stepIn f s
-    step-refused {class} {number} refused = stepped (trap class number) (ap (planDecoded f (seen s)) (sym refused))
+    -- after what has changed no word
+    pub step-kept : (u : List ℕ) {r : Outcome} {t : List ℕ} → u ≡ s → did r t ≡ carry u (planDecoded f (seen u) (decodeOf (f .regular) (f .alternate) code at)) → settled (f .regular) (f .alternate) (headerOf f .rtntrace) r t ≡ stepIn f s
+    step-kept u kept done = step-done (rw kept at done)
 
-    pub step-done : {i : Instruction} {next : CodeAddress} {n : ℕ} {r : Outcome} {t : List ℕ} → d ≡ D.Instruction i next → n ≡ next .0 → did r t ≡ carry s (planOf f (seen s) i n) → settled (f .regular) (f .alternate) (headerOf f .rtntrace) r t ≡ stepIn f s
-    step-done {i} {n = n} decoded counted done =
-        ap (settle (f .regular) (f .alternate) (headerOf f .rtntrace)) done
-        ∙ stepped (planOf f (seen s) i n) (ap (planOf f (seen s) i) counted ∙ ap (planDecoded f (seen s)) (sym decoded))
-
-  -- the current function
-  module _ (regular other : List ℕ) where
-    pub step-absent : F.Absent ≡ functionOf (selected (selectorOf s) regular other) (numberOf s) → trapped s 3 1 ≡ stepOf regular other s
+  -- the function of the current frame
+  module _ (regular other : List ℕ) {selector : Bool} {number : ℕ} (P : selectorOf s ≡ selector) (n : numberOf s ≡ number) where
+    found : stepFound regular other s selector (functionOf (selected selector regular other) number) ≡ stepOf regular other s
     unfolding stepOf
-    step-absent is = rw (← is)
+    found = rw (← P, ← n)
 
-    pub step-found : (block : Block) → F.At block ≡ functionOf (selected (selectorOf s) regular other) (numberOf s) → stepIn (record { regular = regular; alternate = other; selector = selectorOf s; block = block }) s ≡ stepOf regular other s
-    unfolding stepOf
-    step-found block is = rw (← is)
+    pub step-absent : functionOf (selected selector regular other) number ≡ F.Absent → trapped s 3 1 ≡ stepOf regular other s
+    step-absent is = ap (stepFound regular other s selector) (sym is) ∙ found
+
+    pub step-found : (block : Block) → functionOf (selected selector regular other) number ≡ F.At block → stepIn (record { regular = regular; alternate = other; selector = selector; block = block }) s ≡ stepOf regular other s
+    step-found block is = ap (stepFound regular other s selector) (sym is) ∙ found
+
+  -- the function that the second word of the current frame tells at once
+  pub step-here : (regular other : List ℕ) (P : Bool) {number : ℕ} (block : Block) {w : ℕ} → number < 2 ^ 11 → functionOf (selected P regular other) number ≡ F.At block → w ≡ codeWordAt s (lbase s) → w / 2 ^ 16 % 2 ^ 12 ≡ number + 2048 * boolByte P → stepIn (record { regular = regular; alternate = other; selector = P; block = block }) s ≡ stepOf regular other s
+  step-here regular other P {number} block {w} small is held same =
+      let word = codeWordAt s (lbase s) in
+      let told : word / 2 ^ 16 % 2 ^ 12 ≡ number + 2048 * boolByte P = rw (← held) same in
+      step-found regular other (selector-of word number small P told) (number-of word number small P told) block is

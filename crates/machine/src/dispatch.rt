@@ -1,16 +1,18 @@
-// The instruction that was decoded is done.
+// The instruction at a place of a function's code: each is done as its bytes are read.
 ghost use mathlib.Core.Path.{_≡_};
-ghost use Prim.Native.Nat.{_≤_, _%_, _^_};
+ghost use Prim.Native.Nat.{_≤_};
 ghost use lib.ListN.{length};
 ghost use Rattle.procedure.specs.Headers.{codeOf, lineOf};
 ghost use Rattle.procedure.specs.Directory.{selected};
+ghost use Rattle.instruction.specs.Decoding as decoding;
+ghost use Rattle.instruction.specs.Families.{familyOf};
 ghost use Rattle.manual.specs.Seen.{variablesOf};
-ghost use Rattle.manual.specs.Loads as push;
 ghost use Rattle.manual.specs.Control as going;
 ghost use Rattle.manual.specs.Instructions as plan;
 ghost use Rattle.effects.specs.Seen.{seen};
 ghost use Rattle.access.specs.Variables.{variableSeen, Sure};
 ghost use Rattle.perform.specs.Carried.{did, carry};
+ghost use Rattle.machine.specs.Obeying.{obeyed};
 use access::variables::Resolved;
 use access::variables::resolve;
 use control::calls;
@@ -18,94 +20,271 @@ use control::jumps;
 use descriptor::address::CodeAddress;
 use instruction::ArrayOperation;
 use instruction::ControlOperation;
-use instruction::Instruction;
 use instruction::Jump;
 use instruction::MemoryOperation;
 use instruction::StackOperation;
+use instruction::cursor::Cursor;
+use instruction::cursor::FetchedByte;
+use instruction::cursor::FetchedHalf;
+use instruction::cursor::FetchedWord;
+use instruction::cursor::FetchedWords;
+use instruction::family::Family;
+use instruction::family::family_of;
+use instruction::table::EtcSuboperation;
+use instruction::table::MemorySuboperation;
+use instruction::table::etc_of;
+use instruction::table::memory_of;
+use instruction::variable::FetchedAddress;
+use instruction::variable::address_in;
+use instruction::variable::read_address;
 use moves::loads;
 use moves::memory;
 use operator::Operator;
+use operator::Suboperation;
+use operator::operator_of;
 use perform::Outcome;
+use procedure::directory::in_directory;
 use procedure::header::Block;
 use procedure::header::Header;
 use values::arrays;
 use values::scalars;
 use values::subscripts;
 
-pub fn execute(
+// `code` is that of `block`, which stands in the segment that P names.
+pub fn obey(
     seg: &mut [u32],
     regular: &[u8],
     other: &[u8],
     selector: bool,
     block: Block,
-    i: Instruction,
-    next: u32,
+    code: &[u8],
+    place: CodeAddress,
+    scratch: &mut [u32],
+) -> Outcome
+    requires { ⌜ (length (now seg) ≤ 16384) × (length (now scratch) ≡ 16384) × (now code ≡ codeOf (selected selector (now regular) (now other)) block) ⌝ }
+    ensures { λ r. ⌜ did r (now (seg .exit)) ≡ carry (now (seg .entry)) (plan.planDecoded (record { regular = now (regular .entry); alternate = now (other .entry); selector = selector; block = block }) (seen (now (seg .entry))) (decoding.decodeOf (now (regular .entry)) (now (other .entry)) (now (code .entry)) (place .0))) ⌝ }
+{
+    if place.number() < 8 {
+        return Outcome::Trapped(3, 1);
+    }
+    match Cursor::new(place).byte(code) {
+        FetchedByte::Outside => Outcome::Trapped(3, 1),
+        FetchedByte::Byte(first, c) => obey_first(
+            seg,
+            regular,
+            other,
+            selector,
+            block,
+            code,
+            first,
+            c,
+            scratch,
+        ),
+    }
+}
+
+// The instruction whose first byte stands before the cursor.
+fn obey_first(
+    seg: &mut [u32],
+    regular: &[u8],
+    other: &[u8],
+    selector: bool,
+    block: Block,
+    code: &[u8],
+    first: u8,
+    c: Cursor,
+    scratch: &mut [u32],
+) -> Outcome
+    requires { ⌜ (length (now seg) ≤ 16384) × (length (now scratch) ≡ 16384) × (now code ≡ codeOf (selected selector (now regular) (now other)) block) ⌝ }
+    ensures { λ r. ⌜ did r (now (seg .exit)) ≡ obeyed (record { regular = now (regular .entry); alternate = now (other .entry); selector = selector; block = block }) (now (seg .entry)) (decoding.familyAt (now (code .entry)) c first (familyOf first)) ⌝ }
+{
+    match family_of(first) {
+        Family::ShortLocal => load(seg, block.header, code, c, first, Family::ShortLocal),
+        Family::ShortConst => short_constant(seg, code, c, first),
+        Family::GenScalar => scalar(seg, operator_of(first % 32), c, scratch),
+        Family::MemRef => memory(seg, block.header, code, memory_of(first % 32), c, scratch),
+        Family::Etc => etc(
+            seg,
+            regular,
+            other,
+            selector,
+            block,
+            code,
+            etc_of(first % 32),
+            c,
+            scratch,
+        ),
+        Family::LongLocal => load(seg, block.header, code, c, first, Family::LongLocal),
+        Family::LongGlobal => load(seg, block.header, code, c, first, Family::LongGlobal),
+        Family::Index => subscripts::index(seg, first % 16, c.place().number()),
+        Family::Unassigned => Outcome::Trapped(3, 11),
+    }
+}
+
+fn load(seg: &mut [u32], h: Header, code: &[u8], c: Cursor, first: u8, family: Family) -> Outcome
+    requires { ⌜ length (now seg) ≤ 16384 ⌝ }
+    ensures { λ r. ⌜ ((f : plan.Running) → plan.headerOf f ≡ h → did r (now (seg .exit)) ≡ obeyed f (now (seg .entry)) (decoding.loadAt (now (code .entry)) c first family)) ⌝ }
+{
+    match address_in(code, c, first, family) {
+        FetchedAddress::Trap(class, number) => Outcome::Trapped(class, number),
+        FetchedAddress::At(a, next) => {
+            let variable = resolve(seg, variables(h), a);
+            loads::load(seg, variable, next.place().number())
+        }
+    }
+}
+
+fn short_constant(seg: &mut [u32], code: &[u8], c: Cursor, first: u8) -> Outcome
+    requires { ⌜ length (now seg) ≤ 16384 ⌝ }
+    ensures { λ r. ⌜ ((f : plan.Running) → did r (now (seg .exit)) ≡ obeyed f (now (seg .entry)) (decoding.shortConstantAt (now (code .entry)) c first)) ⌝ }
+{
+    match c.byte(code) {
+        FetchedByte::Outside => Outcome::Trapped(3, 1),
+        FetchedByte::Byte(second, next) => {
+            let half = first as u32 * 0x100 + second as u32;
+            loads::short_constant(
+                seg,
+                half / 0x1000 % 2 == 1,
+                half % 0x1000,
+                next.place().number(),
+            )
+        }
+    }
+}
+
+fn scalar(seg: &mut [u32], sub: Suboperation, c: Cursor, scratch: &mut [u32]) -> Outcome
+    requires { ⌜ (length (now seg) ≤ 16384) × (length (now scratch) ≡ 16384) ⌝ }
+    ensures { λ r. ⌜ ((f : plan.Running) → did r (now (seg .exit)) ≡ obeyed f (now (seg .entry)) (decoding.scalarAt sub c)) ⌝ }
+{
+    match sub {
+        Suboperation::Defined(op) => scalar_operation(seg, op, c.place().number(), scratch),
+        Suboperation::Undefined => Outcome::Trapped(3, 9),
+    }
+}
+
+fn memory(
+    seg: &mut [u32],
+    h: Header,
+    code: &[u8],
+    sub: MemorySuboperation,
+    c: Cursor,
     scratch: &mut [u32],
 ) -> Outcome
     requires { ⌜ (length (now seg) ≤ 16384) × (length (now scratch) ≡ 16384) ⌝ }
-    ensures { λ r. ⌜ did r (now (seg .exit)) ≡ carry (now (seg .entry)) (plan.planOf (record { regular = now (regular .entry); alternate = now (other .entry); selector = selector; block = block }) (seen (now (seg .entry))) i next) ⌝ }
+    ensures { λ r. ⌜ ((f : plan.Running) → plan.headerOf f ≡ h → did r (now (seg .exit)) ≡ obeyed f (now (seg .entry)) (decoding.memoryAt (now (code .entry)) c sub)) ⌝ }
 {
-    match i {
-        Instruction::Load(a) => {
-            let variable = resolve(seg, variables(block.header), a);
-            loads::load(seg, variable, next)
-        }
-        Instruction::ShortConstant {
-            negative,
-            magnitude,
-        } => loads::short_constant(seg, negative, magnitude, next),
-        Instruction::Scalar(op) => scalar_operation(seg, op, next, scratch),
-        Instruction::Memory(op, a) => {
-            let variable = resolve(seg, variables(block.header), a);
-            memory_operation(seg, op, variable, next, scratch)
-        }
-        Instruction::Stack(op) => stack_operation(seg, op, next),
-        Instruction::Array(op) => array_operation(seg, op, next, scratch),
-        Instruction::Control(op) => control_operation(
+    match sub {
+        MemorySuboperation::Undefined => Outcome::Trapped(3, 8),
+        MemorySuboperation::Defined(op) => match read_address(code, c) {
+            FetchedAddress::Trap(class, number) => Outcome::Trapped(class, number),
+            FetchedAddress::At(a, next) => {
+                let variable = resolve(seg, variables(h), a);
+                memory_operation(seg, op, variable, next.place().number(), scratch)
+            }
+        },
+    }
+}
+
+fn etc(
+    seg: &mut [u32],
+    regular: &[u8],
+    other: &[u8],
+    selector: bool,
+    block: Block,
+    code: &[u8],
+    sub: EtcSuboperation,
+    c: Cursor,
+    scratch: &mut [u32],
+) -> Outcome
+    requires { ⌜ (length (now seg) ≤ 16384) × (length (now scratch) ≡ 16384) × (now code ≡ codeOf (selected selector (now regular) (now other)) block) ⌝ }
+    ensures { λ r. ⌜ did r (now (seg .exit)) ≡ obeyed (record { regular = now (regular .entry); alternate = now (other .entry); selector = selector; block = block }) (now (seg .entry)) (decoding.etcAt (now (code .entry)) c sub) ⌝ }
+{
+    match sub {
+        EtcSuboperation::Stack(op) => stack_operation(seg, op, c.place().number()),
+        EtcSuboperation::Array(op) => array_operation(seg, op, c.place().number(), scratch),
+        EtcSuboperation::Control(op) => control_operation(
             seg,
             regular,
             other,
             selector,
             block,
             op,
-            next,
+            c.place().number(),
         ),
-        Instruction::Jump(jump, place) => jump_operation(
+        EtcSuboperation::Jump(jump) => jump_to(seg, block.header, code, c, jump),
+        EtcSuboperation::ConstantScalar => constant_scalar(seg, code, c),
+        EtcSuboperation::ConstantVector => constant_vector(seg, code, c, scratch),
+        EtcSuboperation::Call => call(seg, regular, other, code, c),
+        EtcSuboperation::Undefined => Outcome::Trapped(3, 11),
+    }
+}
+
+fn jump_to(seg: &mut [u32], h: Header, code: &[u8], c: Cursor, jump: Jump) -> Outcome
+    ensures { λ r. ⌜ ((f : plan.Running) → plan.headerOf f ≡ h → did r (now (seg .exit)) ≡ obeyed f (now (seg .entry)) (decoding.jumpAt (now (code .entry)) c jump)) ⌝ }
+{
+    match c.half(code) {
+        FetchedHalf::Outside => Outcome::Trapped(3, 1),
+        FetchedHalf::Half(to, next) => jump_operation(
             seg,
-            regular,
-            other,
-            selector,
-            block,
+            h,
             jump,
-            place.number(),
-            next,
+            to as u32,
+            next.place().number(),
         ),
-        Instruction::ConstantScalar(w) => loads::constant_scalar(seg, w, next),
-        Instruction::ConstantVector { count, first } => constant_vector(
-            seg,
-            regular,
-            other,
-            selector,
-            block,
-            count,
-            first,
-            next,
-            scratch,
-        ),
-        Instruction::Call {
-            arguments,
-            alternate,
-            function,
-        } => calls::call(
-            seg,
-            regular,
-            other,
-            arguments,
-            alternate,
-            function % 0x800,
-            next,
-        ),
-        Instruction::Index(rank) => subscripts::index(seg, rank, next),
+    }
+}
+
+fn constant_scalar(seg: &mut [u32], code: &[u8], c: Cursor) -> Outcome
+    requires { ⌜ length (now seg) ≤ 16384 ⌝ }
+    ensures { λ r. ⌜ ((f : plan.Running) → did r (now (seg .exit)) ≡ obeyed f (now (seg .entry)) (decoding.constantScalarAt (now (code .entry)) c)) ⌝ }
+{
+    match c.word(code) {
+        FetchedWord::Outside => Outcome::Trapped(3, 1),
+        FetchedWord::Word(w, next) => loads::constant_scalar(seg, w, next.place().number()),
+    }
+}
+
+// The words stand in the code.
+fn constant_vector(seg: &mut [u32], code: &[u8], c: Cursor, scratch: &mut [u32]) -> Outcome
+    requires { ⌜ (length (now seg) ≤ 16384) × (length (now scratch) ≡ 16384) ⌝ }
+    ensures { λ r. ⌜ ((f : plan.Running) → codeOf (plan.segmentOf f) (f .block) ≡ now (code .entry) → did r (now (seg .exit)) ≡ obeyed f (now (seg .entry)) (decoding.constantVectorAt (now (code .entry)) c)) ⌝ }
+{
+    match c.byte(code) {
+        FetchedByte::Outside => Outcome::Trapped(3, 1),
+        FetchedByte::Byte(count, next) => match next.words(code, count) {
+            FetchedWords::Outside => Outcome::Trapped(3, 1),
+            FetchedWords::Words(first, after) => loads::constant_vector(
+                seg,
+                code,
+                count,
+                first.place(),
+                after.place().number(),
+                scratch,
+            ),
+        },
+    }
+}
+
+fn call(seg: &mut [u32], regular: &[u8], other: &[u8], code: &[u8], c: Cursor) -> Outcome
+    requires { ⌜ length (now seg) ≤ 16384 ⌝ }
+    ensures { λ r. ⌜ ((f : plan.Running) → f .regular ≡ now (regular .entry) → f .alternate ≡ now (other .entry) → did r (now (seg .exit)) ≡ obeyed f (now (seg .entry)) (decoding.callAt (now (code .entry)) c)) ⌝ }
+{
+    match c.half(code) {
+        FetchedHalf::Outside => Outcome::Trapped(3, 1),
+        FetchedHalf::Half(half, next) => {
+            if in_directory(half / 0x800 % 2 == 1, regular, other, half % 0x800) {
+                return calls::call(
+                    seg,
+                    regular,
+                    other,
+                    half / 0x1000,
+                    half / 0x800 % 2 == 1,
+                    half % 0x800,
+                    next.place().number(),
+                );
+            }
+            Outcome::Trapped(3, 1)
+        }
     }
 }
 
@@ -114,27 +293,6 @@ fn variables(h: Header) -> u32
     ensures { λ r. ⌜ r ≡ variablesOf h ⌝ }
 {
     h.nargs as u32 + h.nlocals as u32
-}
-
-// The words stand in the code of the segment that P selects.
-fn constant_vector(
-    seg: &mut [u32],
-    regular: &[u8],
-    other: &[u8],
-    selector: bool,
-    block: Block,
-    count: u8,
-    first: CodeAddress,
-    next: u32,
-    scratch: &mut [u32],
-) -> Outcome
-    requires { ⌜ (length (now seg) ≤ 16384) × (length (now scratch) ≡ 16384) ⌝ }
-    ensures { λ r. ⌜ did r (now (seg .exit)) ≡ carry (now (seg .entry)) (push.constantVector (seen (now (seg .entry))) next (plan.wordsFrom (count % 2 ^ 8) (codeOf (selected selector (now (regular .entry)) (now (other .entry))) block) (first .0 % 2 ^ 16))) ⌝ }
-{
-    if selector {
-        return loads::constant_vector(seg, block.code(other), count, first, next, scratch);
-    }
-    loads::constant_vector(seg, block.code(regular), count, first, next, scratch)
 }
 
 fn scalar_operation(seg: &mut [u32], op: Operator, next: u32, scratch: &mut [u32]) -> Outcome
@@ -235,21 +393,12 @@ fn branch(
     jumps::branch(seg, regular, block, next)
 }
 
-fn jump_operation(
-    seg: &mut [u32],
-    regular: &[u8],
-    other: &[u8],
-    selector: bool,
-    block: Block,
-    jump: Jump,
-    place: u32,
-    next: u32,
-) -> Outcome
-    ensures { λ r. ⌜ did r (now (seg .exit)) ≡ carry (now (seg .entry)) (plan.jumpPlan (record { regular = now (regular .entry); alternate = now (other .entry); selector = selector; block = block }) (seen (now (seg .entry))) next jump place) ⌝ }
+fn jump_operation(seg: &mut [u32], h: Header, jump: Jump, place: u32, next: u32) -> Outcome
+    ensures { λ r. ⌜ ((f : plan.Running) → plan.headerOf f ≡ h → did r (now (seg .exit)) ≡ carry (now (seg .entry)) (plan.jumpPlan f (seen (now (seg .entry))) next jump place)) ⌝ }
 {
     match jump {
-        Jump::Go => jumps::go(seg, block.header, place),
-        Jump::GoTrue => jumps::go_if(seg, block.header, true, place, next),
-        Jump::GoFalse => jumps::go_if(seg, block.header, false, place, next),
+        Jump::Go => jumps::go(seg, h, place),
+        Jump::GoTrue => jumps::go_if(seg, h, true, place, next),
+        Jump::GoFalse => jumps::go_if(seg, h, false, place, next),
     }
 }

@@ -1,4 +1,4 @@
-// Steps and runs on a lent data segment.
+// Runs on a lent data segment.
 mod dispatch;
 pub mod run;
-pub mod step;
+mod step;

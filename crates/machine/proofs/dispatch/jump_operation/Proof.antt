@@ -1,3 +1,5 @@
+use Rattle.machine.proofs.Dispatching.{go-planned, go-true-planned, go-false-planned}
+use mathlib.Core.Path.{_∙_}
 use borrow.Author.Needs.{needs}
 use Rattle.machine.proofs.dispatch.jump_operation.Statement.{statement}
 use Rattle.machine.proofs.dispatch.jump_operation.Tie as tie
@@ -24,19 +26,19 @@ same-length : tie.Need-same-length
 same-length c = search needs
 
 returns : tie.Need-returns
-returns c = simp (c .before .before .before .before .enum-told .given .1, ← c .before .before .go .ensures)
+returns c = λ f is. let a = c .before .before .before .before .before .before .before .args in c .before .before .go .ensures ∙ go-planned f is (a .seg .now) (a .next) (a .place) (c .before .before .before .before .enum-told .given .1)
 
 same-length-2 : tie.Need-same-length-2
 same-length-2 c = search needs
 
 returns-2 : tie.Need-returns-2
-returns-2 c = simp (c .before .before .before .before .enum-told2 .given .1, ← c .before .before .go-if .ensures)
+returns-2 c = λ f is. let a = c .before .before .before .before .before .before .before .args in c .before .before .go-if .ensures ∙ go-true-planned f is (a .seg .now) (a .next) (a .place) (c .before .before .before .before .enum-told2 .given .1)
 
 same-length-3 : tie.Need-same-length-3
 same-length-3 c = search needs
 
 returns-3 : tie.Need-returns-3
-returns-3 c = simp (c .before .before .before .before .enum-told3 .given .1, ← c .before .before .go-if2 .ensures)
+returns-3 c = λ f is. let a = c .before .before .before .before .before .before .before .args in c .before .before .go-if2 .ensures ∙ go-false-planned f is (a .seg .now) (a .next) (a .place) (c .before .before .before .before .enum-told3 .given .1)
 
 pub jump-operation-spec : {M : Type 1} → statement M
 jump-operation-spec =
