@@ -1,8 +1,8 @@
 use lib.ListN.{length-set}
 use native.Mathlib.Omega.{arith}
 use borrow.Author.Needs.{needs}
-use Rattle.engine_cases.proofs.put_word.Statement.{statement}
-use Rattle.engine_cases.proofs.put_word.Tie as tie
+use Rattle.engine_cases.proofs.lent.put_word.Statement.{statement}
+use Rattle.engine_cases.proofs.lent.put_word.Tie as tie
 
 pub put-word-spec : {M : Type 1} → statement M
 put-word-spec =
