@@ -1,7 +1,7 @@
 //! The proved engine, and the plain machine beside it on the same loop.
-use crate::arrays::{Array, Shape, Value};
+use crate::arrays::{value, Array, Cell, Shape, Value};
 use crate::loops::{Loop, FIRST, WORDS};
-use crate::machine::{value, Cell, Machine};
+use crate::machine::Machine;
 use std::rc::Rc;
 
 extern "C" {

@@ -1,6 +1,25 @@
-//! Arrays as one writes them in Rust: a shape, a vector of elements, and what operators make of them.
+//! Cells and arrays as one writes them in Rust: an array is a shape and a vector of elements, counted by `Rc`; and what
+//! operators make of arrays.
 use crate::elements;
-use crate::machine::Trap;
+use std::rc::Rc;
+
+pub type Trap = (u8, u8);
+
+#[derive(Clone)]
+pub enum Cell {
+    Undefined,
+    Scalar(u32),
+    Array(Rc<Array>),
+    /// REFERENCE makes it, which no bench runs; every load looks for it.
+    #[allow(dead_code)]
+    Indirect(Place),
+}
+
+#[derive(Clone, Copy)]
+pub enum Place {
+    Stack(usize),
+    Global(usize),
+}
 
 #[derive(Clone, Copy)]
 pub struct Shape {
@@ -37,6 +56,16 @@ pub struct Array {
 pub struct Value<'a> {
     pub lengths: &'a [u32],
     pub ravel: &'a [u32],
+}
+
+/// The value of an operand.
+#[inline]
+pub fn value(cell: &Cell) -> Result<Value<'_>, Trap> {
+    match cell {
+        Cell::Scalar(w) => Ok(Value { lengths: &[], ravel: std::slice::from_ref(w) }),
+        Cell::Array(array) => Ok(Value { lengths: array.shape.lengths(), ravel: &array.ravel }),
+        Cell::Undefined | Cell::Indirect(_) => Err((3, 5)),
+    }
 }
 
 impl Value<'_> {

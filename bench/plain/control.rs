@@ -1,6 +1,6 @@
 //! Jumps, calls and returns of the plain machine.
-use crate::arrays::truth;
-use crate::machine::{value, Cell, Machine, Trap};
+use crate::arrays::{truth, value, Cell, Trap};
+use crate::machine::Machine;
 
 /// A function of a procedure segment.
 #[derive(Clone, Copy)]
@@ -42,25 +42,26 @@ pub fn function(p: &[u8], number: usize) -> Option<Function<'_>> {
 }
 
 impl Machine<'_> {
-    /// GO, GO_TRUE and GO_FALSE are 13, 14 and 15.
+    /// Where the function goes on after GO, GO_TRUE or GO_FALSE, by its first byte.
     #[inline]
-    pub fn jump(&mut self, kind: u8, to: usize, next: usize) -> Result<(), Trap> {
-        let taken = kind == 13 || {
+    pub fn jump(&mut self, kind: u8, to: usize, next: usize) -> Result<usize, Trap> {
+        let taken = kind == 0xAD || {
             let Some(cell) = self.operands(1)?.last() else { return Err((3, 4)) };
-            truth(value(cell)?.single()?)? == (kind == 14)
+            truth(value(cell)?.single()?)? == (kind == 0xAE)
         };
         if taken && !(8..self.frame.called.code.len()).contains(&to) {
             return Err((3, 1));
         }
-        if kind != 13 {
+        if kind != 0xAD {
             self.stack.pop();
         }
-        self.frame.at = if taken { to } else { next };
-        Ok(())
+        Ok(if taken { to } else { next })
     }
 
-    pub fn call(&mut self, arguments: usize, alternate: bool, number: u16, next: usize) -> Result<(), Trap> {
-        let called = function(self.procedures[alternate as usize], number as usize).ok_or((3, 1))?;
+    /// CALL with NARGS in four bits, P in one, the function in eleven: the called function starts.
+    pub fn call(&mut self, half: u32, next: usize) -> Result<usize, Trap> {
+        let arguments = (half >> 12) as usize;
+        let called = function(self.procedures[(half >> 11 & 1) as usize], (half & 0x7FF) as usize).ok_or((3, 1))?;
         let start = self.operands(arguments)?.len() - arguments;
         if arguments != called.nargs {
             return Err((3, 4));
@@ -74,11 +75,11 @@ impl Machine<'_> {
         self.frame.at = next;
         let frame = Frame { called, at: 8, start, temporaries };
         self.older.push(std::mem::replace(&mut self.frame, frame));
-        if self.flags & 2 != 0 && called.calltrace { Err((2, 2)) } else { Ok(()) }
+        if self.flags & 2 != 0 && called.calltrace { Err((2, 2)) } else { Ok(8) }
     }
 
-    /// RETURN.
-    pub fn leave(&mut self) -> Result<(), Trap> {
+    /// RETURN: the calling function goes on.
+    pub fn leave(&mut self) -> Result<usize, Trap> {
         if self.stack.len() > self.frame.temporaries {
             return Err((3, 12));
         }
@@ -96,6 +97,6 @@ impl Machine<'_> {
         if let Some(older) = self.older.pop() {
             self.frame = older;
         }
-        if self.flags & 4 != 0 && rtntrace { Err((2, 3)) } else { Ok(()) }
+        if self.flags & 4 != 0 && rtntrace { Err((2, 3)) } else { Ok(self.frame.at) }
     }
 }

@@ -1,29 +1,11 @@
 //! The machine as one writes it in Rust: cells in a vector, arrays counted by `Rc` and copied where a shared one is written,
 //! the place in the code and the frames in variables. It decodes the same bytes at each step and makes every test of the
 //! manual's lists. It has the instructions that the benches run; any other is (3,11).
-use crate::arrays::{self, Array, Value};
+use crate::arrays::{self, value, Array, Cell, Place, Trap, Value};
 use crate::control::{function, Frame};
-use crate::decode::{decode, Address, Decoded, Instruction};
+use crate::decode::{address, half, Address};
 use crate::elements;
 use std::rc::Rc;
-
-pub type Trap = (u8, u8);
-
-#[derive(Clone)]
-pub enum Cell {
-    Undefined,
-    Scalar(u32),
-    Array(Rc<Array>),
-    /// REFERENCE makes it, which no bench runs; every load looks for it.
-    #[allow(dead_code)]
-    Indirect(Place),
-}
-
-#[derive(Clone, Copy)]
-pub enum Place {
-    Stack(usize),
-    Global(usize),
-}
 
 pub struct Machine<'a> {
     pub procedures: [&'a [u8]; 2],
@@ -35,16 +17,6 @@ pub struct Machine<'a> {
     pub flags: u32,
     /// How many cells the stack can hold beside the frames there are.
     pub most: usize,
-}
-
-/// The value of an operand.
-#[inline]
-pub fn value(cell: &Cell) -> Result<Value<'_>, Trap> {
-    match cell {
-        Cell::Scalar(w) => Ok(Value { lengths: &[], ravel: std::slice::from_ref(w) }),
-        Cell::Array(array) => Ok(Value { lengths: array.shape.lengths(), ravel: &array.ravel }),
-        Cell::Undefined | Cell::Indirect(_) => Err((3, 5)),
-    }
 }
 
 impl<'a> Machine<'a> {
@@ -69,34 +41,60 @@ impl<'a> Machine<'a> {
         (budget, None)
     }
 
+    /// Each instruction is done as its bytes are read.
     #[inline]
     fn step(&mut self) -> Result<(), Trap> {
-        let (instruction, next) = match decode(self.frame.called.code, self.frame.at) {
-            Decoded::Trap(class, number) => return Err((class, number)),
-            Decoded::Instruction(instruction, next) => (instruction, next as usize),
+        let (code, at) = (self.frame.called.code, self.frame.at);
+        let first = match code.get(at) {
+            Some(&first) if at >= 8 => first,
+            _ => return Err((3, 1)),
         };
-        match instruction {
-            Instruction::Load(a) => self.load(a)?,
-            Instruction::ShortConstant { negative, magnitude } => {
-                let sign = negative && magnitude != 0;
-                self.push(Cell::Scalar((sign as u32) << 31 | magnitude))?;
+        self.frame.at = match first {
+            0x00..=0x3F | 0xC0..=0xDF => {
+                let (a, next) = address(code, at)?;
+                self.load(a)?;
+                next
             }
-            Instruction::ConstantScalar(w) if elements::is_scalar(w) => self.push(Cell::Scalar(w))?,
-            Instruction::ConstantScalar(_) => return Err((3, 5)),
-            Instruction::Scalar(op @ (8..=11 | 14..)) => self.dyadic(op as u32)?,
-            Instruction::Memory(rank @ 1..=15, a) => self.assign_indexed(rank as usize, a)?,
-            Instruction::Memory(17, a) => self.assign(a)?,
-            Instruction::Stack(1) => drop(self.operands(1)?.pop()),
-            Instruction::Array(6) => self.join(arrays::reshape)?,
-            Instruction::Array(8) => self.join(arrays::catenate)?,
-            Instruction::Array(9) => self.index_generator()?,
-            Instruction::Jump(kind, to) => return self.jump(kind, to as usize, next),
-            Instruction::Call { arguments, alternate, function } => return self.call(arguments as usize, alternate, function, next),
-            Instruction::Control(16) => return self.leave(),
+            0x40..=0x5F => {
+                let magnitude = half(code, at)? & 0xFFF;
+                let sign = (first & 16 != 0 && magnitude != 0) as u32;
+                self.push(Cell::Scalar(sign << 31 | magnitude))?;
+                at + 2
+            }
+            0x68..=0x6B | 0x6E..=0x6F => {
+                self.dyadic(first as u32 & 15)?;
+                at + 1
+            }
+            0x81..=0x8F | 0x91 => {
+                let (a, next) = address(code, at + 1)?;
+                if first == 0x91 { self.assign(a)? } else { self.assign_indexed(first as usize & 15, a)? }
+                next
+            }
+            0xA0..=0xBF => self.etc(first, code, at)?,
+            _ => return Err((3, 11)),
+        };
+        Ok(())
+    }
+
+    /// The place to go on at.
+    #[inline]
+    fn etc(&mut self, first: u8, code: &[u8], at: usize) -> Result<usize, Trap> {
+        match first {
+            0xA1 => drop(self.operands(1)?.pop()),
+            0xA6 => self.join(arrays::reshape)?,
+            0xA8 => self.join(arrays::catenate)?,
+            0xA9 => self.index_generator()?,
+            0xAA => {
+                let w = half(code, at + 1)? << 16 | half(code, at + 3)?;
+                self.push(if elements::is_scalar(w) { Cell::Scalar(w) } else { return Err((3, 5)) })?;
+                return Ok(at + 5);
+            }
+            0xAD..=0xAF => return self.jump(first, half(code, at + 1)? as usize, at + 3),
+            0xB0 => return self.leave(),
+            0xB1 => return self.call(half(code, at + 1)?, at + 3),
             _ => return Err((3, 11)),
         }
-        self.frame.at = next;
-        Ok(())
+        Ok(at + 1)
     }
 
     /// The stack, if the current function has so many operands on it.
