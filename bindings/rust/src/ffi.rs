@@ -1,0 +1,42 @@
+//! The exported functions, as include/crms.h declares them. Nothing checks these lines against the library: keep them alike.
+
+extern "C" {
+    pub fn crms_lay_out(
+        data: *mut u32,
+        n: usize,
+        regular: *const u8,
+        nr: usize,
+        alternate: *const u8,
+        na: usize,
+        segment: u32,
+        function: u32,
+        globals: u32,
+        array_words: u32,
+    ) -> u32;
+
+    pub fn crms_run(data: *mut u32, n: usize, regular: *const u8, nr: usize, alternate: *const u8, na: usize, budget: u32) -> u64;
+
+    pub fn crms_load(
+        data: *mut u32,
+        n: usize,
+        regular: *const u8,
+        nr: usize,
+        alternate: *const u8,
+        na: usize,
+        global: u32,
+        lengths: *const u32,
+        rank: usize,
+        elements: *const u32,
+        count: usize,
+    ) -> u32;
+
+    pub fn crms_look(
+        data: *const u32,
+        n: usize,
+        regular: *const u8,
+        nr: usize,
+        alternate: *const u8,
+        na: usize,
+        global: u32,
+    ) -> u64;
+}

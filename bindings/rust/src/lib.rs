@@ -1,0 +1,212 @@
+//! The engine of the CRMS APL processor: four operations on a lent data segment and both procedure segments.
+//!
+//! [`lay_out`] makes a fresh data segment, [`run`] does at most a given number of instructions, [`load`] puts a value into a
+//! global and [`look`] hands it back. A data segment is any `&mut [u32]` of 32 to 16,384 words. A call that is refused says why
+//! ([`Refusal`]) and changes nothing; a run that meets a trap says which ([`Trap`]). Nothing is kept between calls and nothing is
+//! allocated.
+//!
+//! The library under this crate is proved: what each operation answers, and each word that it leaves, is what its definition says.
+//! This crate only lends it slices and takes its numbers apart.
+//!
+//! ```
+//! use crms::{lay_out, load, look, run, Layout, ProcedureSegment, Procedures, Ran, Trap, Value};
+//!
+//! // Function 1 assigns global 8 to global 9, and then 0 to the element of global 9 at place 2.
+//! let functions = [
+//!     0x00, 0x00, 0x00, 0x02, // a directory of two entries: itself, and
+//!     0x00, 0x02, 0x00, 0x06, // function 1, which starts at word 2 and is 6 words long
+//!     0x00, 0x00, 0x00, 0x00, // its header: no arguments, no lines,
+//!     0x00, 0x00, 0x00, 0x04, // no locals, 4 words of code
+//!     0xD0, 0x08, 0x91, 0xD0, 0x09, // LONGGLOBAL 8; ASSIGN_NO_RESULT to global 9
+//!     0x40, 0x00, 0x40, 0x02, 0x81, 0xD0, 0x09, // 0, place 2, ASSIGN_INDEXED into global 9
+//!     0xA1, 0xB0, 0xB2, 0xB2, // EAT1, RETURN
+//! ];
+//! let procedures = Procedures::regular_only(&functions);
+//! let layout = Layout { segment: ProcedureSegment::Regular, function: 1, globals: 2, array_words: 24 };
+//! let mut data = [0; 64];
+//!
+//! lay_out(&mut data, procedures, layout)?;
+//! load(&mut data, procedures, 8, &[3], &[10, 20, 30])?;
+//! assert_eq!(run(&mut data, procedures, 6)?, Ran::Done { steps: 6 });
+//!
+//! // The copy was written, and the list is as it was.
+//! assert_eq!(look(&data, procedures, 8)?, Value::Array { lengths: &[3], elements: &[10, 20, 30] });
+//! assert_eq!(look(&data, procedures, 9)?, Value::Array { lengths: &[3], elements: &[10, 20, 0] });
+//!
+//! // RETURN in the bottom frame is how the function ends.
+//! let ended = Trap { class: 3, number: 13 };
+//! assert_eq!(run(&mut data, procedures, 1)?, Ran::Trapped { steps: 0, trap: ended });
+//! # Ok::<(), crms::Refusal>(())
+//! ```
+
+mod faults;
+mod ffi;
+mod scalar;
+
+pub use faults::{Refusal, Trap};
+pub use scalar::Scalar;
+
+/// Both procedure segments: whole big-endian words, 4 to 32,768 bytes each.
+#[derive(Clone, Copy, Debug)]
+pub struct Procedures<'p> {
+    /// Procedure segment 0.
+    pub regular: &'p [u8],
+    /// Procedure segment 1.
+    pub alternate: &'p [u8],
+}
+
+impl<'p> Procedures<'p> {
+    /// A procedure segment without functions: a directory whose one entry is itself.
+    pub const UNUSED: &'static [u8] = &[0, 0, 0, 1];
+
+    /// The regular segment, beside an alternate one without functions.
+    pub fn regular_only(regular: &'p [u8]) -> Procedures<'p> {
+        Procedures { regular, alternate: Procedures::UNUSED }
+    }
+}
+
+/// One of the two procedure segments.
+#[derive(Clone, Copy, Debug, PartialEq, Eq)]
+pub enum ProcedureSegment {
+    /// Procedure segment 0.
+    Regular,
+    /// Procedure segment 1.
+    Alternate,
+}
+
+/// What a fresh data segment is to have.
+#[derive(Clone, Copy, Debug, PartialEq, Eq)]
+pub struct Layout {
+    /// The procedure segment of the function that the bottom frame runs.
+    pub segment: ProcedureSegment,
+    /// The number of that function, from 1. It takes no arguments.
+    pub function: u32,
+    /// The number of globals, at most 4,088. They start at address 8.
+    pub globals: u32,
+    /// The words of array storage, at least 6. Three of them are the dummy block's.
+    pub array_words: u32,
+}
+
+/// What a run that was not refused did.
+#[derive(Clone, Copy, Debug, PartialEq, Eq)]
+pub enum Ran {
+    /// As many instructions as asked were done.
+    Done {
+        /// How many.
+        steps: u32,
+    },
+    /// A trap, after so many finished instructions.
+    Trapped {
+        /// How many.
+        steps: u32,
+        /// The trap, which word 3 of the data segment has too.
+        trap: Trap,
+    },
+}
+
+/// What a global holds. The slices are parts of the data segment; their words are scalars ([`Scalar::from_word`]).
+#[derive(Clone, Copy, Debug, PartialEq, Eq)]
+pub enum Value<'s> {
+    /// The word of a scalar.
+    Scalar(u32),
+    /// An array.
+    Array {
+        /// Its 1 to 15 lengths: plain numbers, as the integer words of non-negative numbers are.
+        lengths: &'s [u32],
+        /// Its elements, the last subscript running fastest: as many as the product of the lengths.
+        elements: &'s [u32],
+    },
+}
+
+/// Makes a fresh data segment of `data`, whatever stood in it: all globals undefined, and one frame that is about to run the
+/// layout's function.
+pub fn lay_out(data: &mut [u32], procedures: Procedures<'_>, layout: Layout) -> Result<(), Refusal> {
+    let Procedures { regular, alternate } = procedures;
+    let segment = match layout.segment {
+        ProcedureSegment::Regular => 0,
+        ProcedureSegment::Alternate => 1,
+    };
+    // SAFETY: each pointer comes with its slice's length, and `data` is borrowed alone.
+    let status = unsafe {
+        ffi::crms_lay_out(
+            data.as_mut_ptr(),
+            data.len(),
+            regular.as_ptr(),
+            regular.len(),
+            alternate.as_ptr(),
+            alternate.len(),
+            segment,
+            layout.function,
+            layout.globals,
+            layout.array_words,
+        )
+    };
+    done(status)
+}
+
+/// Runs at most `budget` instructions. After a trap, and after a budget that was used up, a further run goes on from there.
+pub fn run(data: &mut [u32], procedures: Procedures<'_>, budget: u32) -> Result<Ran, Refusal> {
+    let Procedures { regular, alternate } = procedures;
+    // SAFETY: as in `lay_out`.
+    let answer = unsafe {
+        ffi::crms_run(data.as_mut_ptr(), data.len(), regular.as_ptr(), regular.len(), alternate.as_ptr(), alternate.len(), budget)
+    };
+    let steps = (answer & 0xFFFF_FFFF) as u32;
+    match (answer >> 32) as u32 {
+        2 => Ok(Ran::Done { steps }),
+        3 => Ok(Ran::Trapped { steps, trap: Trap::from_word(data[3]) }),
+        number => Err(refused(number)),
+    }
+}
+
+/// Gives the global at address `global` the value of these lengths and element words. No lengths, and one element, are a scalar.
+/// The old value's block is released last.
+pub fn load(data: &mut [u32], procedures: Procedures<'_>, global: u32, lengths: &[u32], elements: &[u32]) -> Result<(), Refusal> {
+    let Procedures { regular, alternate } = procedures;
+    // SAFETY: as in `lay_out`.
+    let status = unsafe {
+        ffi::crms_load(
+            data.as_mut_ptr(),
+            data.len(),
+            regular.as_ptr(),
+            regular.len(),
+            alternate.as_ptr(),
+            alternate.len(),
+            global,
+            lengths.as_ptr(),
+            lengths.len(),
+            elements.as_ptr(),
+            elements.len(),
+        )
+    };
+    done(status)
+}
+
+/// What the global at address `global` holds.
+pub fn look<'s>(data: &'s [u32], procedures: Procedures<'_>, global: u32) -> Result<Value<'s>, Refusal> {
+    let Procedures { regular, alternate } = procedures;
+    // SAFETY: each pointer comes with its slice's length.
+    let answer = unsafe {
+        ffi::crms_look(data.as_ptr(), data.len(), regular.as_ptr(), regular.len(), alternate.as_ptr(), alternate.len(), global)
+    };
+    done((answer >> 32) as u32)?;
+    let rank = (answer >> 28 & 0xF) as usize;
+    let first = (answer >> 14 & 0x3FFF) as usize;
+    let count = (answer & 0x3FFF) as usize;
+    if rank == 0 {
+        return Ok(Value::Scalar(data[first]));
+    }
+    Ok(Value::Array { lengths: &data[first - rank..first], elements: &data[first..first + count] })
+}
+
+fn done(status: u32) -> Result<(), Refusal> {
+    match status {
+        0 => Ok(()),
+        number => Err(refused(number)),
+    }
+}
+
+/// The library answers no other numbers than those of document 01's table.
+fn refused(number: u32) -> Refusal {
+    Refusal::from_number(number).unwrap_or_else(|| panic!("{number} is no status of the engine"))
+}

@@ -1,0 +1,45 @@
+-- A status is the number that refused; a run's answer and words are its definition's; an array's parts are short.
+use Prim.Native.Nat.{ℕ, zero, suc, _+_, _-_, _≤_, _<_, _^_}
+use native.Mathlib.Omega.{arith}
+use mathlib.Core.Path.{_≡_, refl, ap, _∙_}
+use mathlib.Core.Bool.{Bool, true, false, cond}
+use mathlib.Core.List.{List, []}
+use lib.ListN.{length}
+use lib.Dec.{leb}
+use borrow.Author.Tests.{ne-eqb}
+use Rattle.segment.specs.Blocks.{part, sizeAt, rankAt}
+use Rattle.segment.specs.Parts.{within, shapePart, elementsPart}
+use Rattle.operations.specs.declared.Run.{Run}
+use Rattle.operations.specs.Answers.{answerOf, statusOf}
+use Rattle.operations.specs.Run.{Ended, ended}
+use Rattle.crms_export.specs.Numbers.{runNumber}
+
+pub status-answer : (number : ℕ) → statusOf (answerOf number) ≡ number
+status-answer zero = refl
+status-answer (suc n) = simp (ne-eqb (suc n) 0 (λ e. omega (arith, e)))
+
+pub run-told : (number : ℕ) (answer : Run) (s : List ℕ) (e : Ended) → number ≡ runNumber answer → ended answer s ≡ e
+    → (number ≡ runNumber (e .answer)) × (s ≡ e .words)
+run-told number answer s e same told = (same ∙ ap (λ (e : Ended). runNumber (e .answer)) told, ap (λ (e : Ended). e .words) told)
+
+pub part-length : (n : ℕ) (s : List ℕ) (a : ℕ) → length (part s a n) ≡ n
+part-length zero s a = refl
+part-length (suc n) s a = ap suc (part-length n s (a + 1))
+
+kept : (b : Bool) (l : List ℕ) → length (cond b l []) ≤ length l
+kept true l = omega arith
+kept false l = omega arith
+
+within-short : (s : List ℕ) (start count : ℕ) → length (within s start count) ≤ count
+unfolding within
+within-short s start count =
+    omega (arith, kept (leb (start + count) (length s)) (part s start count), part-length count s start)
+
+-- A rank has four bits, and SIZE sixteen.
+pub shape-short : (s : List ℕ) (a : ℕ) → length (shapePart s a) < 2 ^ 4
+unfolding shapePart
+shape-short s a = omega (arith, within-short s (a + 2) (rankAt s a))
+
+pub elements-short : (s : List ℕ) (a : ℕ) → length (elementsPart s a) < 2 ^ 16
+unfolding elementsPart
+elements-short s a = omega (arith, within-short s (a + 2 + rankAt s a) (sizeAt s a - (rankAt s a + 2)))

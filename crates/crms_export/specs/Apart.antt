@@ -1,0 +1,60 @@
+-- The numbers of runs and looks come apart again as include/crms.h does it: no part runs into the next, and the words that the
+-- number of a look leads to are those of the value seen. A reader must believe: the parts named here are the header's.
+-- proofs/Apart.antt proves it. Assumes nothing.
+use Prim.Native.Nat.{ℕ, _+_, _-_, _/_, _%_, _^_, _≤_, _<_}
+use mathlib.Core.Path.{_≡_}
+use mathlib.Core.List.{List, [], _∷_}
+use lib.ListN.{length}
+use Rattle.segment.specs.Blocks.{part, shapeAt, elementsAt}
+use Rattle.operations.specs.declared.Run.{Run}
+use Rattle.operations.specs.declared.Looked.{Looked}
+use Rattle.operations.specs.declared.Looked.the-variants.{Scalar, Array, Refused}
+use Rattle.operations.specs.Answers.{runStatus, stepsOf, lookStatus}
+use Rattle.operations.specs.Run.{ran}
+use Rattle.operations.specs.Look.{looked}
+use Rattle.crms_export.specs.Numbers.{runNumber, lookNumber}
+
+-- `crms_status_of`, `crms_steps_of`, `crms_rank_of`, `crms_first_of`, `crms_count_of`.
+abbrev pub statusIn : ℕ → ℕ
+statusIn n = n / 2 ^ 32
+
+abbrev pub stepsIn : ℕ → ℕ
+stepsIn n = n % 2 ^ 32
+
+abbrev pub rankIn : ℕ → ℕ
+rankIn n = n / 2 ^ 28 % 2 ^ 4
+
+abbrev pub firstIn : ℕ → ℕ
+firstIn n = n / 2 ^ 14 % 2 ^ 14
+
+abbrev pub countIn : ℕ → ℕ
+countIn n = n % 2 ^ 14
+
+pub record RunApart (answer : Run) : Type 0 where
+  pub status : statusIn (runNumber answer) ≡ runStatus answer
+  pub steps : stepsIn (runNumber answer) ≡ stepsOf answer
+
+-- The elements from `first` up, and the lengths just below it.
+abbrev pub elementsIn : List ℕ → ℕ → List ℕ
+elementsIn s n = part s (firstIn n) (countIn n)
+
+abbrev pub lengthsIn : List ℕ → ℕ → List ℕ
+lengthsIn s n = part s (firstIn n - rankIn n) (rankIn n)
+
+-- Where a number leads to.
+abbrev pub Leads : List ℕ → ℕ → Looked → Type 0
+Leads s n (Scalar w) = (rankIn n ≡ 0) × (elementsIn s n ≡ w ∷ [])
+Leads s n (Array block) =
+    (1 ≤ rankIn n) × (lengthsIn s n ≡ shapeAt s (block .0)) × (elementsIn s n ≡ elementsAt s (block .0))
+Leads s n (Refused number) = Unit {0}
+
+pub record LookApart (s : List ℕ) (g : ℕ) (answer : Looked) : Type 0 where
+  pub status : statusIn (lookNumber s g answer) ≡ lookStatus answer
+  pub low : rankIn (lookNumber s g answer) ≤ firstIn (lookNumber s g answer)
+  pub high : firstIn (lookNumber s g answer) + countIn (lookNumber s g answer) ≤ length s
+  pub leads : Leads s (lookNumber s g answer) answer
+
+-- Of any words and any global. A budget has 32 bits.
+pub record Apart : Type 0 where
+  pub runs : (s regular other : List ℕ) (budget : ℕ) → budget < 2 ^ 32 → RunApart (ran s regular other budget .answer)
+  pub looks : (s regular other : List ℕ) (g : ℕ) → LookApart s g (looked s regular other g)
