@@ -14,15 +14,15 @@ extern "C" {
 const NONE: [u8; 4] = [0, 0, 0, 1];
 
 pub struct Engine<'a> {
-    data: Vec<u32>,
-    procedures: &'a [u8],
+    pub data: Vec<u32>,
+    pub procedures: [&'a [u8]; 2],
 }
 
 impl<'a> Engine<'a> {
     pub fn new(l: &'a Loop) -> Self {
-        let mut engine = Engine { data: vec![0; WORDS], procedures: &l.procedures };
-        let (data, p) = (&mut engine.data, engine.procedures);
-        let done = unsafe { crms_lay_out(data.as_mut_ptr(), data.len(), p.as_ptr(), p.len(), NONE.as_ptr(), 4, 0, 1, l.globals as u32, l.array_words as u32) };
+        let mut engine = Engine { data: vec![0; WORDS], procedures: [&l.procedures, &NONE] };
+        let (data, [p, q]) = (&mut engine.data, engine.procedures);
+        let done = unsafe { crms_lay_out(data.as_mut_ptr(), data.len(), p.as_ptr(), p.len(), q.as_ptr(), q.len(), 0, 1, l.globals as u32, l.array_words as u32) };
         assert_eq!(done, 0);
         for (k, vector) in l.loaded.iter().enumerate() {
             engine.load(FIRST as u32 + k as u32, vector);
@@ -31,15 +31,15 @@ impl<'a> Engine<'a> {
     }
 
     fn load(&mut self, global: u32, vector: &[u32]) {
-        let (data, p, lengths) = (&mut self.data, self.procedures, [vector.len() as u32]);
-        let done = unsafe { crms_load(data.as_mut_ptr(), data.len(), p.as_ptr(), p.len(), NONE.as_ptr(), 4, global, lengths.as_ptr(), 1, vector.as_ptr(), vector.len()) };
+        let (data, [p, q], lengths) = (&mut self.data, self.procedures, [vector.len() as u32]);
+        let done = unsafe { crms_load(data.as_mut_ptr(), data.len(), p.as_ptr(), p.len(), q.as_ptr(), q.len(), global, lengths.as_ptr(), 1, vector.as_ptr(), vector.len()) };
         assert_eq!(done, 0);
     }
 
     /// So many instructions, of which none traps.
     pub fn run(&mut self, budget: u32) {
-        let (data, p) = (&mut self.data, self.procedures);
-        let answer = unsafe { crms_run(data.as_mut_ptr(), data.len(), p.as_ptr(), p.len(), NONE.as_ptr(), 4, budget) };
+        let (data, [p, q]) = (&mut self.data, self.procedures);
+        let answer = unsafe { crms_run(data.as_mut_ptr(), data.len(), p.as_ptr(), p.len(), q.as_ptr(), q.len(), budget) };
         assert_eq!(answer, 2 << 32 | budget as u64);
     }
 

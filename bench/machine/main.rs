@@ -40,6 +40,7 @@ fn main() {
         ("ns for an instruction", rows::instructions()),
         ("ns for an element", rows::elements(random)),
         ("ns for a word of acceptance", rows::words(random)),
+        ("ns for a call", rows::calls(random)),
     ];
     for _ in 0..ROUNDS {
         sections.iter_mut().flat_map(|(_, rows)| rows).for_each(|row| row.take(TURNS));

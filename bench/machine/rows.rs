@@ -4,7 +4,7 @@ use crate::engine::{plain, Engine};
 use crate::loops::{self, Loop};
 use crate::random::Random;
 use crate::windows::{nanoseconds, Times, Windows};
-use crate::{judges, segments};
+use crate::{acceptance, judges, segments};
 
 /// About so many nanoseconds in a window.
 const WINDOW: f64 = 0.5e6;
@@ -120,4 +120,19 @@ pub fn words(random: &mut Random) -> Vec<Row> {
         })
     };
     sizes.map(row).into()
+}
+
+/// What every run begins with: the tests, and a scratch that is cleared. Plain Rust has the tests alone.
+pub fn calls(random: &mut Random) -> Vec<Row> {
+    let row = |(words, arrays, frames)| {
+        let p: &'static [u8] = segments::procedures().leak();
+        let s = segments::segment(words, arrays, frames, random);
+        let (mut ours, calls) = (Engine { data: s.clone(), procedures: [p, p] }, 65_536 / words);
+        Row::new("a run of no instructions", Some(words), None, move || {
+            let proved = nanoseconds(|| (0..calls).for_each(|_| ours.run(0)));
+            let plain = nanoseconds(|| (0..calls).for_each(|_| assert_eq!(acceptance::judge(&s, p, p), 0)));
+            [proved / calls as f64, plain / calls as f64, 0.0]
+        })
+    };
+    [(1_024, 120, 6), (16_384, 2_000, 60)].map(row).into()
 }

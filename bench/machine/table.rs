@@ -53,5 +53,6 @@ impl Table {
 }
 
 fn pair(times: &Times) -> String {
-    format!("{:>7.2} {:>7.2}", times.best, times.middle)
+    let digits = if times.best < 1_000.0 { 2 } else { 0 };
+    format!("{:>7.digits$} {:>7.digits$}", times.best, times.middle)
 }
