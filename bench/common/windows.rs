@@ -1,5 +1,7 @@
 //! Times by short windows. Others use the machine, and a short window is often left alone: the best one is what the code
-//! takes, the middle one is what it took on that day.
+//! takes, the middle one is what it took on that day. A bench need not print both.
+#![allow(dead_code)]
+
 use std::time::Instant;
 
 /// Nanoseconds of one call.

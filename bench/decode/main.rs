@@ -1,10 +1,12 @@
 //! Time for one decoded instruction: the proved decoder beside a plain Rust `match` decoder, on the same code.
 #[path = "../plain/decode.rs"]
 mod decode;
+#[path = "../common/windows.rs"]
+mod windows;
 
 use decode::{decode, Address, Decoded, Instruction};
 use std::hint::black_box;
-use std::time::Instant;
+use windows::{nanoseconds, Windows};
 
 extern "C" {
     fn crms_walk(code: *const u8, length: usize) -> u64;
@@ -100,25 +102,17 @@ fn one_byte(i: &Instruction) -> bool {
     matches!(i, Load(Address::Local(1..=64)) | Scalar(_) | Stack(_) | Array(_) | Control(_) | Index(_))
 }
 
-fn best(rounds: usize, f: impl Fn() -> u64) -> f64 {
-    let mut least = f64::MAX;
-    for _ in 0..rounds {
-        let start = Instant::now();
-        for _ in 0..20 {
-            black_box(f());
-        }
-        least = least.min(start.elapsed().as_nanos() as f64 / 20.0);
-    }
-    least
-}
-
 fn main() {
     for (name, code) in [("one byte", code(one_byte)), ("all forms", code(|_| true))] {
         let n = count(&code) as f64;
         let proved = || unsafe { crms_walk(black_box(code.as_ptr()), code.len()) };
         let plain = || walk(black_box(&code));
         assert_eq!(proved(), plain());
-        let (a, b) = (best(50, proved) / n, best(50, plain) / n);
-        println!("{name}: proved {a:.2} ns, plain Rust {b:.2} ns an instruction, ratio {:.2}", a / b);
+        let mut windows = Windows::new();
+        for _ in 0..1_000 {
+            windows.take([nanoseconds(|| _ = black_box(proved())) / n, nanoseconds(|| _ = black_box(plain())) / n]);
+        }
+        let [a, b] = windows.times();
+        println!("{name}: proved {:.2} ns, plain Rust {:.2} ns an instruction, ratio {:.2}", a.best, b.best, a.best / b.best);
     }
 }

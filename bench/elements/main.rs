@@ -4,11 +4,13 @@
 mod plain;
 #[path = "../common/random.rs"]
 mod random;
+#[path = "../common/windows.rs"]
+mod windows;
 
 use plain::{DIFFERENCE, EQUAL, LESS, PRODUCT, QUOTIENT, SUM};
 use random::Random;
 use std::hint::black_box;
-use std::time::Instant;
+use windows::{nanoseconds, Windows};
 
 extern "C" {
     fn elements_dyadic(op: u32, a: *const u32, m: usize, b: *const u32, n: usize, out: *mut u32, room: usize) -> u32;
@@ -28,27 +30,21 @@ fn proved_cycle(from: &[u32], to: &mut [u32]) {
     unsafe { elements_cycle(from.as_ptr(), from.len(), to.as_mut_ptr(), to.len()) }
 }
 
-/// The best of many short rounds, in nanoseconds for an element.
-fn time(n: usize, mut work: impl FnMut()) -> f64 {
+/// The best of many short windows of each, by turns, in nanoseconds for an element.
+fn row(name: &str, n: usize, mut proved: impl FnMut(), mut plain: impl FnMut()) {
     let turns = (20_000 / n).max(2);
-    let mut best = f64::MAX;
-    for _ in 0..100 {
-        let start = Instant::now();
-        for _ in 0..turns {
-            work();
-        }
-        best = best.min(start.elapsed().as_nanos() as f64 / (turns * n) as f64);
+    let share = (turns * n) as f64;
+    let mut windows = Windows::new();
+    for _ in 0..200 {
+        windows.take([nanoseconds(|| (0..turns).for_each(|_| proved())) / share, nanoseconds(|| (0..turns).for_each(|_| plain())) / share]);
     }
-    best
-}
-
-fn row(name: &str, n: usize, proved: f64, plain: f64) {
-    println!("{name:<22} {n:>6} {proved:>9.3} {plain:>9.3}");
+    let [proved, plain] = windows.times();
+    println!("{name:<22} {n:>6} {:>9.3} {:>9.3} {:>6.2}", proved.best, plain.best, proved.best / plain.best);
 }
 
 fn main() {
     let mut random = Random(1);
-    println!("{:<22} {:>6} {:>9} {:>9}", "ns an element", "n", "elements", "plain");
+    println!("{:<22} {:>6} {:>9} {:>9} {:>6}", "ns an element", "n", "proved", "plain", "ratio");
     for n in [1, 10, 100, 1_000, 10_000] {
         let integers: [Vec<u32>; 2] = [0, 1].map(|_| (0..n).map(|_| random.integer()).collect());
         let floats: [Vec<u32>; 2] = [0, 1].map(|_| (0..n).map(|_| random.float()).collect());
@@ -74,16 +70,16 @@ fn main() {
             row(
                 name,
                 n,
-                time(n, || { black_box(proved_dyadic(op, black_box(a), black_box(b), black_box(&mut out))); }),
-                time(n, || { black_box(plain::dyadic(op, black_box(a), black_box(b), black_box(&mut other))); }),
+                || _ = black_box(proved_dyadic(op, black_box(a), black_box(b), black_box(&mut out))),
+                || _ = black_box(plain::dyadic(op, black_box(a), black_box(b), black_box(&mut other))),
             );
         }
         let from = &integers[0];
         row(
             "copy",
             n,
-            time(n, || proved_copy(black_box(from), black_box(&mut out))),
-            time(n, || plain::copy(black_box(from), black_box(&mut other))),
+            || proved_copy(black_box(from), black_box(&mut out)),
+            || plain::copy(black_box(from), black_box(&mut other)),
         );
         for k in [1, 3, 100] {
             let from = &from[..k.min(n)];
@@ -93,8 +89,8 @@ fn main() {
             row(
                 &format!("cycle of {k}"),
                 n,
-                time(n, || proved_cycle(black_box(from), black_box(&mut out))),
-                time(n, || plain::cycle(black_box(from), black_box(&mut other))),
+                || proved_cycle(black_box(from), black_box(&mut out)),
+                || plain::cycle(black_box(from), black_box(&mut other)),
             );
         }
     }

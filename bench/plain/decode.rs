@@ -32,23 +32,20 @@ const OUTSIDE: Decoded = Decoded::Trap(3, 1);
 
 type Trap = (u8, u8);
 
-/// Two bytes, or a trap.
+/// Two bytes of the code, if it has them.
 #[inline]
-pub fn half(code: &[u8], at: usize) -> Result<u32, Trap> {
-    match (code.get(at), code.get(at + 1)) {
-        (Some(&high), Some(&low)) => Ok((high as u32) << 8 | low as u32),
-        _ => Err((3, 1)),
-    }
+pub fn half(code: &[u8], at: usize) -> Option<u32> {
+    Some((*code.get(at)? as u32) << 8 | *code.get(at + 1)? as u32)
 }
 
 /// An address and the place after it, or a trap.
-#[inline]
+#[inline(always)]
 pub fn address(code: &[u8], at: usize) -> Result<(Address, usize), Trap> {
     let b = *code.get(at).ok_or((3, 1))?;
     match b {
         0x00..=0x3F => Ok((Address::Local(64 - b as u32), at + 1)),
         0xC0..=0xDF => {
-            let v = half(code, at)? & 0xFFF;
+            let v = half(code, at).ok_or((3, 1))? & 0xFFF;
             let a = if b < 0xD0 { Address::Local(4096 - v) } else { Address::Global(v) };
             Ok((a, at + 2))
         }
@@ -66,8 +63,8 @@ pub fn decode(code: &[u8], at: usize) -> Decoded {
     match b {
         0x00..=0x3F => Done(Instruction::Load(Address::Local(64 - b as u32)), next),
         0x40..=0x5F => match half(code, at) {
-            Err(_) => OUTSIDE,
-            Ok(v) => Done(Instruction::ShortConstant { negative: v & 0x1000 != 0, magnitude: v & 0xFFF }, next + 1),
+            None => OUTSIDE,
+            Some(v) => Done(Instruction::ShortConstant { negative: v & 0x1000 != 0, magnitude: v & 0xFFF }, next + 1),
         },
         0x60..=0x6F => Done(Instruction::Scalar(b & 15), next),
         0x70..=0x7F => Decoded::Trap(3, 9),
@@ -79,7 +76,7 @@ pub fn decode(code: &[u8], at: usize) -> Decoded {
         0xA0..=0xA4 => Done(Instruction::Stack(b & 31), next),
         0xA5..=0xA9 => Done(Instruction::Array(b & 31), next),
         0xAA => match (half(code, at + 1), half(code, at + 3)) {
-            (Ok(h), Ok(l)) => Done(Instruction::ConstantScalar(h << 16 | l), next + 4),
+            (Some(h), Some(l)) => Done(Instruction::ConstantScalar(h << 16 | l), next + 4),
             _ => OUTSIDE,
         },
         0xAB => match code.get(at + 1) {
@@ -94,12 +91,12 @@ pub fn decode(code: &[u8], at: usize) -> Decoded {
             }
         },
         0xAD..=0xAF => match half(code, at + 1) {
-            Err(_) => OUTSIDE,
-            Ok(to) => Done(Instruction::Jump(b & 31, to), next + 2),
+            None => OUTSIDE,
+            Some(to) => Done(Instruction::Jump(b & 31, to), next + 2),
         },
         0xB1 => match half(code, at + 1) {
-            Err(_) => OUTSIDE,
-            Ok(v) => Done(
+            None => OUTSIDE,
+            Some(v) => Done(
                 Instruction::Call { arguments: (v >> 12) as u16, alternate: v & 0x800 != 0, function: (v & 0x7FF) as u16 },
                 next + 2,
             ),

@@ -7,6 +7,9 @@ use crate::decode::{address, half, Address};
 use crate::elements;
 use std::rc::Rc;
 
+/// Code outside its bounds.
+const OUTSIDE: Trap = (3, 1);
+
 pub struct Machine<'a> {
     pub procedures: [&'a [u8]; 2],
     pub globals: Vec<Cell>,
@@ -47,7 +50,7 @@ impl<'a> Machine<'a> {
         let (code, at) = (self.frame.called.code, self.frame.at);
         let first = match code.get(at) {
             Some(&first) if at >= 8 => first,
-            _ => return Err((3, 1)),
+            _ => return Err(OUTSIDE),
         };
         self.frame.at = match first {
             0x00..=0x3F | 0xC0..=0xDF => {
@@ -56,7 +59,7 @@ impl<'a> Machine<'a> {
                 next
             }
             0x40..=0x5F => {
-                let magnitude = half(code, at)? & 0xFFF;
+                let magnitude = half(code, at).ok_or(OUTSIDE)? & 0xFFF;
                 let sign = (first & 16 != 0 && magnitude != 0) as u32;
                 self.push(Cell::Scalar(sign << 31 | magnitude))?;
                 at + 2
@@ -85,13 +88,13 @@ impl<'a> Machine<'a> {
             0xA8 => self.join(arrays::catenate)?,
             0xA9 => self.index_generator()?,
             0xAA => {
-                let w = half(code, at + 1)? << 16 | half(code, at + 3)?;
+                let w = half(code, at + 1).ok_or(OUTSIDE)? << 16 | half(code, at + 3).ok_or(OUTSIDE)?;
                 self.push(if elements::is_scalar(w) { Cell::Scalar(w) } else { return Err((3, 5)) })?;
                 return Ok(at + 5);
             }
-            0xAD..=0xAF => return self.jump(first, half(code, at + 1)? as usize, at + 3),
+            0xAD..=0xAF => return self.jump(first, half(code, at + 1).ok_or(OUTSIDE)? as usize, at + 3),
             0xB0 => return self.leave(),
-            0xB1 => return self.call(half(code, at + 1)?, at + 3),
+            0xB1 => return self.call(half(code, at + 1).ok_or(OUTSIDE)?, at + 3),
             _ => return Err((3, 11)),
         }
         Ok(at + 1)
