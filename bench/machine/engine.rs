@@ -1,0 +1,90 @@
+//! The proved engine, and the plain machine beside it on the same loop.
+use crate::arrays::{value, Array, Cell, Shape, Value};
+use crate::loops::{Loop, FIRST, WORDS};
+use crate::machine::Machine;
+use std::rc::Rc;
+
+extern "C" {
+    fn crms_lay_out(data: *mut u32, n: usize, regular: *const u8, nr: usize, alternate: *const u8, na: usize, segment: u32, function: u32, globals: u32, array_words: u32) -> u32;
+    fn crms_run(data: *mut u32, n: usize, regular: *const u8, nr: usize, alternate: *const u8, na: usize, budget: u32) -> u64;
+    fn crms_load(data: *mut u32, n: usize, regular: *const u8, nr: usize, alternate: *const u8, na: usize, global: u32, lengths: *const u32, rank: usize, elements: *const u32, count: usize) -> u32;
+}
+
+/// A procedure segment without functions.
+const NONE: [u8; 4] = [0, 0, 0, 1];
+
+pub struct Engine<'a> {
+    pub data: Vec<u32>,
+    pub procedures: [&'a [u8]; 2],
+}
+
+impl<'a> Engine<'a> {
+    pub fn new(l: &'a Loop) -> Self {
+        let mut engine = Engine { data: vec![0; WORDS], procedures: [&l.procedures, &NONE] };
+        let (data, [p, q]) = (&mut engine.data, engine.procedures);
+        let done = unsafe { crms_lay_out(data.as_mut_ptr(), data.len(), p.as_ptr(), p.len(), q.as_ptr(), q.len(), 0, 1, l.globals as u32, l.array_words as u32) };
+        assert_eq!(done, 0);
+        for (k, vector) in l.loaded.iter().enumerate() {
+            engine.load(FIRST as u32 + k as u32, vector);
+        }
+        engine
+    }
+
+    fn load(&mut self, global: u32, vector: &[u32]) {
+        let (data, [p, q], lengths) = (&mut self.data, self.procedures, [vector.len() as u32]);
+        let done = unsafe { crms_load(data.as_mut_ptr(), data.len(), p.as_ptr(), p.len(), q.as_ptr(), q.len(), global, lengths.as_ptr(), 1, vector.as_ptr(), vector.len()) };
+        assert_eq!(done, 0);
+    }
+
+    /// So many instructions, of which none traps.
+    pub fn run(&mut self, budget: u32) {
+        let (data, [p, q]) = (&mut self.data, self.procedures);
+        let answer = unsafe { crms_run(data.as_mut_ptr(), data.len(), p.as_ptr(), p.len(), q.as_ptr(), q.len(), budget) };
+        assert_eq!(answer, 2 << 32 | budget as u64);
+    }
+
+    /// What the cell at an address of the segment holds; nothing where it is undefined.
+    fn value(&self, at: usize) -> Option<Value<'_>> {
+        let w = self.data[at];
+        if w == 0x0400_0000 {
+            return None;
+        }
+        if w >> 16 != 0x200 {
+            return Some(Value { lengths: &[], ravel: &self.data[at..=at] });
+        }
+        let block = &self.data[(w & 0xFFFF) as usize..];
+        let (size, rank) = ((block[0] & 0xFFFF) as usize, (block[1] & 15) as usize);
+        Some(Value { lengths: &block[2..2 + rank], ravel: &block[2 + rank..size] })
+    }
+
+    /// Both machines have the same values in their globals and on top of their stacks.
+    pub fn must_agree(&self, other: &Machine) {
+        let (sbase, ltop) = ((self.data[0] >> 16) as usize, (self.data[0] & 0xFFFF) as usize);
+        let lbase = (self.data[1] >> 16) as usize;
+        let places = (FIRST as usize..self.data[4] as usize).chain(sbase + lbase + 2..=sbase + ltop);
+        let cells = other.globals.iter().chain(&other.stack[other.frame.temporaries..]);
+        assert_eq!(places.clone().count(), cells.clone().count());
+        for (at, cell) in places.zip(cells) {
+            assert_eq!(self.value(at), value(cell).ok());
+        }
+    }
+
+    /// How many blocks of array storage are free.
+    pub fn free_blocks(&self) -> usize {
+        let (mut at, mut free) = (self.data[4] as usize, 0);
+        while at < (self.data[0] >> 16) as usize - 3 {
+            let w = self.data[at];
+            free += (w >> 31) as usize;
+            at += (w & 0xFFFF) as usize + if w >> 31 == 1 { 0 } else { (w >> 16 & 3) as usize };
+        }
+        free
+    }
+}
+
+/// The plain machine at the start of the same loop.
+pub fn plain(l: &Loop) -> Machine<'_> {
+    let vector = |v: &Vec<u32>| Cell::Array(Rc::new(Array { shape: Shape::vector(v.len()), ravel: v.clone() }));
+    let mut globals: Vec<Cell> = l.loaded.iter().map(vector).collect();
+    globals.resize(l.globals, Cell::Undefined);
+    Machine::new([&l.procedures, &NONE], globals, WORDS - 8 - l.globals - l.array_words).expect("the bottom function is there")
+}

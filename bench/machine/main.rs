@@ -1,0 +1,53 @@
+//! The whole engine beside a plain Rust machine on the same bytes with the same tests, and beside A+ where bench/run has its
+//! times: nanoseconds for an instruction, for an element, for a word of acceptance.
+#[path = "../plain/acceptance.rs"]
+mod acceptance;
+#[path = "../plain/arrays.rs"]
+mod arrays;
+mod assemble;
+#[path = "../plain/control.rs"]
+mod control;
+#[path = "../plain/decode.rs"]
+mod decode;
+#[path = "../plain/elements.rs"]
+mod elements;
+mod engine;
+#[path = "../acceptance/judges.rs"]
+mod judges;
+mod loops;
+#[path = "../plain/machine.rs"]
+mod machine;
+#[path = "../common/random.rs"]
+mod random;
+mod rows;
+#[path = "../acceptance/segments.rs"]
+mod segments;
+mod table;
+#[path = "../common/windows.rs"]
+mod windows;
+
+use random::Random;
+use table::Table;
+
+/// The whole table is gone through so often, with so many windows of each row, so that a busy time spoils no row.
+const ROUNDS: usize = 8;
+const TURNS: usize = 30;
+
+fn main() {
+    let aplus = std::env::args().nth(1).and_then(|path| std::fs::read_to_string(path).ok()).unwrap_or_default();
+    let random = &mut Random(0x9E37_79B9_7F4A_7C15);
+    let mut sections = [
+        ("ns for an instruction", rows::instructions()),
+        ("ns for an element", rows::elements(random)),
+        ("ns for a word of acceptance", rows::words(random)),
+        ("ns for a call", rows::calls(random)),
+    ];
+    for _ in 0..ROUNDS {
+        sections.iter_mut().flat_map(|(_, rows)| rows).for_each(|row| row.take(TURNS));
+    }
+    let table = Table::new(&aplus);
+    for (title, rows) in sections {
+        table.section(title);
+        rows.into_iter().for_each(|row| table.row(row));
+    }
+}

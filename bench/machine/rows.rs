@@ -1,0 +1,138 @@
+//! What is timed: a row has a window of the proved code and one of plain Rust, taken by turns.
+use crate::assemble::{LESS, PRODUCT, QUOTIENT, SUM};
+use crate::engine::{plain, Engine};
+use crate::loops::{self, Loop};
+use crate::random::Random;
+use crate::windows::{nanoseconds, Times, Windows};
+use crate::{acceptance, judges, segments};
+
+/// About so many nanoseconds in a window.
+const WINDOW: f64 = 0.5e6;
+
+pub struct Row {
+    pub name: String,
+    pub n: Option<usize>,
+    pub target: Option<f64>,
+    /// The proved code, plain Rust, and what is to be taken off from the proved code.
+    turn: Box<dyn FnMut() -> [f64; 3]>,
+    windows: Windows<3>,
+}
+
+impl Row {
+    fn new(name: &str, n: Option<usize>, target: Option<f64>, turn: impl FnMut() -> [f64; 3] + 'static) -> Self {
+        Row { name: name.to_string(), n, target, turn: Box::new(turn), windows: Windows::new() }
+    }
+
+    /// So many windows of each.
+    pub fn take(&mut self, turns: usize) {
+        (0..turns).for_each(|_| self.windows.take((self.turn)()));
+    }
+
+    pub fn times(self) -> [Times; 2] {
+        let [proved, plain, off] = self.windows.times();
+        [Times { best: proved.best - off.best, middle: proved.middle - off.best }, plain]
+    }
+}
+
+/// How many instructions take about a window.
+fn budget(mut run: impl FnMut(u32)) -> u32 {
+    run(2_000);
+    (WINDOW / nanoseconds(|| run(2_000)) * 2_000.0).clamp(100.0, 4e9) as u32
+}
+
+/// Windows of an endless loop whose instructions count as so many units each. A run tests its segments first: what a run of
+/// no instructions takes is taken off.
+fn turns(l: Loop, units: f64) -> impl FnMut() -> [f64; 3] {
+    let l: &'static Loop = Box::leak(Box::new(l));
+    let (mut ours, mut theirs) = (Engine::new(l), plain(l));
+    for steps in [3, 5_000, 1, 1, 1] {
+        ours.run(steps);
+        assert_eq!(theirs.run(steps), (steps, None));
+        ours.must_agree(&theirs);
+    }
+    let budgets = [budget(|n| ours.run(n)), budget(|n| assert_eq!(theirs.run(n).1, None))];
+    let shares = budgets.map(|n| n as f64 * units);
+    move || {
+        [
+            nanoseconds(|| ours.run(budgets[0])) / shares[0],
+            nanoseconds(|| assert_eq!(theirs.run(budgets[1]).1, None)) / shares[1],
+            nanoseconds(|| ours.run(0)) / shares[0],
+        ]
+    }
+}
+
+pub fn instructions() -> Vec<Row> {
+    let fragmenting = format!("a fragmenting loop, {} free blocks", free_blocks(&loops::fragmenting()));
+    let rows: [(&str, Loop, Option<f64>); 6] = [
+        ("a scalar loop: a local counts", loops::counting(), Some(8.0)),
+        ("a scalar loop: constants added and dropped", loops::constants(), Some(8.0)),
+        ("Ackermann, with its calls and returns", loops::ackermann(), Some(12.0)),
+        ("an empty function called and left", loops::empty_calls(), None),
+        ("indexed assignment", loops::indexed(), None),
+        (&fragmenting, loops::fragmenting(), None),
+    ];
+    rows.map(|(name, l, target)| Row::new(name, None, target, turns(l, 1.0))).into()
+}
+
+/// After a million instructions.
+fn free_blocks(l: &Loop) -> usize {
+    let mut ours = Engine::new(l);
+    ours.run(1_000_000);
+    ours.free_blocks()
+}
+
+/// Five instructions make a turn: two loads, the operator, a drop and a jump. They are shared out over the result's elements,
+/// and a target is for many of these.
+fn element(name: &str, n: usize, target: Option<f64>, l: Loop) -> Row {
+    Row::new(name, Some(n), target.filter(|_| n >= 1_000), turns(l, n as f64 / 5.0))
+}
+
+pub fn elements(random: &mut Random) -> Vec<Row> {
+    let operators: [(&str, u8, fn(&mut Random) -> u32, Option<f64>); 6] = [
+        ("integer SUM", SUM, Random::integer, Some(1.0)),
+        ("integer LESS", LESS, Random::integer, Some(1.0)),
+        ("float SUM", SUM, Random::float, Some(12.0)),
+        ("float PRODUCT", PRODUCT, Random::float, Some(6.0)),
+        ("float QUOTIENT", QUOTIENT, Random::float, Some(6.0)),
+        ("float LESS", LESS, Random::float, None),
+    ];
+    let mut rows = Vec::new();
+    for (name, operator, word, target) in operators {
+        // two operands and a result of 10,000 elements exceed a segment
+        for n in [1, 10, 100, 1_000, 5_400] {
+            let vectors = [0, 1].map(|_| (0..n).map(|_| word(random)).collect());
+            rows.push(element(name, n, target, loops::dyadic(operator, vectors)));
+        }
+    }
+    let sizes = [1, 10, 100, 1_000, 10_000];
+    rows.extend(sizes.map(|n| element("CATENATE", n, None, loops::catenate(n, random))));
+    rows.extend(sizes.map(|n| element("RESHAPE", n, None, loops::reshape(n, random))));
+    rows
+}
+
+pub fn words(random: &mut Random) -> Vec<Row> {
+    let sizes = [(1_024, 120, 6), (2_048, 240, 10), (4_096, 480, 20), (8_192, 1_000, 40), (16_384, 2_000, 60)];
+    let row = |(words, arrays, frames)| {
+        let (s, p) = (segments::segment(words, arrays, frames, random), segments::procedures());
+        Row::new(&format!("{arrays} arrays, {frames} frames"), Some(words), Some(4.0), move || {
+            let [proved, plain] = judges::turn(&s, &p);
+            [proved, plain, 0.0]
+        })
+    };
+    sizes.map(row).into()
+}
+
+/// What every run begins with: the tests, and a scratch that is cleared. Plain Rust has the tests alone.
+pub fn calls(random: &mut Random) -> Vec<Row> {
+    let row = |(words, arrays, frames)| {
+        let p: &'static [u8] = segments::procedures().leak();
+        let s = segments::segment(words, arrays, frames, random);
+        let (mut ours, calls) = (Engine { data: s.clone(), procedures: [p, p] }, 65_536 / words);
+        Row::new("a run of no instructions", Some(words), None, move || {
+            let proved = nanoseconds(|| (0..calls).for_each(|_| ours.run(0)));
+            let plain = nanoseconds(|| (0..calls).for_each(|_| assert_eq!(acceptance::judge(&s, p, p), 0)));
+            [proved / calls as f64, plain / calls as f64, 0.0]
+        })
+    };
+    [(1_024, 120, 6), (16_384, 2_000, 60)].map(row).into()
+}
