@@ -30,8 +30,8 @@ use random::Random;
 use table::Table;
 
 /// The whole table is gone through so often, with so many windows of each row, so that a busy time spoils no row.
-const ROUNDS: usize = 8;
-const TURNS: usize = 30;
+const ROUNDS: usize = 16;
+const TURNS: usize = 25;
 
 fn main() {
     let aplus = std::env::args().nth(1).and_then(|path| std::fs::read_to_string(path).ok()).unwrap_or_default();
