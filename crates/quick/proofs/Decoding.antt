@@ -1,15 +1,16 @@
 -- What stands at a place of the code, by the bytes that the short way reads, and the plan of it.
 use Prim.Native.Nat.{ℕ, _+_, _-_, _*_, _/_, _%_, _^_, _≤_, _<_}
 use native.Mathlib.Omega.{arith}
-use mathlib.Core.Path.{_≡_, ap, _∙_}
+use mathlib.Core.Path.{_≡_, sym, ap, _∙_}
 use mathlib.Core.Bool.{Bool, true, false}
 use mathlib.Core.List.{List}
 use lib.Dec.{eqb}
 use lib.ListN.{length, getD}
-use borrow.Author.Tests.{le-ltb, lt-ltb}
+use borrow.Author.Tests.{le-ltb}
 use Rattle.descriptor.specs.Fields.{integerWord}
-use Rattle.descriptor.specs.Kinds.{bit}
+use Rattle.descriptor.specs.Kinds.{bit, isScalar}
 use Rattle.operator.specs.declared.Dyadic.{Dyadic}
+use Rattle.operator.specs.declared.Monadic.{Monadic}
 use Rattle.operator.specs.declared.Operator.{Operator}
 use Rattle.operator.specs.declared.Operator.the-variants as O
 use Rattle.operator.specs.declared.Suboperation.{Suboperation}
@@ -21,41 +22,41 @@ use Rattle.instruction.specs.declared.Decoded.the-variants as D
 use Rattle.instruction.specs.declared.Instruction.the-variants as I
 use Rattle.instruction.specs.declared.Jump.{Jump}
 use Rattle.instruction.specs.declared.Jump.the-variants as J
+use Rattle.instruction.specs.declared.Address.{Address}
 use Rattle.instruction.specs.declared.Address.the-variants as A
 use Rattle.instruction.specs.declared.variable.FetchedAddress.{FetchedAddress}
 use Rattle.instruction.specs.declared.variable.FetchedAddress.the-variants as F
 use Rattle.instruction.specs.declared.MemoryOperation.{MemoryOperation}
-use Rattle.instruction.specs.declared.MemoryOperation.the-variants as M
+use Rattle.instruction.specs.declared.StackOperation.{StackOperation}
 use Rattle.instruction.specs.declared.table.MemorySuboperation.{MemorySuboperation}
 use Rattle.instruction.specs.declared.table.MemorySuboperation.the-variants as N
 use Rattle.instruction.specs.declared.table.EtcSuboperation.{EtcSuboperation}
 use Rattle.instruction.specs.declared.table.EtcSuboperation.the-variants as E
 use Rattle.instruction.specs.declared.family.Family.{Family}
-use Rattle.instruction.specs.declared.family.Family.the-variants.{ShortLocal, ShortConst, GenScalar, MemRef, Etc}
+use Rattle.instruction.specs.declared.family.Family.the-variants.{ShortLocal, ShortConst, GenScalar, MemRef, Etc, LongLocal, LongGlobal}
 use Rattle.instruction.specs.Families.{familyOf}
 use Rattle.instruction.specs.Tables.{memoryOf, etcOf}
 use Rattle.instruction.specs.declared.cursor.Cursor.{Cursor}
 use Rattle.instruction.specs.declared.cursor.FetchedHalf.{FetchedHalf}
 use Rattle.instruction.specs.declared.cursor.FetchedHalf.the-variants.{Half, Outside}
-use Rattle.instruction.specs.Reading.{codeAddress, cursorAt, fetchByte, fetchHalf, withByte, withHalf}
+use Rattle.instruction.specs.declared.cursor.FetchedWord.{FetchedWord}
+use Rattle.instruction.specs.declared.cursor.FetchedWord.the-variants.{Word, Outside as NoWord}
+use Rattle.instruction.specs.Reading.{codeAddress, cursorAt, fetchByte, fetchHalf, fetchWord, withByte, withHalf, withWord}
 use Rattle.instruction.specs.Variables.{addressIn, addressAt, withAddress}
-use Rattle.instruction.specs.Decoding.{done, loadAt, shortConstant, shortConstantAt, scalarAt, memoryAt, jumpAt, etcAt, familyAt, callChecked, instructionAt}
+use Rattle.instruction.specs.Decoding.{done, loadAt, shortConstant, shortConstantAt, scalarAt, memoryAt, constantScalarAt, jumpAt, etcAt, familyAt, callChecked, instructionAt}
 use Rattle.instruction.proofs.Ranges.{is-short-local}
 use Rattle.manual.specs.Seen.{variablesOf}
 use Rattle.manual.specs.Effects.{word, Plan}
 use Rattle.manual.specs.Loads as loads
-use Rattle.manual.specs.Memory as memory
 use Rattle.manual.specs.Scalars as scalars
 use Rattle.manual.specs.Control as control
-use Rattle.manual.specs.Instructions.{Running, headerOf, jumpPlan, planOf}
+use Rattle.manual.specs.Instructions.{Running, headerOf, resolve, memoryPlan, stackPlan, jumpPlan, planOf}
 use Rattle.effects.specs.Seen.{seen}
+use Rattle.perform.specs.Carried.{carry}
 use Rattle.quick.specs.Went.{Went, WentBy, WentAt}
-use Rattle.quick.proofs.Answers.{went-by, went-at}
-
--- A byte that is there is fetched.
-fetched : {A : Type 0} (code : List ℕ) (place : ℕ) (outside : A) (f : ℕ → Cursor → A) → place < length code → withByte (fetchByte code (cursorAt place)) outside f ≡ f (byteAt code place) (cursorAt (place + 1))
-unfolding fetchByte
-fetched code place outside f inside = simp (lt-ltb place (length code) inside)
+use Rattle.quick.specs.Naming.{Names, assignment}
+use Rattle.quick.proofs.Answers.{went-alike, went-by, went-at}
+use Rattle.quick.proofs.Standing.{fetched}
 
 -- ---- what stands after the first byte
 
@@ -63,6 +64,10 @@ fetched code place outside f inside = simp (lt-ltb place (length code) inside)
 pub dyadic-by : (s : List ℕ) (h : Header) (place : ℕ) {sub : Suboperation} {o : Operator} {op : Dyadic} {next : ℕ} {r : Bool} {t : List ℕ} → sub ≡ U.Defined o → o ≡ O.Dyadic op → next ≡ (place + 1) % 2 ^ 32 → Went s (scalars.dyadic (seen s) next op) r t → WentBy s h (scalarAt sub (cursorAt (place + 1))) r t
 unfolding callChecked planOf
 dyadic-by s h place defined dyadic behind answer = went-by (λ f. λ of. rw (defined, dyadic, behind)) answer
+
+pub monadic-by : (s : List ℕ) (h : Header) (place : ℕ) {sub : Suboperation} {o : Operator} {op : Monadic} {next : ℕ} {r : Bool} {t : List ℕ} → sub ≡ U.Defined o → o ≡ O.Monadic op → next ≡ (place + 1) % 2 ^ 32 → Went s (scalars.monadic (seen s) next op) r t → WentBy s h (scalarAt sub (cursorAt (place + 1))) r t
+unfolding callChecked planOf
+monadic-by s h place defined monadic behind answer = went-by (λ f. λ of. rw (defined, monadic, behind)) answer
 
 module _ (s : List ℕ) (h : Header) (code : List ℕ) (place : ℕ) where
   -- The cursor after the first byte.
@@ -84,27 +89,86 @@ module _ (s : List ℕ) (h : Header) (code : List ℕ) (place : ℕ) where
         let short : half % 2 ^ 12 % 2 ^ 12 ≡ half % 2 ^ 12 = omega arith in
         went-by (λ f. λ of. rw (constant-stands, is, short)) answer
 
-  -- MEMREF: a byte below 64 is the address of a local.
-  module _ {first v next : ℕ} (inside : place + 1 < length code) (second : first ≡ getD code (place + 1) 0) (low : first ≤ 0x3F) (is : v ≡ 64 - first) (behind : next ≡ (place + 2) % 2 ^ 32) where
-    assign-stands : memoryAt code after (N.Defined M.AssignNoResult) ≡ D.Instruction (I.Memory M.AssignNoResult (A.Local v)) (codeAddress next)
-    unfolding memoryAt addressAt addressIn
-    assign-stands =
-        let on : place + 1 + 1 ≡ place + 2 = omega arith in
-        let six : first % 2 ^ 6 ≡ first = omega arith in
-        ap (λ (a : FetchedAddress). withAddress a D.Trap (λ b c. done (I.Memory M.AssignNoResult b) c)) (fetched code (place + 1) (F.Trap 3 1) (λ b c. addressIn code c b (familyOf b)) inside)
-        ∙ rw (← second, is-short-local first low, six, on, behind, is)
+  -- LONGLOCAL and LONGGLOBAL
+  pub load-by : (first : ℕ) (family : Family) {variables i next : ℕ} {r : Bool} {t : List ℕ} (named : Names s variables (addressIn code after first family) (place + 1 + 1) i) → next ≡ (place + 2) % 2 ^ 32 → Went s (loads.load (seen s) next (resolve (seen s) h (named .address))) r t → WentBy s h (loadAt code after first family) r t
+  unfolding loadAt callChecked planOf
+  load-by first family named behind answer =
+      let on : place + 1 + 1 ≡ place + 2 = omega arith in
+      went-by (λ f. λ of. rw (named .fetches, on, behind, of)) answer
 
-    pub assign-by : {r : Bool} {t : List ℕ} → Went s (memory.assignNoResult (seen s) next (seen s .local (variablesOf h) v)) r t → WentBy s h (memoryAt code after (N.Defined M.AssignNoResult)) r t
+  -- MEMREF: an address of one byte, which is below 64, or of two.
+  module _ {first : ℕ} (keep : Bool) (inside : place + 1 < length code) (second : first ≡ getD code (place + 1) 0) {a : Address} {end next : ℕ} (fetches : addressIn code (cursorAt (place + 1 + 1)) first (familyOf first) ≡ F.At a (cursorAt end)) (behind : next ≡ end % 2 ^ 32) where
+    address-stands : addressAt code after ≡ F.At a (cursorAt end)
+    unfolding addressAt
+    address-stands = fetched code (place + 1) (F.Trap 3 1) (λ b c. addressIn code c b (familyOf b)) inside ∙ rw (← second) fetches
+
+    assign-stands : memoryAt code after (N.Defined (assignment keep)) ≡ D.Instruction (I.Memory (assignment keep) a) (codeAddress next)
+    unfolding memoryAt
+    assign-stands = rw (address-stands, behind)
+
+    assign-by : {r : Bool} {t : List ℕ} → Went s (memoryPlan (seen s) next (assignment keep) (resolve (seen s) h a)) r t → WentBy s h (memoryAt code after (N.Defined (assignment keep))) r t
     unfolding callChecked planOf
-    assign-by answer = went-by (λ f. λ of. rw (assign-stands, ← of)) answer
+    assign-by answer = went-by (λ f. λ of. rw (assign-stands, of)) answer
 
-  pub memory-by : {sub : MemorySuboperation} {o : MemoryOperation} {r : Bool} {t : List ℕ} → sub ≡ N.Defined o → o ≡ M.AssignNoResult → WentBy s h (memoryAt code after (N.Defined M.AssignNoResult)) r t → WentBy s h (memoryAt code after sub) r t
-  memory-by defined assign answer = rw (defined, assign) answer
+  short-address : (first : ℕ) (c : Cursor) → first < 0x40 → addressIn code c first (familyOf first) ≡ F.At (A.Local (64 - first)) c
+  unfolding addressIn
+  short-address first c low =
+      let six : first % 2 ^ 6 ≡ first = omega arith in
+      rw (is-short-local first (omega arith), six)
+
+  module _ {first : ℕ} (keep : Bool) (inside : place + 1 < length code) (second : first ≡ getD code (place + 1) 0) {variables next : ℕ} {r : Bool} {t : List ℕ} where
+    pub short-assign-by : next ≡ (place + 2) % 2 ^ 32 → first < 0x40 → variablesOf h ≡ variables → Went s (memoryPlan (seen s) next (assignment keep) (seen s .local variables (64 - first))) r t → WentBy s h (memoryAt code after (N.Defined (assignment keep))) r t
+    short-assign-by behind low same answer =
+        let on : (place + 2) % 2 ^ 32 ≡ (place + 1 + 1) % 2 ^ 32 = ap (λ (n : ℕ). n % 2 ^ 32) (omega arith) in
+        assign-by keep inside second (short-address first (cursorAt (place + 1 + 1)) low) (behind ∙ on)
+        (went-alike answer (ap (λ (n : ℕ). carry s (memoryPlan (seen s) next (assignment keep) (seen s .local n (64 - first)))) (sym same)))
+
+    pub long-assign-by : (family : Family) {i : ℕ} → next ≡ (place + 3) % 2 ^ 32 → family ≡ familyOf first → (named : Names s variables (addressIn code (cursorAt (place + 1 + 1)) first family) (place + 1 + 1 + 1) i) → Went s (memoryPlan (seen s) next (assignment keep) (resolve (seen s) h (named .address))) r t → WentBy s h (memoryAt code after (N.Defined (assignment keep))) r t
+    long-assign-by family behind found named answer =
+        let on : (place + 3) % 2 ^ 32 ≡ (place + 1 + 1 + 1) % 2 ^ 32 = ap (λ (n : ℕ). n % 2 ^ 32) (omega arith) in
+        assign-by keep inside second (ap (addressIn code (cursorAt (place + 1 + 1)) first) (sym found) ∙ named .fetches) (behind ∙ on) answer
+
+  pub memory-by : {sub : MemorySuboperation} {o : MemoryOperation} (keep : Bool) {r : Bool} {t : List ℕ} → sub ≡ N.Defined o → o ≡ assignment keep → WentBy s h (memoryAt code after (N.Defined (assignment keep))) r t → WentBy s h (memoryAt code after sub) r t
+  memory-by keep defined assign answer = rw (defined, assign) answer
 
   -- ETC
   pub etc-by : {sub : EtcSuboperation} {jump : Jump} {r : Bool} {t : List ℕ} → sub ≡ E.Jump jump → WentBy s h (jumpAt code after jump) r t → WentBy s h (etcAt code after sub) r t
   unfolding etcAt
   etc-by jumps answer = rw jumps answer
+
+  pub stack-by : {sub : EtcSuboperation} {op : StackOperation} {next : ℕ} {r : Bool} {t : List ℕ} → sub ≡ E.Stack op → next ≡ (place + 1) % 2 ^ 32 → Went s (stackPlan (seen s) next op) r t → WentBy s h (etcAt code after sub) r t
+  unfolding etcAt callChecked planOf
+  stack-by told behind answer = went-by (λ f. λ of. rw (told, behind)) answer
+
+  pub constant-in : {sub : EtcSuboperation} {r : Bool} {t : List ℕ} → sub ≡ E.ConstantScalar → WentBy s h (constantScalarAt code after) r t → WentBy s h (etcAt code after sub) r t
+  unfolding etcAt
+  constant-in told answer = rw told answer
+
+  -- CONSTANT_SCALAR
+  module _ {high low w next : ℕ} (inside : place + 1 + 3 < length code) (upper : high ≡ getD code (place + 1) 0 * 2 ^ 8 + getD code (place + 1 + 1) 0) (lower : low ≡ getD code (place + 1 + 2) 0 * 2 ^ 8 + getD code (place + 1 + 3) 0) (is : w ≡ high * 2 ^ 16 + low) (behind : next ≡ (place + 5) % 2 ^ 32) where
+    half-fetched : {A : Type 0} (at : ℕ) (outside : A) (f : ℕ → Cursor → A) → at + 1 < length code → withHalf (fetchHalf code (cursorAt at)) outside f ≡ f (byteAt code at * 2 ^ 8 + byteAt code (at + 1)) (cursorAt (at + 1 + 1))
+    unfolding fetchHalf
+    half-fetched at outside f there =
+        ap (λ (v : FetchedHalf). withHalf v outside f)
+        (fetched code at Outside (λ b c. withByte (fetchByte code c) Outside (λ l d. Half (b * 2 ^ 8 + l) d)) (omega arith)
+        ∙ fetched code (at + 1) Outside (λ l d. Half (byteAt code at * 2 ^ 8 + l) d) there)
+
+    word-fetched : fetchWord code after ≡ Word w (cursorAt (place + 5))
+    unfolding fetchWord
+    word-fetched =
+        let on : place + 1 + 1 + 1 ≡ place + 1 + 2 = omega arith in
+        let third : place + 1 + 2 + 1 ≡ place + 1 + 3 = omega arith in
+        let end : place + 1 + 2 + 1 + 1 ≡ place + 5 = omega arith in
+        half-fetched (place + 1) NoWord (λ b c. withHalf (fetchHalf code c) NoWord (λ l d. Word (b * 2 ^ 16 + l) d)) (omega arith)
+        ∙ rw (on, is, upper, lower, ← third, ← end) (half-fetched (place + 1 + 2) NoWord (λ l d. Word ((byteAt code (place + 1) * 2 ^ 8 + byteAt code (place + 1 + 1)) * 2 ^ 16 + l) d) (omega arith))
+
+    scalar-stands : constantScalarAt code after ≡ D.Instruction (I.ConstantScalar w) (codeAddress next)
+    unfolding constantScalarAt
+    scalar-stands = rw (word-fetched, behind)
+
+    pub constant-scalar-by : {r : Bool} {t : List ℕ} → isScalar w ≡ true → Went s (loads.push (seen s) next (word w)) r t → WentBy s h (constantScalarAt code after) r t
+    unfolding callChecked planOf loads.constantScalar
+    constant-scalar-by scalar answer = went-by (λ f. λ of. rw (scalar-stands, scalar)) answer
 
   module _ {high low to next : ℕ} (inside : place + 1 + 1 < length code) (second : high ≡ getD code (place + 1) 0) (third : low ≡ getD code (place + 1 + 1) 0) (is : to ≡ high * 2 ^ 8 + low) (behind : next ≡ (place + 3) % 2 ^ 32) where
     jump-stands : (jump : Jump) → jumpAt code after jump ≡ D.Instruction (I.Jump jump (codeAddress to)) (codeAddress next)
@@ -130,7 +194,7 @@ module _ (s : List ℕ) (h : Header) (code : List ℕ) (place : ℕ) where
       pub go-false-by : kind ≡ J.GoFalse → Went s (control.goIf (seen s) h next false to) r t → WentBy s h (jumpAt code after kind) r t
       go-false-by told answer = planned J.GoFalse told (λ f. λ of. rw (← of)) answer
 
--- ---- the five families
+-- ---- the families
 
 module _ (s : List ℕ) (h : Header) (code : List ℕ) (place : ℕ) {first : ℕ} {family : Family} (low : 8 ≤ place) (inside : place < length code) (is : first ≡ getD code place 0) (found : family ≡ familyOf first) where
   stands : (f : Family) → family ≡ f → instructionAt code place ≡ familyAt code (cursorAt (place + 1)) first f
@@ -140,9 +204,17 @@ module _ (s : List ℕ) (h : Header) (code : List ℕ) (place : ℕ) {first : �
       (fetched code place (D.Trap 3 1) (λ b next. familyAt code next b (familyOf b)) inside
       ∙ rw (← is, ← found, told))
 
-  pub load-at : {next : ℕ} {r : Bool} {t : List ℕ} → family ≡ ShortLocal → next ≡ (place + 1) % 2 ^ 32 → Went s (loads.load (seen s) next (seen s .local (variablesOf h) (64 - first % 2 ^ 6))) r t → WentAt s h code place r t
+  pub short-local-at : {variables next : ℕ} {r : Bool} {t : List ℕ} → family ≡ ShortLocal → variables ≡ variablesOf h → next ≡ (place + 1) % 2 ^ 32 → Went s (loads.load (seen s) next (seen s .local variables (64 - first % 2 ^ 6))) r t → WentAt s h code place r t
   unfolding familyAt loadAt addressIn callChecked planOf
-  load-at told after answer = went-at (stands ShortLocal told) (went-by (λ f. λ of. rw (after, ← of)) answer)
+  short-local-at told same after answer = went-at (stands ShortLocal told) (went-by (λ f. λ of. rw (after, same, ← of)) answer)
+
+  pub long-local-at : {r : Bool} {t : List ℕ} → family ≡ LongLocal → WentBy s h (loadAt code (cursorAt (place + 1)) first LongLocal) r t → WentAt s h code place r t
+  unfolding familyAt
+  long-local-at told answer = went-at (stands LongLocal told) answer
+
+  pub long-global-at : {r : Bool} {t : List ℕ} → family ≡ LongGlobal → WentBy s h (loadAt code (cursorAt (place + 1)) first LongGlobal) r t → WentAt s h code place r t
+  unfolding familyAt
+  long-global-at told answer = went-at (stands LongGlobal told) answer
 
   pub constant-at : {r : Bool} {t : List ℕ} → family ≡ ShortConst → WentBy s h (shortConstantAt code (cursorAt (place + 1)) first) r t → WentAt s h code place r t
   unfolding familyAt

@@ -1,25 +1,29 @@
--- A scalar assigned to a local that holds a scalar or nothing, with no result.
+-- A scalar assigned to a variable that holds a scalar or nothing, and kept on the stack or not.
 use Prim.Native.Nat.{ℕ, _+_, _-_, _≤_}
 use native.Mathlib.Omega.{arith}
 use mathlib.Core.Path.{_≡_, sym, ap, _∙_}
-use mathlib.Core.Bool.{true}
+use mathlib.Core.Bool.{Bool, true, false}
 use mathlib.Core.List.{List, [], _∷_}
 use lib.ListN.{getD, set}
 use lib.Seq.{getD-set-other}
 use borrow.Author.Tests.{le-ltb}
+use Rattle.descriptor.specs.declared.Target.{Target}
 use Rattle.descriptor.specs.Fields.{isArray}
 use Rattle.descriptor.specs.Kinds.{isScalar}
 use Rattle.segment.specs.State.{sbase, ltop, setLtop}
-use Rattle.manual.specs.OrTrap.{gives}
-use Rattle.manual.specs.Effects.{operand, stores, discards, jumps}
+use Rattle.manual.specs.OrTrap.{OrTrap, gives}
+use Rattle.manual.specs.Effects.{Effect, operand, stores, discards, jumps, Plan}
+use Rattle.manual.specs.Seen.{Variable}
 use Rattle.manual.specs.Memory as plan
+use Rattle.manual.specs.Instructions.{memoryPlan}
 use Rattle.effects.specs.Sources.{addressOf, heldAt, operandAt}
-use Rattle.effects.specs.Seen.{temporaries, seen}
+use Rattle.effects.specs.Seen.{read, temporaries, seen}
 use Rattle.effects.specs.Perform.{discard, storeAt, store, perform}
 use Rattle.access.proofs.Seen.{count-seen}
 use Rattle.perform.specs.declared.Outcome.the-variants.{Finished}
 use Rattle.perform.specs.Carried.{did, carry}
-use Rattle.quick.proofs.Words.{isPlain, scalar-no-array, plain-no-array, share-none, drop-none, localOf, local-seen, scalar-operand, discarded, copied-stays}
+use Rattle.quick.specs.Naming.{Stands, assignment}
+use Rattle.quick.proofs.Words.{isPlain, scalar-no-array, plain-no-array, share-none, drop-none, plain-held, scalar-operand, discarded, copied-stays}
 
 module _ (s : List ℕ) (i : ℕ) {w old : ℕ} (top : w ≡ operandAt s 0) (scalar : isScalar w ≡ true) (there : old ≡ getD s i 0) (plain : isPlain old ≡ true) where
   abbrev stored : List ℕ
@@ -46,19 +50,33 @@ module _ (s : List ℕ) (i : ℕ) {w old : ℕ} (top : w ≡ operandAt s 0) (sca
   discard-stored : (i ≡ 0 → ⊥) → discard stored 1 ≡ taken
   discard-stored apart = discarded stored (ap isArray (top-stays apart) ∙ scalar-no-array (operandAt s 0) scalar-top)
 
-  module _ (next variables v : ℕ) (some : 1 ≤ temporaries s) (low : 1 ≤ v) (inside : v ≤ variables) (at : i ≡ addressOf s (localOf s v)) where
-    held : isPlain (heldAt s (localOf s v)) ≡ true
+  module _ (next : ℕ) {resolved : OrTrap Variable} {t : Target} (keep : Bool) (some : 1 ≤ temporaries s) (stands : Stands s resolved t i) where
+    abbrev at : i ≡ addressOf s t
+    at = stands .place
+
+    held : isPlain (heldAt s t) ≡ true
     held = ap isPlain (sym (there ∙ ap (λ (j : ℕ). getD s j 0) at)) ∙ plain
 
-    planned : plan.assignNoResult (seen s) next (seen s .local variables v) ≡ gives (stores (localOf s v) (operand 0) ∷ discards 1 ∷ jumps next ∷ [])
-    unfolding plan.assignNoResult
-    planned = rw (local-seen s variables v low inside held, count-seen s, le-ltb (temporaries s) 1 some, scalar-operand s 0 (omega arith) scalar-top)
+    assigned : (effects : Variable → List Effect) → plan.assigning (seen s) resolved effects ≡ gives (effects (record { place = t; held = read s (heldAt s t) }))
+    assigned effects = rw (stands .resolves, plain-held s t held, count-seen s, le-ltb (temporaries s) 1 some, scalar-operand s 0 (omega arith) scalar-top)
 
-    done-so : (i ≡ 0 → ⊥) → taken ≡ discard (store s (localOf s v) (operand 0)) 1
+    abbrev planned : Plan
+    planned = memoryPlan (seen s) next (assignment keep) resolved
+
+    done-so : stored ≡ store s t (operand 0)
     unfolding store
-    done-so apart = sym (ap (λ (j : ℕ). discard (storeAt s j (operand 0)) 1) (sym at) ∙ ap (λ (u : List ℕ). discard u 1) store-plain ∙ discard-stored apart)
+    done-so = sym (ap (λ (j : ℕ). storeAt s j (operand 0)) (sym at) ∙ store-plain)
 
-    pub scalar-stored : {x y t : List ℕ} → (i ≡ 0 → ⊥) → x ≡ stored → y ≡ setLtop x (ltop x - 1) → t ≡ perform y (jumps next) → did Finished t ≡ carry s (plan.assignNoResult (seen s) next (seen s .local variables v))
-    scalar-stored apart put went jumped =
-        ap (did Finished) (jumped ∙ ap (λ (u : List ℕ). perform u (jumps next)) (went ∙ ap (λ (u : List ℕ). setLtop u (ltop u - 1)) put ∙ done-so apart))
-        ∙ ap (carry s) (sym planned)
+    -- ASSIGN
+    pub scalar-kept : {x u : List ℕ} → keep ≡ true → x ≡ stored → u ≡ perform x (jumps next) → did Finished u ≡ carry s planned
+    unfolding plan.assign
+    scalar-kept keeps put jumped =
+        ap (did Finished) (jumped ∙ ap (λ (v : List ℕ). perform v (jumps next)) (put ∙ done-so))
+        ∙ sym (rw keeps (ap (carry s) (assigned (λ v. stores (v .place) (operand 0) ∷ jumps next ∷ []))))
+
+    -- ASSIGN_NORESULT
+    pub scalar-stored : {x y u : List ℕ} → keep ≡ false → (i ≡ 0 → ⊥) → x ≡ stored → y ≡ setLtop x (ltop x - 1) → u ≡ perform y (jumps next) → did Finished u ≡ carry s planned
+    unfolding plan.assignNoResult
+    scalar-stored keeps apart put went jumped =
+        ap (did Finished) (jumped ∙ ap (λ (v : List ℕ). perform v (jumps next)) (went ∙ ap (λ (v : List ℕ). setLtop v (ltop v - 1)) put ∙ sym (discard-stored apart) ∙ ap (λ (v : List ℕ). discard v 1) done-so))
+        ∙ sym (rw keeps (ap (carry s) (assigned (λ v. stores (v .place) (operand 0) ∷ discards 1 ∷ jumps next ∷ []))))

@@ -1,31 +1,34 @@
--- Words that name no array: a scalar is read as itself, and nothing is shared or released with it.
+-- Words that name no array: a scalar is read as itself, and nothing is shared or released with it. Variables that hold a word
+-- directly.
 use Prim.Native.Nat.{ℕ, _+_, _-_, _/_, _^_, _≤_, _<_}
 use native.Mathlib.Omega.{arith}
 use mathlib.Core.Path.{_≡_, refl, ap, _∙_}
-use mathlib.Core.Bool.{Bool, true, false, _||_}
+use mathlib.Core.Bool.{Bool, true, false, cond, _||_}
 use mathlib.Core.List.{List, [], _∷_}
 use lib.Dec.{eqb}
 use lib.ListN.{getD, set}
 use lib.Seq.{getD-set-other, set-getD}
-use borrow.Author.Tests.{eqb-true, eqb-false, le-ltb}
+use borrow.Author.Tests.{eqb-true, eqb-false}
 use Rattle.descriptor.specs.declared.Kind.{Kind}
 use Rattle.descriptor.specs.declared.Kind.the-variants as K
 use Rattle.descriptor.specs.declared.Target.{Target}
-use Rattle.descriptor.specs.declared.Target.the-variants.{Local}
 use Rattle.descriptor.specs.Fields.{isArray, address, arrayWord, undefinedWord}
-use Rattle.descriptor.specs.Kinds.{kindOf, scalarKind, isScalar, segment, stack, integerKind, unsignedKind, undefinedKind}
+use Rattle.descriptor.specs.Kinds.{kindOf, scalarKind, isScalar, segment, integerKind, unsignedKind, undefinedKind}
 use Rattle.descriptor.proofs.Arrays.{array-kind}
-use Rattle.segment.specs.State.{sbase, ltop, lbase, setLtop}
-use Rattle.segment.specs.Cells.{Cell, undefined, value}
+use Rattle.segment.specs.State.{sbase, ltop, setLtop}
+use Rattle.segment.specs.Blocks.{shapeAt, elementsAt}
+use Rattle.segment.specs.Cells.{Cell, undefined, value, invalid}
 use Rattle.storage.specs.Arrays.{share, drop, drops}
-use Rattle.manual.specs.OrTrap.{gives}
-use Rattle.manual.specs.Seen.{at, follow}
+use Rattle.manual.specs.OrTrap.{OrTrap, gives}
+use Rattle.manual.specs.Seen.{Variable, at, follow}
+use Rattle.manual.specs.Loads.{isUndefined}
 use Rattle.manual.specs.Values.{scalar}
 use Rattle.manual.specs.Scalars.{valueOf}
 use Rattle.effects.specs.Sources.{heldAt, operandAt}
-use Rattle.effects.specs.Seen.{readKind, read, temporaries, seen}
+use Rattle.effects.specs.Seen.{whole, readKind, read, temporaries, seen}
 use Rattle.effects.specs.Perform.{bottomOf, discard}
 use Rattle.access.proofs.Seen.{operand-seen}
+use Rattle.quick.specs.Naming.{variableAt}
 
 module _ (w : ℕ) where
   array-kinds : isArray w ≡ true → kindOf w ≡ K.Array (segment (address w))
@@ -78,31 +81,51 @@ pub drop-none : (s : List ℕ) (w : ℕ) → isArray w ≡ false → drop s w �
 unfolding drop
 drop-none s w none = rw none
 
--- ---- a local that holds such a word is found with no indirection
+-- ---- a variable that holds such a word, or an array, is found with no indirection
 
 undefined-read : (s : List ℕ) → read s undefinedWord ≡ undefined
 unfolding read kindOf integerKind unsignedKind undefinedKind
 undefined-read s = refl
 
-module _ (s : List ℕ) (held : Target → Cell) (t : Target) (w : ℕ) where
-  direct-scalar : isScalar w ≡ true → follow held t (read s w) ≡ gives (at t (read s w))
-  direct-scalar scalar = rw (scalar-read w s scalar)
+module _ (s : List ℕ) (t : Target) where
+  abbrev w : ℕ
+  w = heldAt s t
 
-  direct : isPlain w ≡ true → follow held t (read s w) ≡ gives (at t (read s w))
-  direct plain = by-test (eqb w undefinedWord) refl plain
+  -- The variable itself.
+  abbrev pub itself : OrTrap Variable
+  itself = gives (at t (read s w))
+
+  pub scalar-held : isScalar w ≡ true → variableAt s t ≡ itself
+  scalar-held scalar = rw (scalar-read w s scalar)
+
+  pub plain-held : isPlain w ≡ true → variableAt s t ≡ itself
+  plain-held plain = by-test (eqb w undefinedWord) refl plain
     where
-      by-test : (b : Bool) → eqb w undefinedWord ≡ b → (b || isScalar w) ≡ true → follow held t (read s w) ≡ gives (at t (read s w))
+      by-test : (b : Bool) → eqb w undefinedWord ≡ b → (b || isScalar w) ≡ true → variableAt s t ≡ itself
       by-test true e plain = rw (eqb-true w undefinedWord e, undefined-read s)
-      by-test false e plain = direct-scalar plain
+      by-test false e plain = scalar-held plain
 
--- The local so many words below LBASE.
-abbrev pub localOf : List ℕ → ℕ → Target
-localOf s v = Local (stack (lbase s - v))
+  module _ (array : isArray w ≡ true) where
+    abbrev block : ℕ
+    block = address w
 
-pub local-seen : (s : List ℕ) (variables v : ℕ) → 1 ≤ v → v ≤ variables → isPlain (heldAt s (localOf s v)) ≡ true → seen s .local variables v ≡ gives (at (localOf s v) (read s (heldAt s (localOf s v))))
-unfolding seen
-local-seen s variables v some inside plain =
-    rw (le-ltb v 1 some, le-ltb variables v inside) (direct s (λ t. read s (heldAt s t)) (localOf s v) (heldAt s (localOf s v)) plain)
+    array-read : read s w ≡ cond (whole s block) (value (shapeAt s block) (elementsAt s block)) invalid
+    unfolding read
+    array-read = rw (array-kinds w array)
+
+    pub array-held : variableAt s t ≡ itself
+    array-held = rw array-read (by-test (whole s block))
+      where
+        by-test : (b : Bool) → let c : Cell = cond b (value (shapeAt s block) (elementsAt s block)) invalid in follow (λ u. read s (heldAt s u)) t c ≡ gives (at t c)
+        by-test true = refl
+        by-test false = refl
+
+    pub array-defined : isUndefined (read s w) ≡ false
+    array-defined = rw array-read (by-test (whole s block))
+      where
+        by-test : (b : Bool) → isUndefined (cond b (value (shapeAt s block) (elementsAt s block)) invalid) ≡ false
+        by-test true = refl
+        by-test false = refl
 
 -- An operand that is a scalar.
 pub scalar-operand : (s : List ℕ) (i : ℕ) → i < temporaries s → isScalar (operandAt s i) ≡ true → valueOf (seen s .operand i) ≡ gives (scalar (operandAt s i))

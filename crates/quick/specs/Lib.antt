@@ -1,2 +1,3 @@
 -- What the short way of an instruction answers.
 pub mod Went
+pub mod Naming

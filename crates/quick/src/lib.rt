@@ -1,55 +1,46 @@
-// A short way for the instructions that run most, where all is plain: the values are scalars, the variable is a local in the
-// short form, nothing traps. `false`: no word has changed, and the instruction is still to be done.
+// A short way for the instructions that run most, where nothing traps: scalars made, moved and combined, variables loaded and
+// assigned by any form of address, jumps. `false`: no word has changed, and the instruction is still to be done.
 ghost use mathlib.Core.Path.{_≡_};
-ghost use mathlib.Core.Bool.{Bool, true, false, _||_};
-ghost use Prim.Native.Nat.{ℕ, _+_, _-_, _*_, _%_, _^_, _≤_};
-ghost use lib.Dec.{ltb, leb, eqb};
+ghost use Prim.Native.Nat.{_+_, _-_, _*_, _%_, _^_, _≤_};
 ghost use lib.ListN.{length};
-ghost use Rattle.descriptor.specs.Fields.{undefinedWord};
-ghost use Rattle.descriptor.specs.Kinds.{bit, isScalar};
-ghost use Rattle.segment.specs.State as fields;
-ghost use Rattle.procedure.specs.Headers.{codeStart, codeEnd};
 ghost use Rattle.instruction.specs.Reading.{cursorAt};
 ghost use Rattle.instruction.specs.Decoding as decoding;
 ghost use Rattle.manual.specs.Seen.{variablesOf};
-ghost use Rattle.manual.specs.Effects as effect;
 ghost use Rattle.manual.specs.Loads as loads;
-ghost use Rattle.manual.specs.Memory as memory;
-ghost use Rattle.manual.specs.Scalars as scalars;
-ghost use Rattle.manual.specs.Control as control;
+ghost use Rattle.manual.specs.Instructions as plan;
 ghost use Rattle.effects.specs.Seen.{seen};
-ghost use Rattle.effects.specs.Perform.{bottomOf, finish, perform};
 ghost use Rattle.quick.specs.Went.{Went, WentBy, WentAt};
-use access::operands::count;
-use access::operands::operand_at;
-use access::operands::room;
+ghost use Rattle.quick.specs.Naming.{assignment};
+
+mod doing;
+mod naming;
+
 use descriptor::Descriptor;
-use descriptor::address::StackAddress;
+use doing::dyadic;
+use doing::eat;
+use doing::go;
+use doing::go_if;
+use doing::is_scalar;
+use doing::load_from;
+use doing::monadic;
+use doing::push;
+use doing::store;
 use instruction::Jump;
 use instruction::MemoryOperation;
+use instruction::StackOperation;
 use instruction::family::Family;
 use instruction::family::family_of;
 use instruction::table::EtcSuboperation;
 use instruction::table::MemorySuboperation;
 use instruction::table::etc_of;
 use instruction::table::memory_of;
-use operator::Dyadic;
+use naming::local;
+use naming::long;
+use naming::variables;
 use operator::Operator;
 use operator::Suboperation;
 use operator::operator_of;
-use perform::taking;
-use perform::taking::base;
-use perform::taking::replace_by_word;
-use perform::taking::top;
 use procedure::header::Header;
-use scalar::Answer;
-use segment::high;
-use segment::minus;
-use segment::put;
-use segment::state::lbase;
-use segment::state::ltop;
-use segment::state::sbase;
-use segment::state::set_ltop;
 use segment::word;
 
 // The instruction at a place of the code of a function with that header.
@@ -66,35 +57,55 @@ pub fn quick(seg: &mut [u32], h: Header, code: &[u8], place: u32) -> bool
     }
     let first = code[at];
     match family_of(first) {
-        Family::ShortLocal => load(seg, h, first, after(place, 1)),
-        Family::ShortConst => constant(seg, code, first, place),
+        Family::ShortLocal => load_local(seg, variables(h), first, after(place, 1)),
+        Family::ShortConst => short_constant(seg, code, first, place),
         Family::GenScalar => scalar_operation(seg, operator_of(first % 32), place),
-        Family::MemRef => memory(seg, h, code, memory_of(first % 32), place),
+        Family::MemRef => memory(seg, variables(h), code, memory_of(first % 32), place),
         Family::Etc => etc(seg, h, code, etc_of(first % 32), place),
-        Family::LongLocal => false,
-        Family::LongGlobal => false,
+        Family::LongLocal => load_long(seg, variables(h), code, first, Family::LongLocal, place),
+        Family::LongGlobal => load_long(seg, variables(h), code, first, Family::LongGlobal, place),
         Family::Index => false,
         Family::Unassigned => false,
     }
 }
 
-// The local that a short address names.
-fn load(seg: &mut [u32], h: Header, first: u8, next: u32) -> bool
+// A local next to the frame, by its address of one byte. It mostly holds a scalar, which is pushed here, with no further call.
+fn load_local(seg: &mut [u32], variables: u32, first: u8, next: u32) -> bool
     requires { ⌜ length (now seg) ≤ 16384 ⌝ }
-    ensures { λ r. ⌜ Went (now (seg .entry)) (loads.load (seen (now (seg .entry))) next (seen (now (seg .entry)) .local (variablesOf h) (64 - first % 2 ^ 6))) r (now (seg .exit)) ⌝ }
+    ensures { λ r. ⌜ Went (now (seg .entry)) (loads.load (seen (now (seg .entry))) next (seen (now (seg .entry)) .local variables (64 - first % 2 ^ 6))) r (now (seg .exit)) ⌝ }
 {
     let v = 64 - first as u32 % 64;
-    if variables(h) < v {
+    let i = local(seg, variables, v);
+    if i == 0 {
         return false;
     }
-    let w = word(seg, local(seg, v));
+    let w = word(seg, i);
     if is_scalar(w) {
         return push(seg, w, next);
     }
-    false
+    load_from(seg, i, next)
 }
 
-fn constant(seg: &mut [u32], code: &[u8], first: u8, place: u32) -> bool
+// A variable by its address of two bytes.
+fn load_long(
+    seg: &mut [u32],
+    variables: u32,
+    code: &[u8],
+    first: u8,
+    family: Family,
+    place: u32,
+) -> bool
+    requires { ⌜ length (now seg) ≤ 16384 ⌝ }
+    ensures { λ r. ⌜ ((h : Header) → variablesOf h ≡ variables → WentBy (now (seg .entry)) h (decoding.loadAt (now (code .entry)) (cursorAt (place + 1)) first family) r (now (seg .exit))) ⌝ }
+{
+    let i = long(seg, variables, code, first, family, place as usize + 1);
+    if i == 0 {
+        return false;
+    }
+    load_from(seg, i, after(place, 2))
+}
+
+fn short_constant(seg: &mut [u32], code: &[u8], first: u8, place: u32) -> bool
     requires { ⌜ length (now seg) ≤ 16384 ⌝ }
     ensures { λ r. ⌜ ((h : Header) → WentBy (now (seg .entry)) h (decoding.shortConstantAt (now (code .entry)) (cursorAt (place + 1)) first) r (now (seg .exit))) ⌝ }
 {
@@ -102,21 +113,9 @@ fn constant(seg: &mut [u32], code: &[u8], first: u8, place: u32) -> bool
     if code.len() <= at {
         return false;
     }
-    let half = half(first, code[at]);
+    let half = half(first, code[at]) as u32;
     let w = Descriptor::integer(half / 0x1000 % 2 == 1, half % 0x1000).word();
     push(seg, w, after(place, 2))
-}
-
-fn push(seg: &mut [u32], w: u32, next: u32) -> bool
-    requires { ⌜ length (now seg) ≤ 16384 ⌝ }
-    ensures { λ r. ⌜ Went (now (seg .entry)) (loads.push (seen (now (seg .entry))) next (effect.word w)) r (now (seg .exit)) ⌝ }
-{
-    if room(seg) < 1 {
-        return false;
-    }
-    replace_by_word(seg, 0, w);
-    jump(seg, next);
-    true
 }
 
 fn scalar_operation(seg: &mut [u32], sub: Suboperation, place: u32) -> bool
@@ -127,129 +126,91 @@ fn scalar_operation(seg: &mut [u32], sub: Suboperation, place: u32) -> bool
     };
     match operator {
         Operator::Dyadic(op) => dyadic(seg, op, after(place, 1)),
-        Operator::Monadic(_) => false,
+        Operator::Monadic(op) => monadic(seg, op, after(place, 1)),
     }
 }
 
-fn dyadic(seg: &mut [u32], op: Dyadic, next: u32) -> bool
-    ensures { λ r. ⌜ Went (now (seg .entry)) (scalars.dyadic (seen (now (seg .entry))) next op) r (now (seg .exit)) ⌝ }
-{
-    if count(seg) < 2 {
-        return false;
-    }
-    let x = operand_at(seg, 0);
-    if !is_scalar(x) {
-        return false;
-    }
-    let y = operand_at(seg, 1);
-    if !is_scalar(y) {
-        return false;
-    }
-    match scalar::dyadic(op, x, y) {
-        Answer::Trap(_, _) => false,
-        Answer::Word(w) => {
-            replace_two(seg, w);
-            jump(seg, next);
-            true
-        }
-    }
-}
-
-// `w` takes the place of two operands that name no array.
-fn replace_two(seg: &mut [u32], w: u32)
-    ensures { λ _. ⌜ now (seg .exit) ≡ finish (now (seg .entry)) (bottomOf (now (seg .entry)) 2) w ⌝ }
-{
-    let base = base(seg) as u32;
-    let b = minus(base + top(seg) as u32 + 1, 2);
-    put(seg, 0, base * 0x1_0000 + minus(b, base));
-    put(seg, b as usize, w);
-}
-
-fn memory(seg: &mut [u32], h: Header, code: &[u8], sub: MemorySuboperation, place: u32) -> bool
-    ensures { λ r. ⌜ WentBy (now (seg .entry)) h (decoding.memoryAt (now (code .entry)) (cursorAt (place + 1)) sub) r (now (seg .exit)) ⌝ }
+fn memory(seg: &mut [u32], variables: u32, code: &[u8], sub: MemorySuboperation, place: u32) -> bool
+    ensures { λ r. ⌜ ((h : Header) → variablesOf h ≡ variables → WentBy (now (seg .entry)) h (decoding.memoryAt (now (code .entry)) (cursorAt (place + 1)) sub) r (now (seg .exit))) ⌝ }
 {
     let MemorySuboperation::Defined(operation) = sub else {
         return false;
     };
     match operation {
-        MemoryOperation::AssignNoResult => assign(seg, h, code, place),
+        MemoryOperation::Assign => assign(seg, variables, code, true, place),
+        MemoryOperation::AssignNoResult => assign(seg, variables, code, false, place),
         MemoryOperation::AssignIndexed(_) => false,
-        MemoryOperation::Assign => false,
         MemoryOperation::Reference => false,
         MemoryOperation::TestDefined => false,
     }
 }
 
-// A scalar assigned to a local that holds a scalar or nothing.
-fn assign(seg: &mut [u32], h: Header, code: &[u8], place: u32) -> bool
-    ensures { λ r. ⌜ WentBy (now (seg .entry)) h (decoding.memoryAt (now (code .entry)) (cursorAt (place + 1)) (MemorySuboperation.Defined MemoryOperation.AssignNoResult)) r (now (seg .exit)) ⌝ }
+// ASSIGN keeps the value on the stack, ASSIGN_NORESULT does not.
+fn assign(seg: &mut [u32], variables: u32, code: &[u8], keep: bool, place: u32) -> bool
+    ensures { λ r. ⌜ ((h : Header) → variablesOf h ≡ variables → WentBy (now (seg .entry)) h (decoding.memoryAt (now (code .entry)) (cursorAt (place + 1)) (MemorySuboperation.Defined (assignment keep))) r (now (seg .exit))) ⌝ }
 {
     let at = place as usize + 1;
     if code.len() <= at {
         return false;
     }
     let first = code[at];
-    if 0x3F < first {
-        return false;
+    if first < 0x40 {
+        let i = local(seg, variables, 64 - first as u32);
+        if i == 0 {
+            return false;
+        }
+        return store(seg, i, keep, after(place, 2));
     }
-    let v = 64 - first as u32;
-    if variables(h) < v {
-        return false;
-    }
-    store(seg, v, after(place, 2))
-}
-
-fn store(seg: &mut [u32], v: u32, next: u32) -> bool
-    ensures { λ r. ⌜ ((variables : ℕ) → 1 ≤ v → v ≤ variables → Went (now (seg .entry)) (memory.assignNoResult (seen (now (seg .entry))) next (seen (now (seg .entry)) .local variables v)) r (now (seg .exit))) ⌝ }
-{
-    if count(seg) < 1 {
-        return false;
-    }
-    let w = operand_at(seg, 0);
-    if !is_scalar(w) {
-        return false;
-    }
-    let i = local(seg, v);
-    // Word 0 says where the operands are, so the operand to go might be another one then.
+    let i = long(seg, variables, code, first, family_of(first), at + 1);
     if i == 0 {
         return false;
     }
-    if is_plain(word(seg, i)) {
-        put(seg, i, w);
-        discard(seg, 1);
-        return go(seg, next);
-    }
-    false
-}
-
-fn is_plain(w: u32) -> bool
-    ensures { λ r. ⌜ r ≡ (eqb w undefinedWord || isScalar w) ⌝ }
-{
-    if w == Descriptor::UNDEFINED {
-        return true;
-    }
-    is_scalar(w)
-}
-
-fn is_scalar(w: u32) -> bool
-    ensures { λ r. ⌜ r ≡ isScalar w ⌝ }
-{
-    Descriptor::of(w).is_scalar()
+    store(seg, i, keep, after(place, 3))
 }
 
 fn etc(seg: &mut [u32], h: Header, code: &[u8], sub: EtcSuboperation, place: u32) -> bool
+    requires { ⌜ length (now seg) ≤ 16384 ⌝ }
     ensures { λ r. ⌜ WentBy (now (seg .entry)) h (decoding.etcAt (now (code .entry)) (cursorAt (place + 1)) sub) r (now (seg .exit)) ⌝ }
 {
     match sub {
         EtcSuboperation::Jump(kind) => jump_to(seg, h, code, kind, place),
-        EtcSuboperation::Stack(_) => false,
+        EtcSuboperation::Stack(op) => stack_operation(seg, op, after(place, 1)),
+        EtcSuboperation::ConstantScalar => constant_scalar(seg, code, place),
         EtcSuboperation::Array(_) => false,
         EtcSuboperation::Control(_) => false,
-        EtcSuboperation::ConstantScalar => false,
         EtcSuboperation::ConstantVector => false,
         EtcSuboperation::Call => false,
         EtcSuboperation::Undefined => false,
     }
+}
+
+fn stack_operation(seg: &mut [u32], op: StackOperation, next: u32) -> bool
+    ensures { λ r. ⌜ Went (now (seg .entry)) (plan.stackPlan (seen (now (seg .entry))) next op) r (now (seg .exit)) ⌝ }
+{
+    match op {
+        StackOperation::Eat1 => eat(seg, next),
+        StackOperation::Undefined => false,
+        StackOperation::Interchange => false,
+        StackOperation::SetOrigin => false,
+        StackOperation::GetOrigin => false,
+    }
+}
+
+fn constant_scalar(seg: &mut [u32], code: &[u8], place: u32) -> bool
+    requires { ⌜ length (now seg) ≤ 16384 ⌝ }
+    ensures { λ r. ⌜ ((h : Header) → WentBy (now (seg .entry)) h (decoding.constantScalarAt (now (code .entry)) (cursorAt (place + 1))) r (now (seg .exit))) ⌝ }
+{
+    let at = place as usize + 1;
+    if code.len() <= at + 3 {
+        return false;
+    }
+    let high = half(code[at], code[at + 1]);
+    let low = half(code[at + 2], code[at + 3]);
+    let w = high as u32 * 0x1_0000 + low as u32;
+    if is_scalar(w) {
+        return push(seg, w, after(place, 5));
+    }
+    false
 }
 
 fn jump_to(seg: &mut [u32], h: Header, code: &[u8], kind: Jump, place: u32) -> bool
@@ -259,7 +220,7 @@ fn jump_to(seg: &mut [u32], h: Header, code: &[u8], kind: Jump, place: u32) -> b
     if code.len() <= at + 1 {
         return false;
     }
-    let to = half(code[at], code[at + 1]);
+    let to = half(code[at], code[at + 1]) as u32;
     if to < 8 {
         return false;
     }
@@ -273,71 +234,11 @@ fn jump_to(seg: &mut [u32], h: Header, code: &[u8], kind: Jump, place: u32) -> b
     }
 }
 
-fn go(seg: &mut [u32], to: u32) -> bool
-    ensures { λ r. ⌜ (r ≡ true) × (now (seg .exit) ≡ perform (now (seg .entry)) (effect.jumps to)) ⌝ }
-{
-    jump(seg, to);
-    true
-}
-
-// The current function goes on at that place. PCTR is written with the whole of its word: a read of the word right after its
-// half was written would wait for the write.
-fn jump(seg: &mut [u32], place: u32)
-    ensures { λ _. ⌜ now (seg .exit) ≡ perform (now (seg .entry)) (effect.jumps place) ⌝ }
-{
-    if 0xFFFF < place {
-        taking::jump(seg, place);
-        return;
-    }
-    let i = lbase(seg).index(sbase(seg)) + 1;
-    let kept = high(word(seg, i)) as u32;
-    put(seg, i, kept * 0x1_0000 + place);
-}
-
-// The operand is the integer 0 or 1.
-fn go_if(seg: &mut [u32], wanted: u32, to: u32, next: u32) -> bool
-    ensures { λ r. ⌜ ((h : Header) (b : Bool) → wanted ≡ bit b → (ltb to codeStart || leb (codeEnd h) to) ≡ false → Went (now (seg .entry)) (control.goIf (seen (now (seg .entry))) h next b to) r (now (seg .exit))) ⌝ }
-{
-    if count(seg) < 1 {
-        return false;
-    }
-    let w = operand_at(seg, 0);
-    if 1 < w {
-        return false;
-    }
-    discard(seg, 1);
-    if w == wanted {
-        return go(seg, to);
-    }
-    go(seg, next)
-}
-
-// n operands, which name no array, go.
-fn discard(seg: &mut [u32], n: u32)
-    ensures { λ _. ⌜ now (seg .exit) ≡ fields.setLtop (now (seg .entry)) (fields.ltop (now (seg .entry)) - n) ⌝ }
-{
-    let left = minus(ltop(seg).number(), n);
-    set_ltop(seg, StackAddress::of(left));
-}
-
-// Where the local stands that is so many words below LBASE.
-fn local(seg: &[u32], v: u32) -> usize
-    ensures { λ r. ⌜ r ≡ fields.sbase (now (seg .entry)) + (fields.lbase (now (seg .entry)) - v) ⌝ }
-{
-    StackAddress::of(minus(lbase(seg).number(), v)).index(sbase(seg))
-}
-
-fn variables(h: Header) -> u32
-    ensures { λ r. ⌜ r ≡ variablesOf h ⌝ }
-{
-    h.nargs as u32 + h.nlocals as u32
-}
-
 // Two bytes of code, the high one first.
-fn half(high: u8, low: u8) -> u32
+fn half(high: u8, low: u8) -> u16
     ensures { λ r. ⌜ r ≡ high * 2 ^ 8 + low ⌝ }
 {
-    high as u32 * 0x100 + low as u32
+    high as u16 * 0x100 + low as u16
 }
 
 // The place so many bytes on in the code, as 32 bits.

@@ -29,6 +29,9 @@ shared-slice-read-half-2 c = search needs
 half-requires : tie.Need-half-requires
 half-requires c κs = search needs
 
+cast-to : tie.Need-cast-to
+cast-to c = search needs
+
 returns-2 : tie.Need-returns-2
 returns-2 c = left-by
 
@@ -97,6 +100,7 @@ jump-to-spec =
     add-half
     shared-slice-read-half-2
     half-requires
+    cast-to
     returns-2
     cast-if3
     mul-if3

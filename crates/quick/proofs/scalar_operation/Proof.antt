@@ -1,5 +1,7 @@
 use Rattle.quick.proofs.Answers.{left-by}
-use Rattle.quick.proofs.Decoding.{dyadic-by}
+use Rattle.quick.proofs.Decoding.{dyadic-by, monadic-by}
+use Rattle.quick.proofs.Answers.{left-by}
+use Rattle.quick.proofs.Decoding.{dyadic-by, monadic-by}
 use borrow.Author.Needs.{needs}
 use Rattle.quick.proofs.scalar_operation.Statement.{statement}
 use Rattle.quick.proofs.scalar_operation.Tie as tie
@@ -22,8 +24,14 @@ after-requires c κs = search needs
 dyadic-requires : tie.Need-dyadic-requires
 dyadic-requires c κs = search needs
 
-enum-told-2 : tie.Need-enum-told-2
-enum-told-2 c = search needs
+enum-known-operator-2 : tie.Need-enum-known-operator-2
+enum-known-operator-2 c = search needs
+
+after-requires-2 : tie.Need-after-requires-2
+after-requires-2 c κs = search needs
+
+monadic-requires : tie.Need-monadic-requires
+monadic-requires c κs = search needs
 
 same-length : tie.Need-same-length
 same-length c = search needs
@@ -31,8 +39,11 @@ same-length c = search needs
 returns-2 : tie.Need-returns-2
 returns-2 c = λ h. dyadic-by _ h _ (c .before .before .before .before .before .before .before .before .before .sub .given .1) (c .before .before .before .before .before .before .operator .given .1) (c .before .before .before .after .ensures) (c .before .before .dyadic .ensures)
 
+same-length-2 : tie.Need-same-length-2
+same-length-2 c = search needs
+
 returns-3 : tie.Need-returns-3
-returns-3 c = λ h. left-by
+returns-3 c = λ h. monadic-by _ h _ (c .before .before .before .before .before .before .before .before .before .sub .given .1) (c .before .before .before .before .before .before .operator2 .given .1) (c .before .before .before .after2 .ensures) (c .before .before .monadic .ensures)
 
 pub scalar-operation-spec : {M : Type 1} → statement M
 scalar-operation-spec =
@@ -44,7 +55,10 @@ scalar-operation-spec =
     enum-known-operator
     after-requires
     dyadic-requires
-    enum-told-2
+    enum-known-operator-2
+    after-requires-2
+    monadic-requires
     same-length
     returns-2
+    same-length-2
     returns-3)
