@@ -1,4 +1,4 @@
--- An operator on one operand or two that are scalars, and that gives a word. EAT1 of a scalar.
+-- An operator on one operand or two that are scalars, and that gives a word. EAT1.
 use Prim.Native.Nat.{ℕ, _+_, _-_, _≤_}
 use native.Mathlib.Omega.{arith}
 use mathlib.Core.Path.{_≡_, sym, ap, _∙_}
@@ -22,11 +22,18 @@ use Rattle.manual.specs.Scalars as plan
 use Rattle.manual.specs.Memory.{eat}
 use Rattle.effects.specs.Sources.{operandAt}
 use Rattle.effects.specs.Seen.{temporaries, seen}
-use Rattle.effects.specs.Perform.{bottomOf, finish, replace, perform}
+use Rattle.effects.specs.Perform.{bottomOf, finish, replace, discard, perform}
 use Rattle.access.proofs.Seen.{count-seen}
 use Rattle.perform.specs.declared.Outcome.the-variants.{Finished}
 use Rattle.perform.specs.Carried.{did, carry}
 use Rattle.quick.proofs.Words.{scalar-no-array, scalar-operand, drop-none, dropped-two, discarded}
+
+-- EAT1
+pub eaten : (s : List ℕ) → 1 ≤ temporaries s → (next : ℕ) {u t : List ℕ} → u ≡ discard s 1 → t ≡ perform u (jumps next) → did Finished t ≡ carry s (eat (seen s) next)
+unfolding eat
+eaten s some next dropped done =
+    rw (count-seen s, le-ltb (temporaries s) 1 some)
+    (ap (did Finished) (done ∙ ap (λ (v : List ℕ). perform v (jumps next)) dropped))
 
 module _ (s : List ℕ) (some : 1 ≤ temporaries s) {x : ℕ} (top : x ≡ operandAt s 0) (first : isScalar x ≡ true) where
   one-scalar : isScalar (operandAt s 0) ≡ true
@@ -56,10 +63,7 @@ module _ (s : List ℕ) (some : 1 ≤ temporaries s) {x : ℕ} (top : x ≡ oper
           ∙ ap (carry s) (sym one-planned)
 
     pub scalar-eaten : {u t : List ℕ} → u ≡ setLtop s (ltop s - 1) → t ≡ perform u (jumps next) → did Finished t ≡ carry s (eat (seen s) next)
-    unfolding eat
-    scalar-eaten dropped done =
-        rw (count-seen s, le-ltb (temporaries s) 1 some)
-        (ap (did Finished) (done ∙ ap (λ (u : List ℕ). perform u (jumps next)) (dropped ∙ sym (discarded s none))))
+    scalar-eaten dropped done = eaten s some next (dropped ∙ sym (discarded s none)) done
 
 module _ (s : List ℕ) (two : 2 ≤ temporaries s) {x y : ℕ} (top : x ≡ operandAt s 0) (first : isScalar x ≡ true) (under : y ≡ operandAt s 1) (second : isScalar y ≡ true) where
   scalar-top : isScalar (operandAt s 0) ≡ true

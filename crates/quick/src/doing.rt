@@ -162,17 +162,18 @@ pub fn store(seg: &mut [u32], i: usize, keep: bool, next: u32) -> bool
     go(seg, next)
 }
 
-// EAT1 of a scalar.
+// EAT1. A scalar goes without a look at what it might name.
 pub fn eat(seg: &mut [u32], next: u32) -> bool
     ensures { λ r. ⌜ Went (now (seg .entry)) (memory.eat (seen (now (seg .entry))) next) r (now (seg .exit)) ⌝ }
 {
     if count(seg) < 1 {
         return false;
     }
-    if !is_scalar(operand_at(seg, 0)) {
-        return false;
+    if is_scalar(operand_at(seg, 0)) {
+        discard(seg, 1);
+        return go(seg, next);
     }
-    discard(seg, 1);
+    taking::discard(seg, 1);
     go(seg, next)
 }
 
