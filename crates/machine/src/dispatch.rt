@@ -43,7 +43,6 @@ use operator::Operator;
 use operator::Suboperation;
 use operator::operator_of;
 use perform::Outcome;
-use procedure::directory::in_directory;
 use procedure::header::Block;
 use procedure::header::Header;
 use values::arrays;
@@ -271,20 +270,15 @@ fn call(seg: &mut [u32], regular: &[u8], other: &[u8], code: &[u8], c: Cursor) -
 {
     match c.half(code) {
         FetchedHalf::Outside => Outcome::Trapped(3, 1),
-        FetchedHalf::Half(half, next) => {
-            if in_directory(half / 0x800 % 2 == 1, regular, other, half % 0x800) {
-                return calls::call(
-                    seg,
-                    regular,
-                    other,
-                    half / 0x1000,
-                    half / 0x800 % 2 == 1,
-                    half % 0x800,
-                    next.place().number(),
-                );
-            }
-            Outcome::Trapped(3, 1)
-        }
+        FetchedHalf::Half(half, next) => calls::call(
+            seg,
+            regular,
+            other,
+            half / 0x1000,
+            half / 0x800 % 2 == 1,
+            half % 0x800,
+            next.place().number(),
+        ),
     }
 }
 
