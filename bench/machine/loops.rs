@@ -33,6 +33,14 @@ pub fn counting() -> Loop {
     on_scalars(&[simple(1, code.jump(GO, START))])
 }
 
+/// The same with a global.
+pub fn counting_global() -> Loop {
+    let start = Code::default().constant(0).to_global(FIRST);
+    let turn = start.here();
+    let code = start.global(FIRST).constant(1).op(SUM).to_global(FIRST).constant(4095).global(FIRST).op(LESS).jump(GO_TRUE, turn);
+    Loop { globals: 1, ..on_scalars(&[simple(0, code.jump(GO, START))]) }
+}
+
 /// 1 + 2, dropped: five instructions.
 pub fn constants() -> Loop {
     on_arrays(Code::default().constant(1).constant(2).op(SUM).op(EAT1), Vec::new())

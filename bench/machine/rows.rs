@@ -63,8 +63,9 @@ fn turns(l: Loop, units: f64) -> impl FnMut() -> [f64; 3] {
 
 pub fn instructions() -> Vec<Row> {
     let fragmenting = format!("a fragmenting loop, {} free blocks", free_blocks(&loops::fragmenting()));
-    let rows: [(&str, Loop, Option<f64>); 6] = [
+    let rows: [(&str, Loop, Option<f64>); 7] = [
         ("a scalar loop: a local counts", loops::counting(), Some(8.0)),
+        ("a scalar loop: a global counts", loops::counting_global(), Some(8.0)),
         ("a scalar loop: constants added and dropped", loops::constants(), Some(8.0)),
         ("Ackermann, with its calls and returns", loops::ackermann(), Some(12.0)),
         ("an empty function called and left", loops::empty_calls(), None),
