@@ -20,7 +20,7 @@ use Rattle.segment.specs.Blocks.{shapeAt, elementsAt}
 use Rattle.segment.specs.Cells.{Cell, undefined, value, invalid}
 use Rattle.storage.specs.Arrays.{share, drop, drops}
 use Rattle.manual.specs.OrTrap.{OrTrap, gives}
-use Rattle.manual.specs.Seen.{Variable, at, follow}
+use Rattle.manual.specs.Seen.{Variable, at, followed, follow}
 use Rattle.manual.specs.Loads.{isUndefined}
 use Rattle.manual.specs.Values.{scalar}
 use Rattle.manual.specs.Scalars.{valueOf}
@@ -98,6 +98,12 @@ module _ (s : List ℕ) (t : Target) where
   pub scalar-held : isScalar w ≡ true → variableAt s t ≡ itself
   scalar-held scalar = rw (scalar-read w s scalar)
 
+  pub scalar-referred : isScalar w ≡ true → followed t (read s w) ≡ itself
+  scalar-referred scalar = rw (scalar-read w s scalar)
+
+  pub scalar-defined : isScalar w ≡ true → isUndefined (read s w) ≡ false
+  scalar-defined scalar = rw (scalar-read w s scalar)
+
   pub plain-held : isPlain w ≡ true → variableAt s t ≡ itself
   plain-held plain = by-test (eqb w undefinedWord) refl plain
     where
@@ -113,19 +119,34 @@ module _ (s : List ℕ) (t : Target) where
     unfolding read
     array-read = rw (array-kinds w array)
 
+    abbrev found : Bool → Cell
+    found b = cond b (value (shapeAt s block) (elementsAt s block)) invalid
+
     pub array-held : variableAt s t ≡ itself
     array-held = rw array-read (by-test (whole s block))
       where
-        by-test : (b : Bool) → let c : Cell = cond b (value (shapeAt s block) (elementsAt s block)) invalid in follow (λ u. read s (heldAt s u)) t c ≡ gives (at t c)
+        by-test : (b : Bool) → follow (λ u. read s (heldAt s u)) t (found b) ≡ gives (at t (found b))
+        by-test true = refl
+        by-test false = refl
+
+    pub array-referred : followed t (read s w) ≡ itself
+    array-referred = rw array-read (by-test (whole s block))
+      where
+        by-test : (b : Bool) → followed t (found b) ≡ gives (at t (found b))
         by-test true = refl
         by-test false = refl
 
     pub array-defined : isUndefined (read s w) ≡ false
     array-defined = rw array-read (by-test (whole s block))
       where
-        by-test : (b : Bool) → isUndefined (cond b (value (shapeAt s block) (elementsAt s block)) invalid) ≡ false
+        by-test : (b : Bool) → isUndefined (found b) ≡ false
         by-test true = refl
         by-test false = refl
+
+-- One that refers to another leads to that.
+pub refers : (s : List ℕ) (t u : Target) → kindOf (heldAt s t) ≡ K.Indirect u → variableAt s t ≡ followed u (read s (heldAt s u))
+unfolding read
+refers s t u kind = rw kind
 
 -- An operand that is a scalar.
 pub scalar-operand : (s : List ℕ) (i : ℕ) → i < temporaries s → isScalar (operandAt s i) ≡ true → valueOf (seen s .operand i) ≡ gives (scalar (operandAt s i))

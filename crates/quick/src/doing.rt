@@ -1,9 +1,9 @@
 // What the instructions of the short way do to the words.
 ghost use mathlib.Core.Path.{_≡_};
 ghost use mathlib.Core.Bool.{Bool, true, false, _||_};
-ghost use Prim.Native.Nat.{ℕ, _-_, _<_, _≤_};
+ghost use Prim.Native.Nat.{_-_, _<_, _≤_};
 ghost use lib.Dec.{ltb, leb, eqb};
-ghost use lib.ListN.{length, getD};
+ghost use lib.ListN.{length};
 ghost use Rattle.descriptor.specs.declared.Target.{Target};
 ghost use Rattle.descriptor.specs.Fields.{isArray, undefinedWord};
 ghost use Rattle.descriptor.specs.Kinds.{bit, isScalar};
@@ -17,14 +17,17 @@ ghost use Rattle.manual.specs.Memory as memory;
 ghost use Rattle.manual.specs.Scalars as scalars;
 ghost use Rattle.manual.specs.Control as control;
 ghost use Rattle.manual.specs.Instructions.{memoryPlan};
+ghost use Rattle.effects.specs.Sources.{heldAt};
 ghost use Rattle.effects.specs.Seen.{seen};
 ghost use Rattle.effects.specs.Perform.{bottomOf, finish, perform};
 ghost use Rattle.quick.specs.Went.{Went};
-ghost use Rattle.quick.specs.Naming.{Stands, assignment};
+ghost use Rattle.quick.specs.Naming.{variableAt, Stands, assignment};
 use access::operands::count;
 use access::operands::operand_at;
 use access::operands::room;
+use access::variables::held;
 use descriptor::Descriptor;
+use descriptor::Kind;
 use descriptor::address::StackAddress;
 use operator::Dyadic;
 use operator::Monadic;
@@ -44,7 +47,7 @@ use segment::state::sbase;
 use segment::state::set_ltop;
 use segment::word;
 
-// A scalar or an array that a variable holds, word i.
+// What a variable holds, word i, or one that it refers to: a scalar or an array.
 pub fn load_from(seg: &mut [u32], i: usize, next: u32) -> bool
     requires { ⌜ length (now seg) ≤ 16384 ⌝ }
     ensures { λ r. ⌜ ((resolved : OrTrap Variable) (t : Target) → Stands (now (seg .entry)) resolved t i → Went (now (seg .entry)) (loads.load (seen (now (seg .entry))) next resolved) r (now (seg .exit))) ⌝ }
@@ -53,7 +56,28 @@ pub fn load_from(seg: &mut [u32], i: usize, next: u32) -> bool
     if is_scalar(w) {
         return push(seg, w, next);
     }
-    push_array(seg, w, next)
+    if is_array(w) {
+        return push_array(seg, w, next);
+    }
+    load_referred(seg, w, next)
+}
+
+// `w` is what the variable that was named holds.
+fn load_referred(seg: &mut [u32], w: u32, next: u32) -> bool
+    requires { ⌜ length (now seg) ≤ 16384 ⌝ }
+    ensures { λ r. ⌜ ((t : Target) → w ≡ heldAt (now (seg .entry)) t → Went (now (seg .entry)) (loads.load (seen (now (seg .entry))) next (variableAt (now (seg .entry)) t)) r (now (seg .exit))) ⌝ }
+{
+    let Kind::Indirect(t) = Descriptor::of(w).kind() else {
+        return false;
+    };
+    let referred = held(seg, t);
+    if is_scalar(referred) {
+        return push(seg, referred, next);
+    }
+    if is_array(referred) {
+        return push_array(seg, referred, next);
+    }
+    false
 }
 
 pub fn push(seg: &mut [u32], w: u32, next: u32) -> bool
@@ -71,11 +95,8 @@ pub fn push(seg: &mut [u32], w: u32, next: u32) -> bool
 // An array that a variable holds.
 fn push_array(seg: &mut [u32], w: u32, next: u32) -> bool
     requires { ⌜ length (now seg) ≤ 16384 ⌝ }
-    ensures { λ r. ⌜ ((resolved : OrTrap Variable) (t : Target) (i : ℕ) → Stands (now (seg .entry)) resolved t i → w ≡ getD (now (seg .entry)) i 0 → Went (now (seg .entry)) (loads.load (seen (now (seg .entry))) next resolved) r (now (seg .exit))) ⌝ }
+    ensures { λ r. ⌜ ((t : Target) → w ≡ heldAt (now (seg .entry)) t → Went (now (seg .entry)) (loads.push (seen (now (seg .entry))) next (effect.variable t)) r (now (seg .exit))) ⌝ }
 {
-    if !is_array(w) {
-        return false;
-    }
     if room(seg) < 1 {
         return false;
     }
