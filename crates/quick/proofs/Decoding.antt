@@ -24,7 +24,6 @@ use Rattle.instruction.specs.declared.Jump.{Jump}
 use Rattle.instruction.specs.declared.Jump.the-variants as J
 use Rattle.instruction.specs.declared.Address.{Address}
 use Rattle.instruction.specs.declared.Address.the-variants as A
-use Rattle.instruction.specs.declared.variable.FetchedAddress.{FetchedAddress}
 use Rattle.instruction.specs.declared.variable.FetchedAddress.the-variants as F
 use Rattle.instruction.specs.declared.MemoryOperation.{MemoryOperation}
 use Rattle.instruction.specs.declared.StackOperation.{StackOperation}
@@ -39,10 +38,9 @@ use Rattle.instruction.specs.Tables.{memoryOf, etcOf}
 use Rattle.instruction.specs.declared.cursor.Cursor.{Cursor}
 use Rattle.instruction.specs.declared.cursor.FetchedHalf.{FetchedHalf}
 use Rattle.instruction.specs.declared.cursor.FetchedHalf.the-variants.{Half, Outside}
-use Rattle.instruction.specs.declared.cursor.FetchedWord.{FetchedWord}
 use Rattle.instruction.specs.declared.cursor.FetchedWord.the-variants.{Word, Outside as NoWord}
-use Rattle.instruction.specs.Reading.{codeAddress, cursorAt, fetchByte, fetchHalf, fetchWord, withByte, withHalf, withWord}
-use Rattle.instruction.specs.Variables.{addressIn, addressAt, withAddress}
+use Rattle.instruction.specs.Reading.{codeAddress, cursorAt, fetchByte, fetchHalf, fetchWord, withByte, withHalf}
+use Rattle.instruction.specs.Variables.{addressIn, addressAt}
 use Rattle.instruction.specs.Decoding.{done, loadAt, shortConstant, shortConstantAt, scalarAt, memoryAt, constantScalarAt, jumpAt, etcAt, familyAt, callChecked, instructionAt}
 use Rattle.instruction.proofs.Ranges.{is-short-local}
 use Rattle.manual.specs.Seen.{variablesOf}

@@ -1,6 +1,6 @@
 -- Words that name no array: a scalar is read as itself, and nothing is shared or released with it. Variables that hold a word
 -- directly.
-use Prim.Native.Nat.{ℕ, _+_, _-_, _/_, _^_, _≤_, _<_}
+use Prim.Native.Nat.{ℕ, _+_, _-_, _/_, _^_, _<_}
 use native.Mathlib.Omega.{arith}
 use mathlib.Core.Path.{_≡_, refl, ap, _∙_}
 use mathlib.Core.Bool.{Bool, true, false, cond, _||_}
@@ -58,13 +58,6 @@ module _ (w : ℕ) where
   -- A scalar, or undefined.
   abbrev pub isPlain : Bool
   isPlain = eqb w undefinedWord || isScalar w
-
-  pub scalar-plain : isScalar w ≡ true → isPlain ≡ true
-  scalar-plain scalar = rw scalar (by-test (eqb w undefinedWord))
-    where
-      by-test : (b : Bool) → (b || true) ≡ true
-      by-test true = refl
-      by-test false = refl
 
   pub plain-no-array : isPlain ≡ true → isArray w ≡ false
   plain-no-array plain = by-test (eqb w undefinedWord) refl plain
