@@ -50,30 +50,45 @@ vector = value (3 ∷ []) (10 ∷ 20 ∷ 30 ∷ [])
 abbrev matrix : Cell
 matrix = value (2 ∷ 2 ∷ []) (1 ∷ 2 ∷ 3 ∷ 4 ∷ [])
 
+abbrev bits : ℕ → ℕ → ℕ → ℕ → Cell
+bits a b c d = value (4 ∷ []) (a ∷ b ∷ c ∷ d ∷ [])
+
 -- A function with a result, one argument, one more local, one line and three words of code: it starts at word 2 of a segment of two entries.
--- Line 1 is at code place 12.
-abbrev bytes : List ℕ
-bytes = 0 ∷ 0 ∷ 0 ∷ 2 ∷ 0 ∷ 2 ∷ 0 ∷ 6 ∷ 0x20 ∷ 1 ∷ 0 ∷ 1 ∷ 0 ∷ 2 ∷ 0 ∷ 3 ∷ 0 ∷ 0 ∷ 0 ∷ 0 ∷ 0 ∷ 0 ∷ 0 ∷ 7 ∷ 0 ∷ 0 ∷ 0 ∷ 8 ∷ 0 ∷ 12 ∷ 0 ∷ 0 ∷ []
+-- Line 1 is at that code place.
+abbrev bytes : ℕ → List ℕ
+bytes line = 0 ∷ 0 ∷ 0 ∷ 2 ∷ 0 ∷ 2 ∷ 0 ∷ 6 ∷ 0x20 ∷ 1 ∷ 0 ∷ 1 ∷ 0 ∷ 2 ∷ 0 ∷ 3 ∷ 0 ∷ 0 ∷ 0 ∷ 0 ∷ 0 ∷ 0 ∷ 0 ∷ 7 ∷ 0 ∷ 0 ∷ 0 ∷ 8 ∷ 0 ∷ line ∷ 0 ∷ 0 ∷ []
 
 abbrev header : Header
 header = record { calltrace = false; rtntrace = false; result = true; nargs = 1; nlines = 1; nlocals = 2; ncode = 3 }
 
-abbrev running : Running
-running = record { regular = bytes; alternate = bytes; selector = false; block = record { start = 2; header = header } }
+abbrev running : ℕ → Running
+running line = record { regular = bytes line; alternate = bytes line; selector = false; block = record { start = 2; header = header } }
 
--- Globals 8 and 9 hold the vector and undefined; the current frame, called from a bottom frame of no variables, has the result
--- variable 7 at −1, an undefined local at −2 and at −3 an argument that refers to global 8. The stack has twenty words.
+-- A frame of that function, and a machine of such frames at origin 1 whose globals 8 and 9 hold the vector and undefined.
+abbrev frame : List Cell → Frame Cell
+frame cells = record { function = 1; pctr = 8; cells = cells }
+
+abbrev framed : List (Frame Cell) → List Cell → Machine Cell
+framed frames temporaries = record { flags = 1; temporaries = temporaries; frames = frames; globals = vector ∷ undefined ∷ [] }
+
+-- The current frame, called from a bottom frame of no variables, has the result variable 7 at −1, an undefined local at −2 and at
+-- −3 an argument that refers to global 8.
 abbrev machine : List Cell → Machine Cell
-machine temporaries =
-    record {
-      flags = 1;
-      temporaries = temporaries;
-      frames = record { function = 1; pctr = 8; cells = number 7 ∷ undefined ∷ indirect (Global (segment 8)) ∷ [] } ∷ record { function = 1; pctr = 8; cells = [] } ∷ [];
-      globals = vector ∷ undefined ∷ [];
-    }
+machine temporaries = framed (frame (number 7 ∷ undefined ∷ indirect (Global (segment 8)) ∷ []) ∷ frame [] ∷ []) temporaries
+
+-- The result variable is undefined; the bottom frame is the only one, with a result and without.
+abbrev noResult : List Cell → Machine Cell
+noResult temporaries = framed (frame (undefined ∷ number 7 ∷ number 5 ∷ []) ∷ frame [] ∷ []) temporaries
+
+abbrev bottomFrame : Cell → List Cell → Machine Cell
+bottomFrame result temporaries = framed (frame (result ∷ undefined ∷ number 5 ∷ []) ∷ []) temporaries
+
+-- The plan on a stack of so many words, line 1 at 12; a stack of twenty where nothing is said.
+abbrev planOn : ℕ → Machine Cell → Instruction → Plan
+planOn words m i = planOf (running 12) (seenOf words m) i 9
 
 abbrev plan : List Cell → Instruction → Plan
-plan temporaries i = planOf running (seenOf 20 (machine temporaries)) i 9
+plan temporaries i = planOn 20 (machine temporaries) i
 
 pub record Pushing : Type 0 where
   -- a local, the argument by reference, an undefined local, a word outside the frame, a global that is none
@@ -92,6 +107,19 @@ pub record Pushing : Type 0 where
   pub referred : plan [] (I.Memory W.Reference (A.Local 3)) ≡ gives (replaces 0 (reference (Global (segment 8))) ∷ jumps 9 ∷ [])
   pub notDefined : plan [] (I.Memory W.TestDefined (A.Local 2)) ≡ gives (replaces 0 (word 0) ∷ jumps 9 ∷ [])
   pub defined : plan [] (I.Memory W.TestDefined (A.Local 3)) ≡ gives (replaces 0 (word 1) ∷ jumps 9 ∷ [])
+  -- the frames take seven words: a stack of eight has room for one more cell, and of seven for none, whatever is pushed; what is wrong
+  -- with the value is told before
+  pub lastCell : planOn 8 (machine []) (I.Load (A.Local 1)) ≡ gives (replaces 0 (variable (Local (stack 4))) ∷ jumps 9 ∷ [])
+  pub loadFull : planOn 7 (machine []) (I.Load (A.Local 1)) ≡ trap 1 1
+  pub loadNothingFull : planOn 7 (machine []) (I.Load (A.Local 2)) ≡ trap 10 0
+  pub shortConstantFull : planOn 7 (machine []) (I.ShortConstant false 5) ≡ trap 1 1
+  pub constantScalarFull : planOn 7 (machine []) (I.ConstantScalar 5) ≡ trap 1 1
+  pub constantArrayFull : planOn 7 (machine []) (I.ConstantScalar 0x02000019) ≡ trap 3 5
+  pub constantVectorFull : planOn 7 (machine []) (I.ConstantVector 2 (codeAddress 12)) ≡ trap 1 1
+  pub undefinedFull : planOn 7 (machine []) (I.Stack K.Undefined) ≡ trap 1 1
+  pub getOriginFull : planOn 7 (machine []) (I.Stack K.GetOrigin) ≡ trap 1 1
+  pub referredFull : planOn 7 (machine []) (I.Memory W.Reference (A.Local 3)) ≡ trap 1 1
+  pub testFull : planOn 7 (machine []) (I.Memory W.TestDefined (A.Local 2)) ≡ trap 1 1
 
 pub record Making : Type 0 where
   -- one operand: a scalar stays in its cell, an array is a new one; a character; nothing there; an undefined operand
@@ -107,6 +135,16 @@ pub record Making : Type 0 where
   pub lengths : plan (vector ∷ value (2 ∷ []) (1 ∷ 2 ∷ []) ∷ []) (I.Scalar (O.Dyadic D.Sum)) ≡ trap 6 0
   pub firstTrap : plan (value (2 ∷ []) (8388607 ∷ 0x01000041 ∷ []) ∷ number 1 ∷ []) (I.Scalar (O.Dyadic D.Sum)) ≡ trap 8 1
   pub empty : plan (value (0 ∷ []) [] ∷ number 0x01000041 ∷ []) (I.Scalar (O.Dyadic D.Sum)) ≡ gives (replaces 2 (made (0 ∷ []) []) ∷ jumps 9 ∷ [])
+  -- AND and OR, the manual's LOGICAL_PRODUCT and LOGICAL_SUM: its truth table on vectors; 1 as a float; neither 0 nor 1; a character is
+  -- told before that
+  pub conjunction : plan (bits 0 0 1 1 ∷ bits 0 1 0 1 ∷ []) (I.Scalar (O.Dyadic D.LogicalProduct)) ≡ gives (replaces 2 (made (4 ∷ []) (0 ∷ 0 ∷ 0 ∷ 1 ∷ [])) ∷ jumps 9 ∷ [])
+  pub disjunction : plan (bits 0 0 1 1 ∷ bits 0 1 0 1 ∷ []) (I.Scalar (O.Dyadic D.LogicalSum)) ≡ gives (replaces 2 (made (4 ∷ []) (0 ∷ 1 ∷ 1 ∷ 1 ∷ [])) ∷ jumps 9 ∷ [])
+  pub andFloat : plan (number 0x6000_0000 ∷ number 1 ∷ []) (I.Scalar (O.Dyadic D.LogicalProduct)) ≡ gives (replaces 2 (word 1) ∷ jumps 9 ∷ [])
+  pub orFloat : plan (number 0 ∷ number 0x6000_0000 ∷ []) (I.Scalar (O.Dyadic D.LogicalSum)) ≡ gives (replaces 2 (word 1) ∷ jumps 9 ∷ [])
+  pub andTwo : plan (number 0 ∷ number 2 ∷ []) (I.Scalar (O.Dyadic D.LogicalProduct)) ≡ trap 8 5
+  pub orTwo : plan (number 2 ∷ number 1 ∷ []) (I.Scalar (O.Dyadic D.LogicalSum)) ≡ trap 8 5
+  pub andCharacter : plan (number 2 ∷ number 0x01000041 ∷ []) (I.Scalar (O.Dyadic D.LogicalProduct)) ≡ trap 7 0
+  pub orCharacter : plan (number 0x01000041 ∷ number 1 ∷ []) (I.Scalar (O.Dyadic D.LogicalSum)) ≡ trap 7 0
   pub shape : plan (matrix ∷ []) (I.Array R.Shape) ≡ gives (replaces 1 (made (2 ∷ []) (2 ∷ 2 ∷ [])) ∷ jumps 9 ∷ [])
   pub shapeOfScalar : plan (number 5 ∷ []) (I.Array R.Shape) ≡ gives (replaces 1 (made (0 ∷ []) []) ∷ jumps 9 ∷ [])
   pub ravel : plan (matrix ∷ []) (I.Array R.Ravel) ≡ gives (replaces 1 (made (4 ∷ []) (1 ∷ 2 ∷ 3 ∷ 4 ∷ [])) ∷ jumps 9 ∷ [])
@@ -115,8 +153,10 @@ pub record Making : Type 0 where
   pub nothingToTake : plan (number 2 ∷ value (0 ∷ []) [] ∷ []) (I.Array R.Reshape) ≡ trap 6 0
   pub catenate : plan (number 5 ∷ vector ∷ []) (I.Array R.Catenate) ≡ gives (replaces 2 (made (4 ∷ []) (5 ∷ 10 ∷ 20 ∷ 30 ∷ [])) ∷ jumps 9 ∷ [])
   pub indexGenerator : plan (number 3 ∷ []) (I.Array R.IndexGenerator) ≡ gives (replaces 1 (made (3 ∷ []) (1 ∷ 2 ∷ 3 ∷ [])) ∷ jumps 9 ∷ [])
-  -- row 2, column 1 at origin 1; the wrong number of subscripts; an undefined one; one out of range
+  -- row 2, column 1 at origin 1; of a scalar; by an array; the wrong number of subscripts; an undefined one; one out of range
   pub index : plan (matrix ∷ number 2 ∷ number 1 ∷ []) (I.Index 2) ≡ gives (replaces 3 (word 3) ∷ jumps 9 ∷ [])
+  pub indexOfScalar : plan (number 5 ∷ number 1 ∷ []) (I.Index 1) ≡ trap 5 0
+  pub indexByArray : plan (vector ∷ vector ∷ []) (I.Index 1) ≡ trap 5 0
   pub subscripts : plan (matrix ∷ number 2 ∷ []) (I.Index 1) ≡ trap 9 1
   pub noSubscript : plan (vector ∷ undefined ∷ []) (I.Index 1) ≡ trap 5 0
   pub outOfRange : plan (vector ∷ number 4 ∷ []) (I.Index 1) ≡ trap 9 2
@@ -138,8 +178,9 @@ pub record Going : Type 0 where
   pub goOutside : plan [] (I.Jump J.Go (codeAddress 20)) ≡ trap 3 1
   pub goTrue : plan (number 1 ∷ []) (I.Jump J.GoTrue (codeAddress 8)) ≡ gives (discards 1 ∷ jumps 8 ∷ [])
   pub goFalse : plan (number 1 ∷ []) (I.Jump J.GoFalse (codeAddress 99)) ≡ gives (discards 1 ∷ jumps 9 ∷ [])
-  -- line 1; an empty vector; line 0 leaves, and so does −1; half a line
+  -- line 1, and where its entry is the end of the code; an empty vector; line 0 leaves, and so does −1; half a line
   pub branch : plan (number 1 ∷ []) (I.Control C.Branch) ≡ gives (discards 1 ∷ jumps 12 ∷ [])
+  pub branchOutside : planOf (running 20) (seenOf 20 (machine (number 1 ∷ []))) (I.Control C.Branch) 9 ≡ trap 3 1
   pub branchNowhere : plan (value (0 ∷ []) [] ∷ []) (I.Control C.Branch) ≡ gives (discards 1 ∷ jumps 9 ∷ [])
   pub branchOut : plan (number 0 ∷ []) (I.Control C.Branch) ≡ gives (discards 1 ∷ leaves 3 true ∷ [])
   pub branchBelow : plan (number 0x80000001 ∷ []) (I.Control C.Branch) ≡ gives (discards 1 ∷ leaves 3 true ∷ [])
@@ -147,9 +188,22 @@ pub record Going : Type 0 where
   pub branchLeftover : plan (number 0 ∷ number 1 ∷ []) (I.Control C.Branch) ≡ trap 3 12
   pub return : plan [] (I.Control C.Return) ≡ gives (leaves 3 true ∷ [])
   pub returnLeftover : plan (number 1 ∷ []) (I.Control C.Return) ≡ trap 3 12
-  -- function 1 wants one argument; with two locals and two words of its frame it has room on this stack, but not with eleven temporaries
+  -- nothing to return; the bottom frame, which no one called: (3,12) before it, (10,0) after it
+  pub returnNothing : planOn 20 (noResult []) (I.Control C.Return) ≡ trap 10 0
+  pub branchNothing : planOn 20 (noResult (number 0 ∷ [])) (I.Control C.Branch) ≡ trap 10 0
+  pub returnBottom : planOn 20 (bottomFrame (number 7) []) (I.Control C.Return) ≡ trap 3 13
+  pub branchBottom : planOn 20 (bottomFrame (number 7) (number 0 ∷ [])) (I.Control C.Branch) ≡ trap 3 13
+  pub lineBottom : planOn 20 (bottomFrame (number 7) (number 1 ∷ [])) (I.Control C.Branch) ≡ gives (discards 1 ∷ jumps 12 ∷ [])
+  pub returnBottomLeftover : planOn 20 (bottomFrame (number 7) (number 1 ∷ [])) (I.Control C.Return) ≡ trap 3 12
+  pub branchBottomLeftover : planOn 20 (bottomFrame (number 7) (number 0 ∷ number 1 ∷ [])) (I.Control C.Branch) ≡ trap 3 12
+  pub returnBottomNothing : planOn 20 (bottomFrame undefined []) (I.Control C.Return) ≡ trap 3 13
+  -- function 1 wants one argument, and room for two locals and the two words of its frame: beside seven words of frames and the argument a
+  -- stack of twelve has it, and one of eleven has not; the wrong number of arguments is told before
   pub call : plan (number 5 ∷ []) (I.Call 1 false 1) ≡ gives (jumps 9 ∷ enters 2 0x10008 ∷ [])
   pub arguments : plan (number 5 ∷ []) (I.Call 0 false 1) ≡ trap 3 4
+  pub callRoom : planOn 12 (machine (number 5 ∷ [])) (I.Call 1 false 1) ≡ gives (jumps 9 ∷ enters 2 0x10008 ∷ [])
+  pub callFull : planOn 11 (machine (number 5 ∷ [])) (I.Call 1 false 1) ≡ trap 1 1
+  pub argumentsFull : planOn 11 (machine (number 5 ∷ [])) (I.Call 0 false 1) ≡ trap 3 4
   pub noOperation : plan [] (I.Control C.NoOperation) ≡ gives (jumps 9 ∷ [])
   pub breakpoint : plan [] (I.Control C.Breakpoint) ≡ trap 2 4
   pub attention : plan [] (I.Control C.Attention) ≡ trap 4 0
@@ -160,20 +214,130 @@ pub record Story : Type 0 where
       ≡ vector ∷ value (3 ∷ []) (10 ∷ 20 ∷ 0 ∷ []) ∷ []
 
 pub pushing : Pushing
-unfolding planOf seenOf loads.load loads.referTo loads.testDefined loads.pushUndefined loads.getOrigin loads.shortConstant loads.constantScalar loads.constantVector isScalar kindOf integerKind characterKind arrayKind indirectKind undefinedKind unsignedKind codeOf wordAt halfAt
-pushing = record { local = refl; byReference = refl; noValue = refl; outside = refl; global = refl; noGlobal = refl; shortConstant = refl; constantScalar = refl; constantArray = refl; constantVector = refl; undefinedPushed = refl; getOrigin = refl; referred = refl; notDefined = refl; defined = refl }
+unfolding planOf seenOf loads.load loads.referTo loads.testDefined loads.pushUndefined loads.getOrigin loads.shortConstant
+    loads.constantScalar loads.constantVector isScalar kindOf integerKind characterKind arrayKind indirectKind undefinedKind unsignedKind
+    codeOf wordAt halfAt
+pushing = record {
+  local = refl;
+  byReference = refl;
+  noValue = refl;
+  outside = refl;
+  global = refl;
+  noGlobal = refl;
+  shortConstant = refl;
+  constantScalar = refl;
+  constantArray = refl;
+  constantVector = refl;
+  undefinedPushed = refl;
+  getOrigin = refl;
+  referred = refl;
+  notDefined = refl;
+  defined = refl;
+  lastCell = refl;
+  loadFull = refl;
+  loadNothingFull = refl;
+  shortConstantFull = refl;
+  constantScalarFull = refl;
+  constantArrayFull = refl;
+  constantVectorFull = refl;
+  undefinedFull = refl;
+  getOriginFull = refl;
+  referredFull = refl;
+  testFull = refl;
+}
 
 pub making : Making
-unfolding planOf seenOf scalars.monadic scalars.dyadic scalars.shape scalars.ravel scalars.reshape scalars.catenate scalars.indexGenerator scalars.index values.each values.monadic values.dyadic values.conform values.pairwise values.catenate values.upFrom values.indexGenerator values.cycle values.reshape values.place S.identity S.negative S.floor S.magnitudeOf S.notOf S.sumSign S.sumSize S.plus S.minus S.sum S.difference units integer float rounded result wholeUnits wholeOf truthUnits truthOf size
-making = record { negative = refl; identity = refl; typed = refl; missing = refl; unknown = refl; difference = refl; extended = refl; ranks = refl; lengths = refl; firstTrap = refl; empty = refl; shape = refl; shapeOfScalar = refl; ravel = refl; reshape = refl; noLengths = refl; nothingToTake = refl; catenate = refl; indexGenerator = refl; index = refl; subscripts = refl; noSubscript = refl; outOfRange = refl }
+unfolding planOf seenOf scalars.monadic scalars.dyadic scalars.shape scalars.ravel scalars.reshape scalars.catenate scalars.indexGenerator
+    scalars.index values.each values.monadic values.dyadic values.conform values.pairwise values.catenate values.upFrom
+    values.indexGenerator values.cycle values.reshape values.place S.identity S.negative S.floor S.magnitudeOf S.notOf S.sumSign S.sumSize
+    S.plus S.minus S.sum S.difference S.logicalProduct S.logicalSum units integer float rounded result wholeUnits wholeOf truthUnits truthOf
+    size
+making = record {
+  negative = refl;
+  identity = refl;
+  typed = refl;
+  missing = refl;
+  unknown = refl;
+  difference = refl;
+  extended = refl;
+  ranks = refl;
+  lengths
+      = refl;
+  firstTrap = refl;
+  empty = refl;
+  conjunction = refl;
+  disjunction = refl;
+  andFloat = refl;
+  orFloat = refl;
+  andTwo = refl;
+  orTwo = refl;
+  andCharacter = refl;
+  orCharacter = refl;
+  shape = refl;
+  shapeOfScalar = refl;
+  ravel = refl;
+  reshape = refl;
+  noLengths = refl;
+  nothingToTake = refl;
+  catenate = refl;
+  indexGenerator = refl;
+  index = refl;
+  indexOfScalar = refl;
+  indexByArray = refl;
+  subscripts = refl;
+  noSubscript = refl;
+  outOfRange = refl;
+}
 
 pub writing : Writing
-unfolding planOf seenOf memory.assign memory.assignNoResult memory.assignIndexed memory.eat memory.interchange scalars.setOrigin values.place units wholeUnits wholeOf truthUnits truthOf
-writing = record { assign = refl; assignNoResult = refl; assignUndefined = refl; assignIndexed = refl; intoNothing = refl; intoScalar = refl; eat = refl; interchange = refl; setOrigin = refl }
+unfolding planOf seenOf memory.assign memory.assignNoResult memory.assignIndexed memory.eat memory.interchange scalars.setOrigin
+    values.place units wholeUnits wholeOf truthUnits truthOf
+writing = record {
+  assign = refl;
+  assignNoResult = refl;
+  assignUndefined = refl;
+  assignIndexed = refl;
+  intoNothing = refl;
+  intoScalar = refl;
+  eat = refl;
+  interchange = refl;
+  setOrigin = refl;
+}
 
 pub going : Going
-unfolding planOf seenOf control.go control.goIf control.return control.branch control.call control.breakpoint control.attention memory.noOperation lineOf hasFunction headerAt wordAt halfAt units wholeUnits wholeOf truthUnits truthOf
-going = record { go = refl; goOutside = refl; goTrue = refl; goFalse = refl; branch = refl; branchNowhere = refl; branchOut = refl; branchBelow = refl; branchHalf = refl; branchLeftover = refl; return = refl; returnLeftover = refl; call = refl; arguments = refl; noOperation = refl; breakpoint = refl; attention = refl }
+unfolding planOf seenOf control.go control.goIf control.return control.branch control.call control.breakpoint control.attention
+    memory.noOperation lineOf hasFunction headerAt wordAt halfAt units wholeUnits wholeOf truthUnits truthOf
+going = record {
+  go = refl;
+  goOutside = refl;
+  goTrue = refl;
+  goFalse = refl;
+  branch = refl;
+  branchOutside = refl;
+  branchNowhere = refl;
+  branchOut = refl;
+  branchBelow = refl;
+  branchHalf = refl;
+  branchLeftover = refl;
+  return = refl;
+  returnLeftover = refl;
+  returnNothing = refl;
+  branchNothing = refl;
+  returnBottom = refl;
+  branchBottom = refl;
+  lineBottom = refl;
+  returnBottomLeftover = refl;
+  branchBottomLeftover = refl;
+  returnBottomNothing = refl;
+  call = refl;
+  arguments = refl;
+  callRoom = refl;
+  callFull = refl;
+  argumentsFull = refl;
+  noOperation = refl;
+  breakpoint = refl;
+  attention = refl;
+}
 
 pub story : Story
 story = record { copied = refl }

@@ -8,4 +8,6 @@ pub mod Scalars
 pub mod Memory
 pub mod Control
 pub mod Instructions
+pub mod Traps
+pub mod Cases
 pub mod Examples

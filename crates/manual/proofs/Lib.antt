@@ -1,0 +1,8 @@
+-- The one walk over all plans, and the theorem that a plan's trap is one of the table.
+pub mod Lists
+pub mod Operators
+pub mod Values
+pub mod Variables
+pub mod Decoding
+pub mod Cases
+pub mod Traps
