@@ -10,3 +10,4 @@ pub mod Rounds
 pub mod Tiling
 pub mod RingTest
 pub mod Structure
+pub mod Room

@@ -10,6 +10,7 @@ use Rattle.storage_tests.specs.Tests.{words}
 use Rattle.storage_tests.specs.Head.{headTest}
 use Rattle.storage_tests.specs.Blocks.{freeSpan, arraySpan, blockSpan, walkFrom, walkTest, startsFrom, freeStarts, arrayStarts, arrayTest, blocksTest}
 use Rattle.storage_tests.specs.Ring.{linked, roundFrom, ringTest}
+use Rattle.storage_tests.specs.Room.{longEnough}
 
 -- No globals; a free block of 5 words at 8; at 13 the array 7 1.0 with one word of slop; the dummy at 19; the stack from 22.
 abbrev pub small : List ℕ
@@ -26,6 +27,9 @@ pub record Examples : Type 0 where
   pub ring : ringTest small ≡ true
   pub free : freeStarts small ≡ 8 ∷ []
   pub arrays : arrayStarts small ≡ 13 ∷ []
+  -- a request of 5 words can be served, of 6 not
+  pub enough : longEnough small 5 ≡ true
+  pub short : longEnough small 6 ≡ false
   -- a flag that has no name, BLOCKPTR below 8, LTOP past the end
   pub strayFlag : headTest (set small 2 0x10) ≡ false
   pub lowBlockptr : headTest (set small 4 7) ≡ false
@@ -45,13 +49,15 @@ pub record Examples : Type 0 where
   pub rover : ringTest (set small 1 13) ≡ false
 
 pub examples : Examples
-unfolding isScalar kindOf integerKind characterKind arrayKind indirectKind undefinedKind unsignedKind hit words headTest freeSpan arraySpan blockSpan walkFrom walkTest startsFrom freeStarts arrayStarts arrayTest blocksTest linked roundFrom ringTest
+unfolding isScalar kindOf integerKind characterKind arrayKind indirectKind undefinedKind unsignedKind hit words headTest freeSpan arraySpan blockSpan walkFrom walkTest startsFrom freeStarts arrayStarts arrayTest blocksTest linked roundFrom ringTest longEnough
 examples = record {
   head = refl;
   blocks = refl;
   ring = refl;
   free = refl;
   arrays = refl;
+  enough = refl;
+  short = refl;
   strayFlag = refl;
   lowBlockptr = refl;
   highLtop = refl;

@@ -6,4 +6,5 @@ pub mod Ring
 pub mod Marks
 pub mod Answer
 pub mod Structure
+pub mod Room
 pub mod Examples
