@@ -5,3 +5,4 @@ pub mod Passed
 pub mod Storage
 pub mod View
 pub mod Fresh
+pub mod FreshWords

@@ -33,7 +33,7 @@ module _ {s : List ℕ} {n locals word : ℕ} {l : Layout} (h : Room n locals l)
   pub laid-lbase : lbase s ≡ locals
   laid-lbase = high-half _ _ (startOf l) (t .word1) (omega (arith, h .longest, h .stack))
 
-  laid-rover : rover s ≡ startOf l
+  pub laid-rover : rover s ≡ startOf l
   laid-rover = low-half _ locals _ (t .word1) (omega (arith, h .longest, h .stack))
 
   pub laid-head : Head s
@@ -57,7 +57,7 @@ module _ {s : List ℕ} {n locals word : ℕ} {l : Layout} (h : Room n locals l)
     rw after-free (t .dummy),
   )
 
-  laid-links : Links s (startOf l) (ringOf l) (startOf l)
+  pub laid-links : Links s (startOf l) (ringOf l) (startOf l)
   laid-links = (
     record { next = high-half _ _ (baseOf l - 3) (t .links) small; last = low-half _ (startOf l) _ (t .dummyLinks) start },
     record { next = high-half _ _ (startOf l) (t .dummyLinks) start; last = low-half _ (baseOf l - 3) _ (t .links) small },

@@ -114,6 +114,13 @@ module _ (s : List ℕ) (base locals word : ℕ) (fits : base + locals + 2 ≤ l
   frame-below : (i : ℕ) → i < base → getD (freshFrame s base locals word) i 0 ≡ getD s i 0
   frame-below i u = behind i (omega arith) ∙ run-below locals s base undefinedWord i u
 
+  frame-above : (i : ℕ) → base + locals + 2 ≤ i → getD (freshFrame s base locals word) i 0 ≡ getD s i 0
+  unfolding freshFrame
+  frame-above i l =
+      let a : i ≢ base + locals = omega arith in
+      let b : i ≢ base + locals + 1 = omega arith in
+      (simp (getD-set-other, a, b)) ∙ run-above locals s base undefinedWord i (omega arith)
+
   frame-locals : (i : ℕ) → base ≤ i → i < base + locals → getD (freshFrame s base locals word) i 0 ≡ undefinedWord
   frame-locals i l u = behind i u ∙ run-in locals s base undefinedWord (omega arith) i l u
 
@@ -146,6 +153,7 @@ pub record Laid (s : List ℕ) (n locals word : ℕ) (l : Layout) : Type 0 where
   pub globals : (i : ℕ) → 8 ≤ i → i < startOf l → getD s i 0 ≡ undefinedWord
   pub first : getD s (startOf l) 0 ≡ 2 ^ 31 + (l .arrayWords - 3)
   pub links : getD s (startOf l + 1) 0 ≡ (baseOf l - 3) * 2 ^ 16 + (baseOf l - 3)
+  pub interior : (i : ℕ) → startOf l + 2 ≤ i → i + 1 < baseOf l - 3 → getD s i 0 ≡ 0
   pub end : getD s (baseOf l - 3 - 1) 0 ≡ l .arrayWords - 3
   pub dummy : getD s (baseOf l - 3) 0 ≡ 2 ^ 30
   pub dummyLinks : getD s (baseOf l - 3 + 1) 0 ≡ startOf l * 2 ^ 16 + startOf l
@@ -153,6 +161,7 @@ pub record Laid (s : List ℕ) (n locals word : ℕ) (l : Layout) : Type 0 where
   pub variables : (i : ℕ) → baseOf l ≤ i → i < baseOf l + locals → getD s i 0 ≡ undefinedWord
   pub last : getD s (baseOf l + locals) 0 ≡ locals
   pub code : getD s (baseOf l + locals + 1) 0 ≡ word
+  pub above : (i : ℕ) → baseOf l + locals + 2 ≤ i → i < n → getD s i 0 ≡ 0
 
 module _ (n locals word : ℕ) (l : Layout) (h : Room n locals l) where
   abbrev blank : List ℕ
@@ -203,6 +212,13 @@ module _ (n locals word : ℕ) (l : Layout) (h : Room n locals l) where
   not-head : (i : ℕ) → (i ≢ 0) × (i ≢ 1) × (i ≢ 4) → i < n → getD headed i 0 ≡ 0
   not-head i d u = head-other blank (startOf l) (baseOf l) locals i d ∙ getD-replicate n i 0 0 u
 
+  -- what neither storage's words nor the frame's are, above the globals
+  untouched : (i : ℕ) → startOf l + 2 ≤ i → (i ≢ baseOf l - 3 - 1) × (i ≢ baseOf l - 3) × (i ≢ baseOf l - 3 + 1) → i < n → getD stored i 0 ≡ 0
+  untouched i k d u =
+      storage-other defined (startOf l) (l .arrayWords) i (omega arith, omega arith, d .0, d .1, d .2)
+      ∙ run-above (l .globals) headed 8 undefinedWord i (omega arith)
+      ∙ not-head i (omega arith) u
+
   pub laid : Laid (fresh n locals word l) n locals word l
   unfolding fresh
   laid = record {
@@ -214,14 +230,13 @@ module _ (n locals word : ℕ) (l : Layout) (h : Room n locals l) where
     globals = λ i k u. under-storage i u ∙ run-in (l .globals) headed 8 undefinedWord (omega (arith, h .stack, headed-long)) i k u;
     first = under-frame (startOf l) (omega (arith, h .storage)) ∙ storage-first defined (startOf l) (l .arrayWords) (h .storage) in-storage;
     links = under-frame (startOf l + 1) (omega (arith, h .storage)) ∙ storage-links defined (startOf l) (l .arrayWords) (h .storage) in-storage;
+    interior = λ i k u. under-frame i (omega arith) ∙ untouched i k (omega arith) (omega (arith, h .stack));
     end = under-frame (baseOf l - 3 - 1) (omega (arith, h .storage)) ∙ storage-end defined (startOf l) (l .arrayWords) (h .storage) in-storage;
     dummy = under-frame (baseOf l - 3) (omega (arith, h .storage)) ∙ storage-dummy defined (startOf l) (l .arrayWords) (h .storage) in-storage;
     dummyLinks = under-frame (baseOf l - 3 + 1) (omega (arith, h .storage)) ∙ storage-dummy-links defined (startOf l) (l .arrayWords) (h .storage) in-storage;
-    dummyEnd = under-frame (baseOf l - 1) (omega arith)
-        ∙ storage-other defined (startOf l) (l .arrayWords) (baseOf l - 1) (omega (arith, h .storage))
-        ∙ run-above (l .globals) headed 8 undefinedWord (baseOf l - 1) (omega (arith, h .storage))
-        ∙ not-head (baseOf l - 1) (omega arith) (omega (arith, h .stack));
+    dummyEnd = under-frame (baseOf l - 1) (omega arith) ∙ untouched (baseOf l - 1) (omega (arith, h .storage)) (omega (arith, h .storage)) (omega (arith, h .stack));
     variables = λ i k u. frame-locals stored (baseOf l) locals word in-frame i k u;
     last = frame-last stored (baseOf l) locals word in-frame;
     code = frame-code stored (baseOf l) locals word in-frame;
+    above = λ i k u. frame-above stored (baseOf l) locals word in-frame i k ∙ untouched i (omega (arith, h .storage)) (omega (arith, h .storage)) u;
   }
