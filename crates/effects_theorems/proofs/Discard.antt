@@ -13,7 +13,7 @@ use Rattle.segment.specs.Stack.{downward}
 use Rattle.segment.specs.Cells.{cell}
 use Rattle.storage.specs.Arrays.{drops}
 use Rattle.storage.specs.Heap.{count}
-use Rattle.storage.specs.Owned.{Step}
+use Rattle.storage.specs.Owned.{Owned, Step}
 use Rattle.view.specs.Machine.{mapMachine, allCells}
 use Rattle.view.specs.View.{framesFrom, words, owners, view}
 use Rattle.manual.specs.Effects as manual
@@ -98,8 +98,15 @@ module _ (s : List ℕ) (g : Sound s) (n : ℕ) (some : n ≤ temporaries s) whe
         count-append x (downward s b n) (drop n (words s .temporaries)),
       )
 
+  -- the operands own what they hold, and stand above array storage
+  pub discard-own : Owned s (downward s b n ++ us)
+  discard-own = reown (downward s b n ++ us) (λ x l. split-count (arrayWord x)) (g .own)
+
+  pub discard-above : sbase s ≤ b
+  discard-above = omega (arith, low, some)
+
   dropped : Step s (downward s b n ++ us) s2 us
-  dropped = drops-own n us b (reown (downward s b n ++ us) (λ x l. split-count (arrayWord x)) (g .own)) (omega (arith, low, some))
+  dropped = drops-own n us b discard-own discard-above
 
   regs2 : Regs s s2
   regs2 = kept-regs (dropped .kept) (low .low)

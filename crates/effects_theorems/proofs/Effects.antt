@@ -42,7 +42,7 @@ use Rattle.effects_theorems.proofs.Leave.{with-view, with-sound, with-s
 served : (s : List ℕ) (n : ℕ) → n ≢ 0 → cond (eqb n 0) false (noneFor s n) ≡ false → requestAt s n ≢ 0
 served s n d h = eqb-false (requestAt s n) 0 (none-holds (ltb 16384 n) (eqb (requestAt s n) 0) (rw (ne-eqb n 0 d) at h) .1)
 
-source-found : (s : List ℕ) (source : Source) → cond (eqb (sourceNeed source) 0) false (noneFor s (sourceNeed source)) ≡ false → Found s source
+pub source-found : (s : List ℕ) (source : Source) → cond (eqb (sourceNeed source) 0) false (noneFor s (sourceNeed source)) ≡ false → Found s source
 unfolding placeAt
 source-found s (variable t) h = tt
 source-found s (operand i) h = tt
@@ -62,7 +62,7 @@ module _ (s : List ℕ) (g : Sound s) (t : Target) (place w n : ℕ) (has : HasE
   pub x-small : x < 2 ^ 16
   x-small = omega arith
 
-  copied : isFull s (storesElement t place w n) ≡ false → (countAt s x < 2) ⊎ (placeAt s (shapeAt s x) (elementsAt s x) ≢ 0)
+  pub copied : isFull s (storesElement t place w n) ≡ false → (countAt s x < 2) ⊎ (placeAt s (shapeAt s x) (elementsAt s x) ≢ 0)
   unfolding placeAt
   copied h =
       ⊎-elim

@@ -342,6 +342,15 @@ module _ (s : List ℕ) (g : Sound s) (t : Target) (at : IsVariable s t) (x : �
           let h : getD t1 (addressOf s t) 0 ≡ arrayWord (q .y) = ap (λ (j : ℕ). getD t1 j 0) (sym (same-address s t1 (q .regs .base) t)) ∙ q .holds in
           rw (h, e)
 
+    -- with the element written, the segment is sound, the operands are there and so is the variable
+    pub element-written : Sound (writeElement (unshare s (addressOf s t)) (addressOf s t) k v)
+        × CanReplace (writeElement (unshare s (addressOf s t)) (addressOf s t) k v) n
+        × IsVariable (writeElement (unshare s (addressOf s t)) (addressOf s t) k v) t
+    element-written =
+        let q = lone had in
+        let u = unshare s (addressOf s t) in
+        rw (written-is u q) (sound2 u q, can2 u q, there2 u q)
+
     pub stored-element-view : view (storeElement s t k v n) ≡ manual.replace n after (manual.put t after (view s))
     unfolding storeElement
     stored-element-view =

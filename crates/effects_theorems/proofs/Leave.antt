@@ -129,8 +129,9 @@ module _ (s : List ℕ) (g : Sound s) (n : ℕ) (empty : ltop s ≡ lbase s + 1)
   low : Bounds s
   low = bounds g
 
-  downward1 : downward r1 b n ≡ downward s b n
-  downward1 = downward-same s r1 b n (λ i p q. first .kept .rest i (omega (arith, low, starts)) (inr (omega (arith, starts))))
+  -- the frame's cells stand as they did, own what they hold, and stand above array storage
+  pub leave-cells : downward r1 b n ≡ downward s b n
+  leave-cells = downward-same s r1 b n (λ i p q. first .kept .rest i (omega (arith, low, starts)) (inr (omega (arith, starts))))
 
   split : manual.currentCells (m .frames) ≡ downward s b n ++ drop n (manual.currentCells (m .frames))
   split = cells-split s n last refl starts (low .low) (omega (arith, low))
@@ -144,7 +145,7 @@ module _ (s : List ℕ) (g : Sound s) (n : ℕ) (empty : ltop s ≡ lbase s + 1)
       omega (
         arith,
         count-append x (downward r1 b n) us,
-        ap (count x) downward1,
+        ap (count x) leave-cells,
         left-count x top n m,
         cells-count x m,
         no-temporaries x,
@@ -154,11 +155,14 @@ module _ (s : List ℕ) (g : Sound s) (n : ℕ) (empty : ltop s ≡ lbase s + 1)
         count-append x (downward s b n) (drop n (manual.currentCells (m .frames))),
       )
 
-  own1 : Owned r1 (downward r1 b n ++ us)
-  own1 = reown (downward r1 b n ++ us) (λ x l. counted (arrayWord x)) (first .own)
+  pub leave-own : Owned r1 (downward r1 b n ++ us)
+  leave-own = reown (downward r1 b n ++ us) (λ x l. counted (arrayWord x)) (first .own)
+
+  pub leave-above : sbase r1 ≤ b
+  leave-above = omega (arith, kept-regs (first .kept) (low .low), starts)
 
   second : Step r1 (downward r1 b n ++ us) r2 us
-  second = drops-own n us b own1 (omega (arith, kept-regs (first .kept) (low .low), starts))
+  second = drops-own n us b leave-own leave-above
 
   kept2 : Kept s r2
   kept2 = kept-on (low .low) (first .kept) (second .kept)
@@ -313,14 +317,14 @@ module _ (s : List ℕ) (n last : ℕ) (starts : last + 2 + n ≤ lbase s) (low 
 
 -- RETURN of a function without a result
 module _ (s : List ℕ) (g : Sound s) (n : ℕ) (can : CanLeave s n false) where
-  first0 : Step s (owners s) s (owners s)
-  first0 = step-none (owners s) (λ x l. refl) (g .own)
+  pub without-first : Step s (owners s) s (owners s)
+  without-first = step-none (owners s) (λ x l. refl) (g .own)
 
   abbrev d0 : List ℕ
   d0 = drops n s (startOf s n)
 
   regs0 : Regs s d0
-  regs0 = left-regs s g n (can .empty) (can .cells) [] s [] first0 refl
+  regs0 = left-regs s g n (can .empty) (can .cells) [] s [] without-first refl
 
   abbrev f0 : List ℕ
   f0 = set (set d0 0 (sbase d0 * 2 ^ 16 + (lbase d0 - n - 1))) 1
@@ -339,13 +343,13 @@ module _ (s : List ℕ) (g : Sound s) (n : ℕ) (can : CanLeave s n false) where
       rw (small, regs0 .frame)
 
   pub without-sound : Sound (leaveWithout s n)
-  without-sound = rw without-is (left-sound s g n (can .empty) (can .cells) [] s [] first0 refl f0 back0 (omega arith))
+  without-sound = rw without-is (left-sound s g n (can .empty) (can .cells) [] s [] without-first refl f0 back0 (omega arith))
 
   pub without-state : StateKept s (leaveWithout s n)
-  without-state = rw without-is (left-state s g n (can .empty) (can .cells) [] s [] first0 refl f0 back0)
+  without-state = rw without-is (left-state s g n (can .empty) (can .cells) [] s [] without-first refl f0 back0)
 
   pub without-view : view (leaveWithout s n) ≡ manual.leave undefined n false (view s)
-  without-view = rw without-is (left-view s g n (can .empty) (can .cells) [] s [] first0 refl f0 back0)
+  without-view = rw without-is (left-view s g n (can .empty) (can .cells) [] s [] without-first refl f0 back0)
 
 -- RETURN with a result: the frame's highest cell
 module _ (s : List ℕ) (g : Sound s) (n : ℕ) (can : CanLeave s n true) where
@@ -385,17 +389,17 @@ module _ (s : List ℕ) (g : Sound s) (n : ℕ) (can : CanLeave s n true) where
       ∙ ap (λ (l : List Cell). getD l 0 (cell s undefinedWord)) (sym (map-current (cell s) (words s .frames)))
       ∙ List·getD-map (cell s) (manual.currentCells (words s .frames)) 0 undefinedWord ∙ ap (cell s) (highest undefinedWord))
 
-  put1 : Put s (owners s) (share s w) w c
-  put1 = put-shared w c (g .own) (owners-few s g) owned shown
+  pub with-put : Put s (owners s) (share s w) w c
+  with-put = put-shared w c (g .own) (owners-few s g) owned shown
 
-  tops1 : map (cell (share s w)) (w ∷ []) ≡ c ∷ []
-  tops1 = rw (put1 .shown)
+  pub with-shown : map (cell (share s w)) (w ∷ []) ≡ c ∷ []
+  with-shown = rw (with-put .shown)
 
   abbrev d1 : List ℕ
   d1 = drops n (share s w) (startOf s n)
 
   regs1 : Regs s d1
-  regs1 = left-regs s g n (can .empty) (can .cells) (w ∷ []) (share s w) (c ∷ []) (put1 .step) tops1
+  regs1 = left-regs s g n (can .empty) (can .cells) (w ∷ []) (share s w) (c ∷ []) (with-put .step) with-shown
 
   abbrev f1 : List ℕ
   f1 = set
@@ -415,10 +419,10 @@ module _ (s : List ℕ) (g : Sound s) (n : ℕ) (can : CanLeave s n true) where
       rw (small, regs1 .frame)
 
   pub with-sound : Sound (leaveWith s n)
-  with-sound = rw with-is (left-sound s g n (can .empty) (can .cells) (w ∷ []) (share s w) (c ∷ []) (put1 .step) tops1 f1 back1 (omega arith))
+  with-sound = rw with-is (left-sound s g n (can .empty) (can .cells) (w ∷ []) (share s w) (c ∷ []) (with-put .step) with-shown f1 back1 (omega arith))
 
   pub with-state : StateKept s (leaveWith s n)
-  with-state = rw with-is (left-state s g n (can .empty) (can .cells) (w ∷ []) (share s w) (c ∷ []) (put1 .step) tops1 f1 back1)
+  with-state = rw with-is (left-state s g n (can .empty) (can .cells) (w ∷ []) (share s w) (c ∷ []) (with-put .step) with-shown f1 back1)
 
   pub with-view : view (leaveWith s n) ≡ manual.leave undefined n true (view s)
-  with-view = rw with-is (left-view s g n (can .empty) (can .cells) (w ∷ []) (share s w) (c ∷ []) (put1 .step) tops1 f1 back1)
+  with-view = rw with-is (left-view s g n (can .empty) (can .cells) (w ∷ []) (share s w) (c ∷ []) (with-put .step) with-shown f1 back1)

@@ -55,7 +55,7 @@ none-full : (s : List ℕ) (es : List Effect) → NoneAsks es → anyFull s es �
 none-full s [] h = refl
 none-full s (e ∷ es) h = rw (not-full s e (wants-nothing s e (h .0))) (none-full s es (h .1))
 
-none-in-vain : (s : List ℕ) (blocks : List Block) (es : List Effect) → NoneAsks es → AsksInVain s blocks es → ⊥
+pub none-in-vain : (s : List ℕ) (blocks : List Block) (es : List Effect) → NoneAsks es → AsksInVain s blocks es → ⊥
 none-in-vain s blocks [] h k = k
 none-in-vain s blocks (e ∷ es) h (inl k) = k .0 (wants-nothing s e (h .0))
 none-in-vain s blocks (e ∷ es) h (inr k) = none-in-vain s blocks es (h .1) k

@@ -1,16 +1,13 @@
 -- A plan goes by no more of what is seen than the running function's variables and its result.
-use Prim.Native.Nat.{ℕ, zero, suc, _+_, _-_, _%_, _^_}
+use Prim.Native.Nat.{ℕ, zero, suc, _-_}
 use mathlib.Core.Path.{_≡_, refl, sym, _∙_, ap}
-use mathlib.Core.Bool.{cond, not, _||_}
-use mathlib.Core.List.{List, [], _∷_}
-use lib.Dec.{ltb, eqb}
-use lib.ListN.{getD, length}
+use mathlib.Core.List.{List, _∷_}
+use lib.ListN.{length}
 use Rattle.scalar.specs.declared.Whole.{Whole}
 use Rattle.scalar.specs.declared.Whole.the-variants as W
 use Rattle.procedure.specs.declared.header.Header.{Header}
 use Rattle.procedure.specs.declared.header.Line.{Line}
 use Rattle.procedure.specs.declared.header.Line.the-variants as L
-use Rattle.procedure.specs.Headers.{lineOf}
 use Rattle.operator.specs.declared.Operator.the-variants as O
 use Rattle.instruction.specs.declared.Address.{Address}
 use Rattle.instruction.specs.declared.Address.the-variants as A
@@ -27,45 +24,17 @@ use Rattle.instruction.specs.Decoding.{decodeIn}
 use Rattle.segment.specs.State.{sbase}
 use Rattle.segment.specs.Cells.{Cell}
 use Rattle.view.specs.View.{view}
-use Rattle.scalar.specs.Reading.{wholeOf}
-use Rattle.manual.specs.OrTrap.{OrTrap, gives, trap, andThen, stopIf}
-use Rattle.manual.specs.Values as values
-use Rattle.manual.specs.Effects.{word, replaces, discards, storesElement, jumps, Plan}
-use Rattle.manual.specs.Seen.{Variable, Seen, variablesOf, seenOf}
+use Rattle.manual.specs.Seen.{Seen, variablesOf, seenOf}
 use Rattle.manual.specs.Loads.{load, referTo, testDefined, pushUndefined, getOrigin, shortConstant, constantScalar, constantVector}
-use Rattle.manual.specs.Scalars.{valueOf, operands, isForeign, isScalarCell, anyCell, scalarWord, subscripted, monadic, dyadic, shape, ravel, reshape, catenate, indexGenerator, setOrigin, index}
-use Rattle.manual.specs.Memory.{hasNoValue, assign, assignNoResult, assignIndexed, eat, interchange, noOperation}
-use Rattle.manual.specs.Control.{lineOrLeave, branchTo, go, goIf, return, branch, call, breakpoint, attention}
-use Rattle.manual.specs.Instructions.{Running, segmentOf, headerOf, resolve, planOf, planDecoded, planAt}
+use Rattle.manual.specs.Scalars.{operands, monadic, dyadic, shape, ravel, reshape, catenate, indexGenerator, setOrigin, index}
+use Rattle.manual.specs.Memory.{assign, assignNoResult, assignIndexed, eat, interchange, noOperation}
+use Rattle.manual.specs.Control.{lineOrLeave, lineNumber, branchTo, go, goIf, return, branch, call, breakpoint, attention}
+use Rattle.manual.specs.Instructions.{Running, headerOf, resolve, planOf, planDecoded, planAt}
 use Rattle.effects.specs.Seen.{seen}
 use Rattle.effects.specs.Sound.{Sound}
 use Rattle.effects.specs.Alike.{seenBy, Runs}
 use Rattle.effects_theorems.specs.Plans.{PlansTheorems}
 use Rattle.effects_theorems.proofs.Seen.{seen-theorem}
-
-and-same : {A B : Type 0} (x : OrTrap A) (f g : A → OrTrap B) → ((a : A) → f a ≡ g a) → andThen x f ≡ andThen x g
-and-same (gives a) f g h = h a
-and-same (trap class number) f g h = refl
-
--- INDEX and ASSIGN_INDEXED by the cells that they look at
-abbrev indexOf : ℕ → ℕ → ℕ → ℕ → Cell → List Cell → Plan
-indexOf next rank count origin first subscripts =
-    stopIf (ltb count (rank + 1)) 3 4
-    (andThen (valueOf first) (λ a.
-    stopIf (anyCell isForeign subscripts) 3 5
-    (stopIf (eqb (values.rank a) 0 || anyCell (λ c. not (isScalarCell c)) subscripts) 5 0
-    (andThen (subscripted origin rank (a .shape) subscripts) (λ k.
-    gives (replaces (rank + 1) (word (getD (a .ravel) k 0)) ∷ jumps next ∷ []))))))
-
-abbrev assignedOf : ℕ → ℕ → OrTrap Variable → ℕ → ℕ → Cell → List Cell → List Cell → Plan
-assignedOf next rank resolved count origin last taken subscripts =
-    andThen resolved (λ v.
-    stopIf (ltb count (rank + 1)) 3 4
-    (andThen (valueOf (v .held)) (λ a.
-    stopIf (anyCell hasNoValue taken) 3 5
-    (stopIf (eqb (values.rank a) 0 || anyCell (λ c. not (isScalarCell c)) taken) 5 0
-    (andThen (subscripted origin rank (a .shape) subscripts) (λ k.
-    gives (storesElement (v .place) k (scalarWord last) (rank + 1) ∷ jumps next ∷ [])))))))
 
 module _ (f : Running) (all : Seen) where
   abbrev h : Header
@@ -87,30 +56,21 @@ module _ (f : Running) (all : Seen) where
   line-by L.Absent = refl
 
   branch-by : (line : ℕ → Line) (w : Whole) → branchTo all h line w ≡ branchTo some h line w
-  branch-by line (W.Number negative n) = line-by (line (cond negative 0 n))
+  branch-by line (W.Number negative n) = line-by (line (lineNumber negative n))
   branch-by line W.Fraction = refl
   branch-by line W.Character = refl
 
-  indexed-by : (rank : ℕ) (a : Address) (next : ℕ) → assignIndexed all next rank (resolve all h a) ≡ assignIndexed some next rank (resolve some h a)
-  unfolding assignIndexed
-  indexed-by rank a next =
-      ap (λ (r : OrTrap Variable). assignIndexed all next rank r) (resolve-by a)
-      ∙ ap (λ (cs : List Cell). assignedOf next rank (resolve some h a) (all .count) (all .origin) (all .operand rank) cs (operands all 0 rank))
-      (operands-by 0 (rank + 1))
-      ∙ ap (λ (cs : List Cell). assignedOf next rank (resolve some h a) (all .count) (all .origin) (all .operand rank) (operands some 0 (rank + 1)) cs)
-      (operands-by 0 rank)
-
   plan-by : (i : Instruction) (next : ℕ) → planOf f all i next ≡ planOf f some i next
   unfolding planOf load referTo testDefined pushUndefined getOrigin shortConstant constantScalar constantVector monadic dyadic shape ravel reshape catenate indexGenerator setOrigin index assign assignNoResult assignIndexed eat interchange noOperation go goIf return branch call breakpoint attention
-  plan-by (I.Load a) next = ap (λ (r : OrTrap Variable). load all next r) (resolve-by a)
+  plan-by (I.Load a) next = rw (resolve-by a)
   plan-by (I.ShortConstant negative magnitude) next = refl
   plan-by (I.Scalar (O.Monadic op)) next = refl
   plan-by (I.Scalar (O.Dyadic op)) next = refl
-  plan-by (I.Memory (M.AssignIndexed rank) a) next = indexed-by (rank % 2 ^ 4) a next
-  plan-by (I.Memory M.Assign a) next = ap (λ (r : OrTrap Variable). assign all next r) (resolve-by a)
-  plan-by (I.Memory M.AssignNoResult a) next = ap (λ (r : OrTrap Variable). assignNoResult all next r) (resolve-by a)
-  plan-by (I.Memory M.Reference a) next = ap (λ (r : OrTrap Variable). referTo all next r) (resolve-by a)
-  plan-by (I.Memory M.TestDefined a) next = ap (λ (r : OrTrap Variable). testDefined all next r) (resolve-by a)
+  plan-by (I.Memory (M.AssignIndexed rank) a) next = simp (resolve-by, operands-by)
+  plan-by (I.Memory M.Assign a) next = rw (resolve-by a)
+  plan-by (I.Memory M.AssignNoResult a) next = rw (resolve-by a)
+  plan-by (I.Memory M.Reference a) next = rw (resolve-by a)
+  plan-by (I.Memory M.TestDefined a) next = rw (resolve-by a)
   plan-by (I.Stack S.Undefined) next = refl
   plan-by (I.Stack S.Eat1) next = refl
   plan-by (I.Stack S.Interchange) next = refl
@@ -121,12 +81,7 @@ module _ (f : Running) (all : Seen) where
   plan-by (I.Array R.Ravel) next = refl
   plan-by (I.Array R.Catenate) next = refl
   plan-by (I.Array R.IndexGenerator) next = refl
-  plan-by (I.Control C.Branch) next =
-      let line = lineOf (segmentOf f) (f .block) in
-      ap (λ (p : Plan). stopIf (ltb (all .count) 1) 3 4 p)
-      (and-same (valueOf (all .operand 0)) _ _ (λ v.
-      ap (λ (p : Plan). stopIf (ltb 1 (values.rank v)) 5 0 (cond (eqb (values.size v) 0) (gives (discards 1 ∷ jumps next ∷ [])) p))
-      (branch-by line (wholeOf (values.first (v .ravel))))))
+  plan-by (I.Control C.Branch) next = simp branch-by
   plan-by (I.Control C.Return) next = refl
   plan-by (I.Control C.NoOperation) next = refl
   plan-by (I.Control C.Breakpoint) next = refl
@@ -137,7 +92,7 @@ module _ (f : Running) (all : Seen) where
   plan-by (I.ConstantScalar w) next = refl
   plan-by (I.ConstantVector count first) next = refl
   plan-by (I.Call arguments alternate number) next = refl
-  plan-by (I.Index rank) next = ap (λ (cs : List Cell). indexOf next (rank % 2 ^ 4) (all .count) (all .origin) (all .operand 0) cs) (operands-by 1 (rank % 2 ^ 4))
+  plan-by (I.Index rank) next = simp operands-by
 
 module _ (s : List ℕ) (g : Sound s) (f : Running) (runs : Runs s (variablesOf (headerOf f)) (headerOf f .result)) where
   plan-theorem : (i : Instruction) (next : ℕ) → planOf f (seen s) i next ≡ planOf f (seenOf (length s - sbase s) (view s)) i next

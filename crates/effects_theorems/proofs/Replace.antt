@@ -122,8 +122,9 @@ module _ (s : List ℕ) (g : Sound s) (n w : ℕ) (c : Cell) (s1 : List ℕ) (fi
   low : Bounds s
   low = bounds g
 
-  downward1 : downward s1 b n ≡ downward s b n
-  downward1 =
+  -- the operands stand as they did, own what they hold, and stand above array storage
+  pub replace-cells : downward s1 b n ≡ downward s b n
+  replace-cells =
       downward-same s s1 b n (λ i p q. first .step .kept .rest i (omega (arith, low, can)) (inr (omega (arith, low, can))))
 
   counted : (x : ℕ) → count x (downward s1 b n ++ vs) ≡ count x (w ∷ owners s)
@@ -131,18 +132,21 @@ module _ (s : List ℕ) (g : Sound s) (n w : ℕ) (c : Cell) (s1 : List ℕ) (fi
       omega (
         arith,
         count-append x (downward s1 b n) vs,
-        ap (count x) downward1,
+        ap (count x) replace-cells,
         cells-count x (manual.replace n w m),
         cells-count x m,
         ap (count x) (temporaries-split s n (can .taken) (g .above)),
         count-append x (downward s b n) (drop n (m .temporaries)),
       )
 
-  own1 : Owned s1 (downward s1 b n ++ vs)
-  own1 = reown (downward s1 b n ++ vs) (λ x l. counted (arrayWord x)) (first .step .own)
+  pub replace-own : Owned s1 (downward s1 b n ++ vs)
+  replace-own = reown (downward s1 b n ++ vs) (λ x l. counted (arrayWord x)) (first .step .own)
+
+  pub replace-above : sbase s1 ≤ b
+  replace-above = omega (arith, kept-regs (first .step .kept) (low .low), low, can)
 
   second : Step s1 (downward s1 b n ++ vs) s2 vs
-  second = drops-own n vs b own1 (omega (arith, kept-regs (first .step .kept) (low .low), low, can))
+  second = drops-own n vs b replace-own replace-above
 
   kept2 : Kept s s2
   kept2 = kept-on (low .low) (first .step .kept) (second .kept)

@@ -126,8 +126,13 @@ moveRover-base s q p l k =
     ⊎-elim (λ e. ap (λ (u : List ℕ). getD u 1 0 / 2 ^ 16) (moveRover-yes s q p (e .0)) ∙ setRover-base s p l k)
     (λ e. ap (λ (u : List ℕ). getD u 1 0 / 2 ^ 16) (moveRover-no s q p (e .0))) (hit-cases (rover s) q)
 
+-- ROVER moves exactly where it stood on the vanished block
+pub moveRover-moves : (s : List ℕ) (q p : ℕ) → 1 < length s → p < 2 ^ 16
+    → (rover s ≡ q → rover (moveRover s q p) ≡ p) × (rover s ≢ q → rover (moveRover s q p) ≡ rover s)
+moveRover-moves s q p l k = (λ e. ap rover (moveRover-yes s q p e) ∙ setRover-rover s p l k, λ e. ap rover (moveRover-no s q p e))
+
 pub moveRover-rover : (s : List ℕ) (q p : ℕ) → 1 < length s → p < 2 ^ 16
     → (rover (moveRover s q p) ≡ p) ⊎ ((rover s ≢ q) × (rover (moveRover s q p) ≡ rover s))
 moveRover-rover s q p l k =
-    ⊎-elim (λ e. inl (ap rover (moveRover-yes s q p (e .0)) ∙ setRover-rover s p l k)) (λ e. inr (e .0, ap rover (moveRover-no s q p (e .0))))
-    (hit-cases (rover s) q)
+    let m = moveRover-moves s q p l k in
+    ⊎-elim (λ e. inl (m .0 (e .0))) (λ e. inr (e .0, m .1 (e .0))) (hit-cases (rover s) q)

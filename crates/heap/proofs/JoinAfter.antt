@@ -13,10 +13,10 @@ use Rattle.storage.specs.Release.{joinAfter}
 use Rattle.storage.specs.Heap.{Block, Walk, over, frees, hit, count, Links, Heap, free, array}
 use Rattle.heap.specs.Words.{Inner, Quiet, Leaves}
 use Rattle.heap.proofs.Walks.{over-le, walk-same, walk-replace, walk-at}
-use Rattle.heap.proofs.Counts.{hit-cases, hit-same, hit-eq, hit-not, frees-count, over-append, frees-within, frees-either}
+use Rattle.heap.proofs.Counts.{order, hit-cases, hit-same, hit-eq, hit-not, frees-count, over-append, frees-within, frees-either}
 use Rattle.heap.proofs.Ring.{links-same, links-last}
 use Rattle.heap.proofs.Search.{members-once, free-ring}
-use Rattle.heap.proofs.Fields.{markFree-length, markFree-other, markFree-first, markFree-end, moveRover-length, moveRover-other, moveRover-base, moveRover-rover}
+use Rattle.heap.proofs.Fields.{markFree-length, markFree-other, markFree-first, markFree-end, moveRover-length, moveRover-other, moveRover-base, moveRover-moves, moveRover-rover}
 use Rattle.heap.proofs.Inner.{inner-cases, inner-apart, inner-swap, inner-here}
 use Rattle.heap.proofs.Heaps.{heap-make, not-prev}
 use Rattle.heap.proofs.Hook.{hook-length, hook-other, hook-walk, relink-ring}
@@ -171,6 +171,15 @@ module _ {s : List ℕ} {t : List ℕ} (xs : List Block) (z k m : ℕ) (ys : Lis
         after-other i (omega (arith, place)) ∙ hook-other s a _ _ _ i
         (omega (arith, place, others (lastAt s q) last-in .4, others (nextAt s q) next-in .4))
 
+    -- the ring with the merged block in the place of the later one
+    linked : Links after a (b ∷ vs) a
+    linked = links-same s1 after a (b ∷ vs) a ring1 member-same (member-same a (omega (arith, hit-same a)))
+
+    moves : (rover s ≡ q → rover after ≡ a) × (rover s ≢ q → rover after ≡ rover s)
+    moves =
+        let r = moveRover-moves s2 q a (omega (arith, place, markFree-length s1 a (z + k + m), s1-length)) (omega (arith, place)) in
+        (λ e. r .0 (s2-rover ∙ e), λ e. r .1 (λ w. e (sym s2-rover ∙ w)) ∙ s2-rover)
+
     made : (t′ : List ℕ) × Heap after new t′
     made =
         let e : a + (z + k + m) ≡ q + m = omega arith in
@@ -179,7 +188,7 @@ module _ {s : List ℕ} {t : List ℕ} (xs : List Block) (z k m : ℕ) (ys : Lis
         (over-append (blockptr s) xs (free (z + k + m) ∷ ys) ∙ ap (λ (y : ℕ). over y ys) e ∙ sym
         (over-append (blockptr s) xs (array z k ∷ free m ∷ ys)))
         a (b ∷ vs)
-        (links-same s1 after a (b ∷ vs) a ring1 member-same (member-same a (omega (arith, hit-same a))))
+        linked
         (λ x. omega (arith, c x, after-count x))
         rover-in
 
@@ -218,6 +227,19 @@ module _ {s : List ℕ} {t : List ℕ} (xs : List Block) (z k m : ℕ) (ys : Lis
   pub after-heap : (t′ : List ℕ) × Heap (joinAfter s a (z + k) q) new t′
   unfolding joinAfter relink
   after-heap = rw size-q (made (turned .0) (turned .1) (turned .2) (turned .3))
+
+  pub after-links : (b : ℕ) (vs : List ℕ) → Links s q (b ∷ vs) q → ((x : ℕ) → count x (q ∷ b ∷ vs) ≡ count x ring)
+      → Links (joinAfter s a (z + k) q) a (b ∷ vs) a
+  unfolding joinAfter relink
+  after-links b vs h c = rw size-q (linked b vs h c)
+
+  pub after-moves : (rover s ≡ q → rover (joinAfter s a (z + k) q) ≡ a) × (rover s ≢ q → rover (joinAfter s a (z + k) q) ≡ rover s)
+  unfolding joinAfter relink
+  after-moves = rw size-q (moves (turned .0) (turned .1) (turned .2) (turned .3))
+
+  -- the array was not in the ring
+  pub after-apart : count a ring ≡ 0
+  after-apart = ⊎-elim (λ l. omega (arith, l)) (λ l. absurd (far a l (omega (arith, place)) .0 refl)) (order (count a ring) 0)
 
   pub after-leaves : Leaves s (joinAfter s a (z + k) q) new
   unfolding joinAfter relink

@@ -9,7 +9,7 @@ use lib.ListN.{getD, length}
 use Rattle.segment.specs.State.{sbase, rover, blockptr}
 use Rattle.segment.specs.Blocks.{freeAt}
 use Rattle.storage.specs.Release.{joinBefore}
-use Rattle.storage.specs.Heap.{Block, Walk, over, frees, count, Heap, free, array}
+use Rattle.storage.specs.Heap.{Block, Walk, over, frees, count, Links, Heap, free, array}
 use Rattle.heap.specs.Words.{Quiet, Leaves}
 use Rattle.heap.proofs.Walks.{over-le, walk-replace, walk-at}
 use Rattle.heap.proofs.Counts.{hit-cases, hit-same, frees-append, over-append, frees-within, frees-either}
@@ -90,11 +90,17 @@ module _ {s : List ℕ} {t : List ℕ} (xs : List Block) (m z k : ℕ) (ys : Lis
       ap (count x) (frees-append (blockptr s) xs (free (m + (z + k)) ∷ ys) ∙ ap (λ (a : ℕ). frees (blockptr s) xs ++ p ∷ frees a ys) e ∙ sym
       (frees-append (blockptr s) xs (free m ∷ array z k ∷ ys)))
 
-  after-rover : rover after ≡ rover s
-  after-rover = ap (λ (w : ℕ). w % 2 ^ 16) (after-other 1 (omega (arith, place)))
+  pub before-rover : rover after ≡ rover s
+  before-rover = ap (λ (w : ℕ). w % 2 ^ 16) (after-other 1 (omega (arith, place)))
 
   above : (i : ℕ) → over (blockptr s) old + 2 ≤ i → getD after i 0 ≡ getD s i 0
   above i h = after-other i (omega (arith, place))
+
+  -- the ring is as it was, from any member
+  pub before-links : (d : ℕ) (u : List ℕ) → Links s d u d
+      → ((x : ℕ) → count x (d ∷ u) ≡ count x (over (blockptr s) old ∷ frees (blockptr s) old)) → Links after d u d
+  before-links d u h c =
+      links-same s after d u d h (λ x k. member-same x (omega (arith, k, c x))) (member-same d (omega (arith, c d, hit-same d)))
 
   pub before-heap : (t′ : List ℕ) × Heap after new t′
   before-heap =
@@ -103,11 +109,9 @@ module _ {s : List ℕ} {t : List ℕ} (xs : List Block) (m z k : ℕ) (ys : Lis
       (above (sbase s - 1) (omega (arith, g .top))) after-walk
       (over-append (blockptr s) xs (free (m + (z + k)) ∷ ys) ∙ ap (λ (a : ℕ). over a ys) e ∙ sym
       (over-append (blockptr s) xs (free m ∷ array z k ∷ ys)))
-      (rover s) t
-      (links-same s after (rover s) t (rover s) (g .links) (λ x c. member-same x (omega (arith, c, g .once x)))
-      (member-same (rover s) (omega (arith, g .once (rover s), hit-same (rover s)))))
+      (rover s) t (before-links (rover s) t (g .links) (g .once))
       (λ x. omega (arith, g .once x, after-count x))
-      (rw after-rover (omega (arith, g .once (rover s), hit-same (rover s), after-count (rover s))))
+      (rw before-rover (omega (arith, g .once (rover s), hit-same (rover s), after-count (rover s))))
 
   quiet-same : (i : ℕ) → i ≢ 1 → Quiet s new i → getD after i 0 ≡ getD s i 0
   quiet-same i n (inl h) = after-other i (omega (arith, place, h))

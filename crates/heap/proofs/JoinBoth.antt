@@ -16,7 +16,7 @@ use Rattle.heap.proofs.Walks.{over-le, walk-same, walk-replace, walk-at
 use Rattle.heap.proofs.Counts.{hit-cases, hit-same, hit-eq, hit-not, frees-count, over-append, frees-within, frees-either}
 use Rattle.heap.proofs.Ring.{links-same, links-last}
 use Rattle.heap.proofs.Search.{members-once, free-ring}
-use Rattle.heap.proofs.Fields.{markFree-length, markFree-other, markFree-first, markFree-end, moveRover-length, moveRover-other, moveRover-base, moveRover-rover}
+use Rattle.heap.proofs.Fields.{markFree-length, markFree-other, markFree-first, markFree-end, moveRover-length, moveRover-other, moveRover-base, moveRover-moves, moveRover-rover}
 use Rattle.heap.proofs.Inner.{inner-cases, inner-apart, inner-swap}
 use Rattle.heap.proofs.Heaps.{heap-make}
 use Rattle.heap.proofs.Unlink.{unlink-ring, unlink-length, unlink-other, unlink-walk}
@@ -155,6 +155,15 @@ module _ {s : List ℕ} {t : List ℕ} (xs : List Block) (j z k m : ℕ) (ys : L
         after-other i (omega (arith, place)) ∙ unlink-other s q i
         (omega (arith, place, others (lastAt s q) last-in .3, others (nextAt s q) next-in .3))
 
+    -- the ring without the later block
+    linked : Links after b vs b
+    linked = links-same (unlink s q) after b vs b ring1 member-same (member-same b (omega (arith, hit-same b)))
+
+    moves : (rover s ≡ q → rover after ≡ p) × (rover s ≢ q → rover after ≡ rover s)
+    moves =
+        let r = moveRover-moves s2 q p (omega (arith, place, markFree-length (unlink s q) p (j + (z + k) + m), unlink-length s q)) (omega (arith, place)) in
+        (λ e. r .0 (s2-rover ∙ e), λ e. r .1 (λ w. e (sym s2-rover ∙ w)) ∙ s2-rover)
+
     made : (t′ : List ℕ) × Heap after new t′
     made =
         let e : p + (j + (z + k) + m) ≡ q + m = omega arith in
@@ -162,7 +171,7 @@ module _ {s : List ℕ} {t : List ℕ} (xs : List Block) (j z k m : ℕ) (ys : L
         (after-low 0 (omega arith) (omega arith)) (after-low 4 (omega arith) (omega arith)) (above (sbase s - 1) (omega (arith, g .top))) after-walk
         (over-append (blockptr s) xs (free (j + (z + k) + m) ∷ ys) ∙ ap (λ (y : ℕ). over y ys) e ∙ sym (over-append (blockptr s) xs tail))
         b vs
-        (links-same (unlink s q) after b vs b ring1 member-same (member-same b (omega (arith, hit-same b))))
+        linked
         (λ x. omega (arith, c x, after-count x))
         rover-in
 
@@ -198,6 +207,15 @@ module _ {s : List ℕ} {t : List ℕ} (xs : List Block) (j z k m : ℕ) (ys : L
   pub both-heap : (t′ : List ℕ) × Heap (joinBoth s p (j + (z + k)) q) new t′
   unfolding joinBoth
   both-heap = rw size-q (made (turned .0) (turned .1) (turned .2) (turned .3))
+
+  pub both-links : (b : ℕ) (vs : List ℕ) → Links s q (b ∷ vs) q → ((x : ℕ) → count x (q ∷ b ∷ vs) ≡ count x ring)
+      → Links (joinBoth s p (j + (z + k)) q) b vs b
+  unfolding joinBoth
+  both-links b vs h c = rw size-q (linked b vs h c)
+
+  pub both-moves : (rover s ≡ q → rover (joinBoth s p (j + (z + k)) q) ≡ p) × (rover s ≢ q → rover (joinBoth s p (j + (z + k)) q) ≡ rover s)
+  unfolding joinBoth
+  both-moves = rw size-q (moves (turned .0) (turned .1) (turned .2) (turned .3))
 
   pub both-leaves : Leaves s (joinBoth s p (j + (z + k)) q) new
   unfolding joinBoth

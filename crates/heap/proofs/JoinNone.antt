@@ -13,7 +13,7 @@ use Rattle.storage.specs.Release.{joinNone}
 use Rattle.storage.specs.Heap.{Block, Walk, over, frees, hit, count, Links, Heap, free, array}
 use Rattle.heap.specs.Words.{Inner, Quiet, Leaves}
 use Rattle.heap.proofs.Walks.{over-le, walk-replace, walk-at}
-use Rattle.heap.proofs.Counts.{hit-cases, hit-same, frees-count, over-append, frees-within, frees-either}
+use Rattle.heap.proofs.Counts.{order, hit-cases, hit-same, frees-count, over-append, frees-within, frees-either}
 use Rattle.heap.proofs.Ring.{links-same, ring-at, links-first}
 use Rattle.heap.proofs.Search.{members-once}
 use Rattle.heap.proofs.Fields.{setPrevFree-length, setPrevFree-other, setPrevFree-same, markFree-length, markFree-other, markFree-first, markFree-end}
@@ -77,12 +77,6 @@ module _ {s : List ℕ} {t : List ℕ} (xs : List Block) (z k : ℕ) (ys : List 
   next-in : 0 < count next ring
   next-in = omega (arith, turned .2 next, links-first s end (turned .0) (turned .1))
 
-  ring1 : Links s1 end (a ∷ turned .0) end
-  ring1 =
-      insert-ring s a (next * 2 ^ 16 + end) end next (turned .0) (turned .1) (λ x. omega (arith, turned .2 x, members-once g x))
-      (λ x c. let f = far x (omega (arith, c, turned .2 x)) in (omega (arith, place, f), f .0))
-      (omega (arith, place)) (omega (arith, place)) refl (omega (arith, place)) (omega (arith, place))
-
   walk1 : Walk s1 (blockptr s) false old
   walk1 =
       hook-walk s a _ end next (blockptr s) false old (g .walk) (inner-here (blockptr s) xs z k ys (a + 1) (omega arith) (omega (arith, place)))
@@ -122,28 +116,54 @@ module _ {s : List ℕ} {t : List ℕ} (xs : List Block) (z k : ℕ) (ys : List 
   after-count : (x : ℕ) → count x (frees (blockptr s) new) ≡ hit x a + count x (frees (blockptr s) old)
   after-count x = omega (arith, frees-count x (blockptr s) xs (free (z + k) ∷ ys), frees-count x (blockptr s) xs (array z k ∷ ys))
 
-  member-same : (x : ℕ) → 0 < count x (end ∷ a ∷ turned .0) → getD after (x + 1) 0 ≡ getD s1 (x + 1) 0
-  member-same x c =
-      ⊎-elim (λ e. after-other (x + 1) (omega (arith, place, e)))
-      (λ e. after-other (x + 1) (omega (arith, place, far x (omega (arith, c, e, turned .2 x))))) (hit-cases x a)
+  -- the ring from the dummy, with the block right behind it
+  module _ (u : List ℕ) (h : Links s end u end) (c : (x : ℕ) → count x (end ∷ u) ≡ count x ring) where
+    ring1 : Links s1 end (a ∷ u) end
+    ring1 =
+        insert-ring s a (next * 2 ^ 16 + end) end next u h (λ x. omega (arith, c x, members-once g x))
+        (λ x k. let f = far x (omega (arith, k, c x)) in (omega (arith, place, f), f .0))
+        (omega (arith, place)) (omega (arith, place)) refl (omega (arith, place)) (omega (arith, place))
+
+    member-same : (x : ℕ) → 0 < count x (end ∷ a ∷ u) → getD after (x + 1) 0 ≡ getD s1 (x + 1) 0
+    member-same x k =
+        ⊎-elim (λ e. after-other (x + 1) (omega (arith, place, e)))
+        (λ e. after-other (x + 1) (omega (arith, place, far x (omega (arith, k, e, c x))))) (hit-cases x a)
+
+    linked : Links after end (a ∷ u) end
+    linked = links-same s1 after end (a ∷ u) end ring1 member-same (member-same end (omega (arith, hit-same end)))
 
   above : (i : ℕ) → end + 2 ≤ i → getD after i 0 ≡ getD s i 0
   above i h = after-other i (omega (arith, place)) ∙ hook-other s a _ end next i (omega (arith, place, far next next-in))
 
+  same-rover : rover after ≡ rover s
+  same-rover = ap (λ (w : ℕ). w % 2 ^ 16) (after-low 1 (omega arith))
+
   made : (t′ : List ℕ) × Heap after new t′
   made =
-      let ro : rover after ≡ rover s = ap (λ (w : ℕ). w % 2 ^ 16) (after-low 1 (omega arith)) in
       heap-make g after new (setPrevFree-length _ _ ∙ markFree-length s1 _ _ ∙ s1-length) (after-low 0 (omega arith)) (after-low 4 (omega arith))
       (above (sbase s - 1) (omega (arith, g .top))) after-walk
       (over-append (blockptr s) xs (free (z + k) ∷ ys) ∙ sym (over-append (blockptr s) xs (array z k ∷ ys)))
       end (a ∷ turned .0)
-      (links-same s1 after end (a ∷ turned .0) end ring1 member-same (member-same end (omega (arith, hit-same end))))
+      (linked (turned .0) (turned .1) (turned .2))
       (λ x. omega (arith, turned .2 x, after-count x))
-      (rw ro (omega (arith, g .once (rover s), hit-same (rover s), after-count (rover s))))
+      (rw same-rover (omega (arith, g .once (rover s), hit-same (rover s), after-count (rover s))))
 
   pub none-heap : (t′ : List ℕ) × Heap (joinNone s a (z + k) (a + (z + k))) new t′
   unfolding joinNone
   none-heap = let e : dummy s ≡ end = omega (arith, g .top) in rw (insert-is s a end e) made
+
+  pub none-links : (u : List ℕ) → Links s end u end → ((x : ℕ) → count x (end ∷ u) ≡ count x ring)
+      → Links (joinNone s a (z + k) (a + (z + k))) end (a ∷ u) end
+  unfolding joinNone
+  none-links u h c = let e : dummy s ≡ end = omega (arith, g .top) in rw (insert-is s a end e) (linked u h c)
+
+  pub none-rover : rover (joinNone s a (z + k) (a + (z + k))) ≡ rover s
+  unfolding joinNone
+  none-rover = let e : dummy s ≡ end = omega (arith, g .top) in rw (insert-is s a end e) same-rover
+
+  -- the block was not in the ring
+  pub none-apart : count a ring ≡ 0
+  none-apart = ⊎-elim (λ l. omega (arith, l)) (λ l. absurd (far a l .0 refl)) (order (count a ring) 0)
 
   was : (i : ℕ) → Inner (blockptr s) new i → Inner (blockptr s) old i
   was i h = inner-swap (blockptr s) xs (free (z + k) ∷ ys) (array z k ∷ ys) i (λ q. inr q) h

@@ -67,20 +67,27 @@ module _ (s : List ℕ) (a n : ℕ) (sp : spanAt s a ≡ n) where
   is-none : prevFreeAt s a ≡ false → freeAt s (a + n) ≡ false → release s a ≡ joinNone s a n (a + n)
   is-none f h = release-none s a f (rw sp h) ∙ rw sp
 
--- the theorem from its parts
-released : {s : List ℕ} {bs : List Block} {t : List ℕ} → Heap s bs t → (a z k : ℕ) (s′ : List ℕ) (cs : List Block)
-    → (sizeAt s a ≡ z) × (slopAt s a ≡ k) → release s a ≡ s′
-    → (t′ : List ℕ) × Heap s′ cs t′ → Leaves s s′ cs → Freed a z k (blockptr s) bs cs → Release s bs a
-released {s} {bs} g a z k s′ cs n e r l f = record {
-  blocks = cs;
-  ring = r .0;
-  heap = rw e (r .1);
-  freed = rw (n .0, n .1) f;
-  words = λ i. let r = freed-words a z k (blockptr s) bs cs f i in
-      (λ h. ⊎-elim (λ u. inl u) (λ u. inr (omega (arith, n, u))) (r .0 h), λ h. r .1 (⊎-elim (λ u. inl u) (λ u. inr (omega (arith, n, u))) h));
-  others = λ y v. (λ h. freed-back s a z k (blockptr s) false bs cs (g .walk) f y v h, λ h. freed-rest a z k (blockptr s) bs cs f y v (h .0) (h .1));
-  leaves = rw e l;
-}
+-- the four ways of a release, by the blocks around the array
+pub data Way (s t : List ℕ) : List Block → ℕ → Type 0 where
+  both : (xs : List Block) (m z k n : ℕ) (ys : List Block) → Heap s (xs ++ free m ∷ array z k ∷ free n ∷ ys) t
+      → (sizeAt s (over (blockptr s) xs + m) ≡ z) × (slopAt s (over (blockptr s) xs + m) ≡ k)
+      → release s (over (blockptr s) xs + m) ≡ joinBoth s (over (blockptr s) xs) (m + (z + k)) (over (blockptr s) xs + m + (z + k))
+      → Way s t (xs ++ free m ∷ array z k ∷ free n ∷ ys) (over (blockptr s) xs + m)
+  before : (xs : List Block) (m z k : ℕ) (ys : List Block) → Heap s (xs ++ free m ∷ array z k ∷ ys) t
+      → (sizeAt s (over (blockptr s) xs + m) ≡ z) × (slopAt s (over (blockptr s) xs + m) ≡ k)
+      → freeAt s (over (blockptr s) xs + m + (z + k)) ≡ false
+      → release s (over (blockptr s) xs + m) ≡ joinBefore s (over (blockptr s) xs) (m + (z + k)) (over (blockptr s) xs + m + (z + k))
+      → Way s t (xs ++ free m ∷ array z k ∷ ys) (over (blockptr s) xs + m)
+  after : (xs : List Block) (z k n : ℕ) (ys : List Block) → Heap s (xs ++ array z k ∷ free n ∷ ys) t
+      → (sizeAt s (over (blockptr s) xs) ≡ z) × (slopAt s (over (blockptr s) xs) ≡ k)
+      → prevFreeAt s (over (blockptr s) xs) ≡ false
+      → release s (over (blockptr s) xs) ≡ joinAfter s (over (blockptr s) xs) (z + k) (over (blockptr s) xs + (z + k))
+      → Way s t (xs ++ array z k ∷ free n ∷ ys) (over (blockptr s) xs)
+  none : (xs : List Block) (z k : ℕ) (ys : List Block) → Heap s (xs ++ array z k ∷ ys) t
+      → (sizeAt s (over (blockptr s) xs) ≡ z) × (slopAt s (over (blockptr s) xs) ≡ k)
+      → prevFreeAt s (over (blockptr s) xs) ≡ false → freeAt s (over (blockptr s) xs + (z + k)) ≡ false
+      → release s (over (blockptr s) xs) ≡ joinNone s (over (blockptr s) xs) (z + k) (over (blockptr s) xs + (z + k))
+      → Way s t (xs ++ array z k ∷ ys) (over (blockptr s) xs)
 
 -- the block before is free
 module _ {s : List ℕ} {t : List ℕ} (xs : List Block) (m z k : ℕ) (ys : List Block) (g : Heap s (xs ++ free m ∷ array z k ∷ ys) t) where
@@ -97,23 +104,20 @@ module _ {s : List ℕ} {t : List ℕ} (xs : List Block) (m z k : ℕ) (ys : Lis
   fields = array-fields s (p + m) true z k (at .1 .1 .0) (omega (arith, place))
 
   module _ (f : prevFreeAt s (p + m) ≡ true) where
-    before : freeAt s (p + m + (z + k)) ≡ false → Release s (xs ++ free m ∷ array z k ∷ ys) (p + m)
-    before h =
-        released g (p + m) z k _ _ fields
+    way-before : freeAt s (p + m + (z + k)) ≡ false → Way s t (xs ++ free m ∷ array z k ∷ ys) (p + m)
+    way-before h =
+        before xs m z k ys g fields h
         (is-before s (p + m) (z + k) (omega (arith, fields)) m p (omega (arith, place, at .1 .0 .end)) (omega arith) f h)
-        (before-heap xs m z k ys g h) (before-leaves xs m z k ys g h) (freed-further _ _ _ _ xs _ _ (joinsBefore refl))
 
-    both : (n : ℕ) (vs : List Block) → ys ≡ free n ∷ vs → freeAt s (p + m + (z + k)) ≡ true → Release s (xs ++ free m ∷ array z k ∷ ys) (p + m)
-    both n vs q h =
-        let g′ : Heap s (xs ++ free m ∷ array z k ∷ free n ∷ vs) t = rw q at g in
+    way-both : (n : ℕ) (vs : List Block) → ys ≡ free n ∷ vs → freeAt s (p + m + (z + k)) ≡ true → Way s t (xs ++ free m ∷ array z k ∷ ys) (p + m)
+    way-both n vs q h =
         rw q
-        (released g′ (p + m) z k _ _ fields
-        (is-both s (p + m) (z + k) (omega (arith, fields)) m p (omega (arith, place, at .1 .0 .end)) (omega arith) f h)
-        (both-heap xs m z k n vs g′) (both-leaves xs m z k n vs g′) (freed-further _ _ _ _ xs _ _ (joinsBoth refl)))
+        (both xs m z k n vs (rw q at g) fields
+        (is-both s (p + m) (z + k) (omega (arith, fields)) m p (omega (arith, place, at .1 .0 .end)) (omega arith) f h))
 
-    release-front : Release s (xs ++ free m ∷ array z k ∷ ys) (p + m)
-    release-front =
-        ⊎-elim (λ h. let r = next-free s (p + m + (z + k)) false ys (at .1 .1 .1) (place .1) h in both (r .0) (r .1) (r .2) h) before
+    way-front : Way s t (xs ++ free m ∷ array z k ∷ ys) (p + m)
+    way-front =
+        ⊎-elim (λ h. let r = next-free s (p + m + (z + k)) false ys (at .1 .1 .1) (place .1) h in way-both (r .0) (r .1) (r .2) h) way-before
         (decide (freeAt s (p + m + (z + k))))
 
 -- it is not
@@ -131,41 +135,62 @@ module _ {s : List ℕ} {t : List ℕ} (xs : List Block) (z k : ℕ) (ys : List 
   fields′ = array-fields s a (at′ .0) z k (at′ .1 .0) (omega (arith, place′))
 
   module _ (f : prevFreeAt s a ≡ false) where
-    none : freeAt s (a + (z + k)) ≡ false → Release s (xs ++ array z k ∷ ys) a
-    none h =
-        released g a z k _ _ fields′ (is-none s a (z + k) (omega (arith, fields′)) f h) (none-heap xs z k ys g f h) (none-leaves xs z k ys g f h)
-        (freed-further _ _ _ _ xs _ _ (joinsNone refl))
+    way-none : freeAt s (a + (z + k)) ≡ false → Way s t (xs ++ array z k ∷ ys) a
+    way-none h = none xs z k ys g fields′ f h (is-none s a (z + k) (omega (arith, fields′)) f h)
 
-    after : (n : ℕ) (vs : List Block) → ys ≡ free n ∷ vs → freeAt s (a + (z + k)) ≡ true → Release s (xs ++ array z k ∷ ys) a
-    after n vs q h =
-        let g′ : Heap s (xs ++ array z k ∷ free n ∷ vs) t = rw q at g in
-        rw q
-        (released g′ a z k _ _ fields′ (is-after s a (z + k) (omega (arith, fields′)) f h) (after-heap xs z k n vs g′ f)
-        (after-leaves xs z k n vs g′ f)
-        (freed-further _ _ _ _ xs _ _ (joinsAfter refl)))
+    way-after : (n : ℕ) (vs : List Block) → ys ≡ free n ∷ vs → freeAt s (a + (z + k)) ≡ true → Way s t (xs ++ array z k ∷ ys) a
+    way-after n vs q h = rw q (after xs z k n vs (rw q at g) fields′ f (is-after s a (z + k) (omega (arith, fields′)) f h))
 
-    release-alone : Release s (xs ++ array z k ∷ ys) a
-    release-alone =
-        ⊎-elim (λ h. let r = next-free s (a + (z + k)) false ys (at′ .1 .1) (place′ .1) h in after (r .0) (r .1) (r .2) h) none
+    way-alone : Way s t (xs ++ array z k ∷ ys) a
+    way-alone =
+        ⊎-elim (λ h. let r = next-free s (a + (z + k)) false ys (at′ .1 .1) (place′ .1) h in way-after (r .0) (r .1) (r .2) h) way-none
         (decide (freeAt s (a + (z + k))))
 
-  front : (vs : List Block) (m : ℕ) → xs ≡ vs ++ free m ∷ [] → prevFreeAt s a ≡ true → Release s (xs ++ array z k ∷ ys) a
+  front : (vs : List Block) (m : ℕ) → xs ≡ vs ++ free m ∷ [] → prevFreeAt s a ≡ true → Way s t (xs ++ array z k ∷ ys) a
   front vs m e f =
       let o : over (blockptr s) xs ≡ over (blockptr s) vs + m = ap (over (blockptr s)) e ∙ over-append (blockptr s) vs (free m ∷ []) in
       let l : xs ++ array z k ∷ ys ≡ vs ++ free m ∷ array z k ∷ ys = ap (λ (v : List Block). v ++ array z k ∷ ys) e ∙ append-assoc vs (free m ∷ [])
       (array z k ∷ ys) in
-      rw (l, o) (release-front vs m z k ys (rw l at g) (rw o at f))
+      rw (l, o) (way-front vs m z k ys (rw l at g) (rw o at f))
 
-  release-place : Release s (xs ++ array z k ∷ ys) a
-  release-place =
+  way-place : Way s t (xs ++ array z k ∷ ys) a
+  way-place =
       ⊎-elim
       (λ f. ⊎-elim (λ r. front (r .0) (r .1) (r .2) f) (λ w. absurd (array-before s a z k (w .0) (omega (arith, place′)) f))
       (walk-last s (blockptr s) xs (array z k ∷ ys) (g .walk)))
-      release-alone (decide (prevFreeAt s a))
+      way-alone (decide (prevFreeAt s a))
+
+pub way : {s : List ℕ} {bs : List Block} {t : List ℕ} → Heap s bs t → (x z : ℕ) → ArrayIn (blockptr s) bs x z → Way s t bs x
+way {s} {bs} {t} g x z u = let p = array-split (blockptr s) bs x z u in go (p .0) (p .1) (p .2) (p .3) (p .4)
+  where
+    go : (xs : List Block) (k : ℕ) (ys : List Block) → bs ≡ xs ++ array z k ∷ ys → over (blockptr s) xs ≡ x → Way s t bs x
+    go xs k ys e q = rw (e, ← q) (way-place xs z k ys (rw e at g))
+
+-- the theorem from its parts
+released : {s : List ℕ} {bs : List Block} {t : List ℕ} → Heap s bs t → (a z k : ℕ) (s′ : List ℕ) (cs : List Block)
+    → (sizeAt s a ≡ z) × (slopAt s a ≡ k) → release s a ≡ s′
+    → (t′ : List ℕ) × Heap s′ cs t′ → Leaves s s′ cs → Freed a z k (blockptr s) bs cs → Release s bs a
+released {s} {bs} g a z k s′ cs n e r l f = record {
+  blocks = cs;
+  ring = r .0;
+  heap = rw e (r .1);
+  freed = rw (n .0, n .1) f;
+  words = λ i. let r = freed-words a z k (blockptr s) bs cs f i in
+      (λ h. ⊎-elim (λ u. inl u) (λ u. inr (omega (arith, n, u))) (r .0 h), λ h. r .1 (⊎-elim (λ u. inl u) (λ u. inr (omega (arith, n, u))) h));
+  others = λ y v. (λ h. freed-back s a z k (blockptr s) false bs cs (g .walk) f y v h, λ h. freed-rest a z k (blockptr s) bs cs f y v (h .0) (h .1));
+  leaves = rw e l;
+}
+
+release-way : {s t : List ℕ} {bs : List Block} {x : ℕ} → Way s t bs x → Release s bs x
+release-way (both xs m z k n ys g f e) =
+    released g _ z k _ _ f e (both-heap xs m z k n ys g) (both-leaves xs m z k n ys g) (freed-further _ _ _ _ xs _ _ (joinsBoth refl))
+release-way (before xs m z k ys g f h e) =
+    released g _ z k _ _ f e (before-heap xs m z k ys g h) (before-leaves xs m z k ys g h) (freed-further _ _ _ _ xs _ _ (joinsBefore refl))
+release-way (after xs z k n ys g f o e) =
+    released g _ z k _ _ f e (after-heap xs z k n ys g o) (after-leaves xs z k n ys g o) (freed-further _ _ _ _ xs _ _ (joinsAfter refl))
+release-way (none xs z k ys g f o h e) =
+    released g _ z k _ _ f e (none-heap xs z k ys g o h) (none-leaves xs z k ys g o h) (freed-further _ _ _ _ xs _ _ (joinsNone refl))
 
 -- the theorem of a release
 pub release-theorem : {s : List ℕ} {bs : List Block} {t : List ℕ} → Heap s bs t → (x z : ℕ) → ArrayIn (blockptr s) bs x z → Release s bs x
-release-theorem {s} {bs} {t} g x z u = let p = array-split (blockptr s) bs x z u in go (p .0) (p .1) (p .2) (p .3) (p .4)
-  where
-    go : (xs : List Block) (k : ℕ) (ys : List Block) → bs ≡ xs ++ array z k ∷ ys → over (blockptr s) xs ≡ x → Release s bs x
-    go xs k ys e q = rw (e, ← q) (release-place xs z k ys (rw e at g))
+release-theorem g x z u = release-way (way g x z u)

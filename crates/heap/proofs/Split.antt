@@ -11,7 +11,7 @@ use Rattle.segment.specs.State.{sbase, rover, blockptr, setRover}
 use Rattle.segment.specs.Blocks.{nextAt}
 use Rattle.storage.specs.Ring.{clearPrevFree}
 use Rattle.storage.specs.Request.{split}
-use Rattle.storage.specs.Heap.{Block, Walk, over, frees, count, Heap, free, array}
+use Rattle.storage.specs.Heap.{Block, Walk, over, frees, count, Links, Heap, free, array}
 use Rattle.heap.specs.Words.{Quiet, Leaves}
 use Rattle.heap.proofs.Walks.{over-le, walk-replace, walk-clear}
 use Rattle.heap.proofs.Counts.{hit-cases, hit-same, frees-append, frees-count, over-append, frees-cases}
@@ -169,20 +169,24 @@ module _ {s : List ℕ} {t : List ℕ} (xs : List Block) (n : ℕ) (ys : List Bl
       ∙ ap (λ (a : ℕ). frees (blockptr s) xs ++ f ∷ frees a ys) e
       ∙ sym (frees-append (blockptr s) xs (free n ∷ ys))
 
-  after-rover : rover after ≡ nextAt s f
-  after-rover = setRover-rover _ _ (omega (arith, split-length s f (n - size) size, place)) next-small
+  pub split-rover : rover after ≡ nextAt s f
+  split-rover = setRover-rover _ _ (omega (arith, split-length s f (n - size) size, place)) next-small
 
   above : (i : ℕ) → end + 2 ≤ i → getD after i 0 ≡ getD s i 0
   above i h = after-same i (omega (arith, place)) (inr (omega (arith, place)))
+
+  -- the ring is as it was
+  pub split-links : Links after (rover s) t (rover s)
+  split-links = links-same s after (rover s) t (rover s) (g .links) member-same (member-same (rover s) (omega (arith, hit-same (rover s))))
 
   pub split-heap : (t′ : List ℕ) × Heap after new t′
   split-heap =
       heap-make g after new after-length (after-same 0 (omega arith) (inl (omega (arith, place))))
       (after-same 4 (omega arith) (inl (omega (arith, place))))
       (above (sbase s - 1) (omega (arith, g .top))) after-walk after-over
-      (rover s) t (links-same s after (rover s) t (rover s) (g .links) member-same (member-same (rover s) (omega (arith, hit-same (rover s)))))
+      (rover s) t split-links
       (λ x. rw after-frees (g .once x))
-      (rw (after-rover, after-frees) (omega (arith, next-member, g .once (nextAt s f))))
+      (rw (split-rover, after-frees) (omega (arith, next-member, g .once (nextAt s f))))
 
   quiet-same : (i : ℕ) → i ≢ 1 → Quiet s old i → getD after i 0 ≡ getD s i 0
   quiet-same i k (inl q) = after-same i k (inl (omega (arith, place)))

@@ -158,21 +158,25 @@ module _ {s : List ℕ} {t : List ℕ} (xs : List Block) (n : ℕ) (ys : List Bl
           ap (λ (a : ℕ). count x (frees a ys)) e,
         )
 
-    after-rover : rover after ≡ b
-    after-rover =
+    pub whole-rover : rover after ≡ b
+    whole-rover =
         setRover-rover _ _ (omega (arith, whole-length s f (n - size) size, place)) (omega (arith, place, within (nextAt s f) next-in)) ∙ h .0 .next
 
     above : (i : ℕ) → end + 2 ≤ i → getD after i 0 ≡ getD s i 0
     above i k =
         after-same i (omega (arith, place)) ∙ unlink-other s f i (omega (arith, place, within (lastAt s f) last-in, within (nextAt s f) next-in))
 
+    -- the ring without the found block
+    pub whole-links : Links after b vs b
+    whole-links = links-same (unlink s f) after b vs b ring1 member-same (member-same b (omega (arith, hit-same b)))
+
     whole-after : (t′ : List ℕ) × Heap after new t′
     whole-after =
         heap-make g after new after-length (after-low 0 (omega arith) (omega arith)) (after-low 4 (omega arith) (omega arith))
         (above (sbase s - 1) (omega (arith, g .top))) after-walk after-over
-        b vs (links-same (unlink s f) after b vs b ring1 member-same (member-same b (omega (arith, hit-same b))))
+        b vs whole-links
         (λ x. omega (arith, c x, after-count x))
-        (rw after-rover (omega (arith, c b, after-count b, hit-same b)))
+        (rw whole-rover (omega (arith, c b, after-count b, hit-same b)))
 
     quiet-same : (i : ℕ) → i ≢ 1 → Quiet s old i → getD after i 0 ≡ getD s i 0
     quiet-same i k (inl q) =

@@ -1,0 +1,1 @@
+// What is proved of the rules of placement: a proof library, with no code.
