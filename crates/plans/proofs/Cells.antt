@@ -2,7 +2,7 @@
 use Prim.Native.Nat.{ℕ, zero, suc, _+_, _/_, _^_, _<_}
 use mathlib.Core.Path.{_≡_, refl, sym, _∙_, ap}
 use mathlib.Core.Bool.{Bool, true, false, cond, _&&_}
-use mathlib.Core.List.{List, [], _∷_}
+use mathlib.Core.List.{List, []}
 use native.Mathlib.Omega.{arith}
 use lib.Dec.{leb, eqb}
 use lib.ListN.{length}
@@ -26,7 +26,7 @@ use Rattle.effects_theorems.proofs.Frames.{part-length}
 use Rattle.plans.specs.Fitting.{Words}
 use Rattle.plans.proofs.Given.{Given, and-true}
 use Rattle.plans.proofs.Lists.{All, all-count, count-all, all-getD}
-use Rattle.plans.proofs.Values.{Length, valid-length, ValueFits}
+use Rattle.plans.proofs.Values.{Length, valid-length, ValueFits, scalar-fits}
 
 abbrev pub CellFits : Cell → Type 0
 CellFits undefined = Unit {0}
@@ -58,9 +58,6 @@ array-address w a e h =
     array-of w h ∙ ap (λ (b : SegmentAddress). arrayWord (b .0)) (sym q)
 
 module _ {s owners : List ℕ} (o : Owned s owners) (words : Words s) where
-  scalar-fits : (w : ℕ) → w < 2 ^ 32 → isScalar w ≡ true → ValueFits (values.value [] (w ∷ []))
-  scalar-fits w l h = record { rank = omega arith; size = refl; short = omega arith; lengths = tt; scalars = (record { word = l; scalar = h }, tt) }
-
   array-fits : (x size : ℕ) → Inside s x size → whole s x ≡ true → ValueFits (values.value (shapeAt s x) (elementsAt s x))
   unfolding whole shapeAt elementsAt
   array-fits x size i e =
@@ -80,7 +77,7 @@ module _ {s owners : List ℕ} (o : Owned s owners) (words : Words s) where
 
   kind-fits : (w : ℕ) → w < 2 ^ 32 → 0 < count w owners → (k : Kind) → kindOf w ≡ k → IfArray w k → CellFits (readKind s w k)
   unfolding isScalar
-  kind-fits w l c (K.Scalar k) e h = scalar-fits w l (ap scalarKind e)
+  kind-fits w l c (K.Scalar k) e h = scalar-fits w (record { word = l; scalar = ap scalarKind e })
   kind-fits w l c (K.Array a) e h = go (whole s (a .0)) refl
     where
       go : (b : Bool) → whole s (a .0) ≡ b → CellFits (cond b (value (shapeAt s (a .0)) (elementsAt s (a .0))) invalid)

@@ -3,15 +3,18 @@ use Prim.Native.Nat.{ℕ}
 use mathlib.Core.Path.{_≡_, refl, sym, subst}
 use mathlib.Core.Bool.{Bool, true, false, cond, _&&_}
 use Rattle.manual.specs.OrTrap.{OrTrap, gives, trap, andThen, stopIf}
+use Rattle.manual.specs.Cases.{OfPlan}
+use Rattle.manual.proofs.Lists.{stops, goes, either}
 use Rattle.effects_theorems.proofs.Tests.{never}
 
+abbrev pub AnyTrap : ℕ → ℕ → Type 0
+AnyTrap class number = Unit {0}
+
 abbrev pub Given : {A : Type 0} → (A → Type 0) → OrTrap A → Type 0
-Given P (gives a) = P a
-Given P (trap class number) = Unit {0}
+Given P x = OfPlan P AnyTrap x
 
 pub passed : {A : Type 0} (P : A → Type 0) (b : Bool) (class number : ℕ) (x : OrTrap A) → (b ≡ false → Given P x) → Given P (stopIf b class number x)
-passed P true class number x h = tt
-passed P false class number x h = h refl
+passed P b class number x h = stops P AnyTrap b class number x tt h
 
 pub chained : {A B : Type 0} (P : A → Type 0) (Q : B → Type 0) (x : OrTrap A) (next : A → OrTrap B) → Given P x → ((a : A) → P a → Given Q (next a))
     → Given Q (andThen x next)
@@ -20,12 +23,10 @@ chained P Q (trap class number) next h k = tt
 
 -- where nothing need be known of the result
 pub any-given : {A B : Type 0} (Q : B → Type 0) (x : OrTrap A) (next : A → OrTrap B) → ((a : A) → Given Q (next a)) → Given Q (andThen x next)
-any-given Q (gives a) next k = k a
-any-given Q (trap class number) next k = tt
+any-given Q x next k = goes Q AnyTrap x next (λ class number e. tt) (λ a e. k a)
 
 pub both : {A : Type 0} (P : A → Type 0) (b : Bool) (x y : OrTrap A) → (b ≡ true → Given P x) → (b ≡ false → Given P y) → Given P (cond b x y)
-both P true x y h k = h refl
-both P false x y h k = k refl
+both P b x y h k = either P AnyTrap b x y h k
 
 -- of what is given
 pub given : {A : Type 0} (P : A → Type 0) (x : OrTrap A) (a : A) → Given P x → x ≡ gives a → P a

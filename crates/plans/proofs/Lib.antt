@@ -9,8 +9,6 @@ pub mod Places
 pub mod Sees
 pub mod Fitting
 pub mod After
-pub mod Loads
-pub mod Scalars
-pub mod Memory
-pub mod Control
+pub mod Pushed
+pub mod Results
 pub mod Theorems

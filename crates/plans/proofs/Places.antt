@@ -1,23 +1,31 @@
--- Subscripts that are judged lead to an element that is there.
+-- Subscripts that are judged lead to an element that is there, also in the array that a variable holds.
 use Prim.Native.Nat.{ℕ, zero, suc, _+_, _*_, _<_}
-use mathlib.Core.Path.{_≡_, refl, ap}
+use mathlib.Core.Path.{_≡_, refl, sym, _∙_, ap, subst}
 use mathlib.Core.Bool.{true, false, not, _&&_}
 use mathlib.Core.List.{List, [], _∷_}
 use native.Mathlib.Nat.{mul-le-mul-right, suc-mul}
 use native.Mathlib.Omega.{arith}
 use lib.Dec.{ltb, leb, eqb}
 use lib.ListN.{length}
-use borrow.Author.Tests.{leb-true, ltb-true, eqb-true, not-false}
+use borrow.Author.Tests.{leb-true, ltb-true, eqb-true, eqb-false, not-false}
 use Rattle.descriptor.specs.Fields.{isCharacter}
 use Rattle.scalar.specs.declared.Whole.{Whole}
 use Rattle.scalar.specs.declared.Whole.the-variants as W
 use Rattle.scalar.specs.Reading.{wholeOf}
 use Rattle.segment.specs.Blocks.{product}
-use Rattle.manual.specs.Values.{any, isFraction, inRange, offset, inRanges, placeOf, place}
-use Rattle.manual.specs.Seen.{Seen}
-use Rattle.manual.specs.Scalars.{operands, scalarWords, subscripted}
+use Rattle.segment.specs.Cells.{Cell, undefined, indirect, value, invalid}
+use Rattle.instruction.specs.declared.Address.{Address}
+use Rattle.manual.specs.Values.{Value, rank as rankOf, any, isFraction, inRange, offset, inRanges, placeOf, place}
+use Rattle.manual.specs.Seen.{Seen, Variable}
+use Rattle.manual.specs.Scalars.{valueOf, operands, scalarWords, subscripted}
+use Rattle.manual.specs.Instructions.{Running}
+use Rattle.manual.specs.Cases.{Element}
+use Rattle.effects.specs.Sources.{heldAt}
+use Rattle.effects.specs.Fits.{HasElement}
+use Rattle.effects.specs.Alike.{Resolved}
 use Rattle.effects_theorems.proofs.Tests.{never}
-use Rattle.plans.proofs.Given.{Given, passed, and-true}
+use Rattle.plans.proofs.Given.{Given, passed, given, and-true}
+use Rattle.plans.proofs.Cells.{cell-array-shape}
 
 offset-below : (origin : ℕ) (x : Whole) (l : ℕ) → inRange origin x l ≡ true → offset origin x < l
 offset-below origin (W.Number negative n) l h =
@@ -50,9 +58,27 @@ operands-length : (seen : Seen) (i n : ℕ) → length (scalarWords (operands se
 operands-length seen i zero = refl
 operands-length seen i (suc n) = ap suc (operands-length seen (suc i) n)
 
-pub subscripted-below : (seen : Seen) (i rank : ℕ) (lengths : List ℕ)
+subscripted-below : (seen : Seen) (i rank : ℕ) (lengths : List ℕ)
     → Given (λ k. k < product lengths) (subscripted (seen .origin) rank lengths (operands seen i rank))
 subscripted-below seen i rank lengths =
     passed (λ (k : ℕ). k < product lengths) (not (eqb rank (length lengths))) 9 1 _ (λ e.
     place-below (seen .origin) (scalarWords (operands seen i rank)) lengths
     (omega (arith, operands-length seen i rank, eqb-true rank (length lengths) (not-false (eqb rank (length lengths)) e))))
+
+-- ---- an element of a variable's array
+
+-- a value comes of a cell that holds it
+value-held : (c : Cell) → Given (λ a. c ≡ value (a .shape) (a .ravel)) (valueOf c)
+value-held undefined = tt
+value-held (indirect t) = tt
+value-held (value shape ravel) = refl
+value-held invalid = tt
+
+pub has-element : {s : List ℕ} {f : Running} {v : Seen} {a : Address} {rank : ℕ} {x : Variable} {k : ℕ} → Resolved s x → Element f v a rank x k
+    → HasElement s (x .place) k
+has-element {s} {v = v} {rank = rank} {x = x} {k = k} r e =
+    let b = e .array in
+    let held = given (λ (a : Value). x .held ≡ value (a .shape) (a .ravel)) (valueOf (x .held)) b (value-held (x .held)) (e .holds) in
+    let c = cell-array-shape s (heldAt s (x .place)) (b .shape) (b .ravel) (sym (r .holds) ∙ held) (eqb-false (rankOf b) 0 (e .ranked)) in
+    let l = given (λ (i : ℕ). i < product (b .shape)) _ k (subscripted-below v 0 rank (b .shape)) (e .there) in
+    record { there = r .there; holds = c .0; inside = subst (λ (shape : List ℕ). k < product shape) (c .1) l }

@@ -10,7 +10,7 @@ use borrow.Author.Tests.{eqb-true, eqb-false}
 use Rattle.descriptor.specs.Kinds.{isScalar}
 use Rattle.segment.specs.Blocks.{product}
 use Rattle.storage.specs.Owned.{Proper}
-use Rattle.manual.specs.Values.{Value, rank, first}
+use Rattle.manual.specs.Values.{Value, scalar, rank, first}
 use Rattle.manual.specs.Effects.{word, made}
 use Rattle.manual.specs.Scalars.{resultOf}
 use Rattle.effects.specs.Fits.{Available}
@@ -32,6 +32,9 @@ pub record ValueFits (v : Value) : Type 0 where
   pub short : length (v .ravel) < 2 ^ 16
   pub lengths : All Length (v .shape)
   pub scalars : All Valid (v .ravel)
+
+pub scalar-fits : (w : ℕ) → Valid w → ValueFits (scalar w)
+scalar-fits w h = record { rank = omega arith; size = refl; short = omega arith; lengths = tt; scalars = (h, tt) }
 
 -- elements that are there have a first
 first-of : (P : ℕ → Type 0) (l : List ℕ) → 0 < length l → All P l → P (first l)

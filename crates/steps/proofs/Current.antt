@@ -35,10 +35,9 @@ use Rattle.legal_accepted.proofs.Runs.{function-known}
 use Rattle.legal_accepted.proofs.Theorem.{legal-theorems}
 use Rattle.legal_steps.specs.Kept.{RunsIn}
 use Rattle.perform.specs.Carried.{carry}
-use Rattle.stepping.specs.Step.{selectorOf, numberOf, settle, stepIn, stepOf}
+use Rattle.stepping.specs.Step.{selectorOf, numberOf, currentHeader, settle, stepIn, stepOf}
 use Rattle.steps.specs.Planned as planned
-use Rattle.steps.specs.Planned.{nextPlan}
-use Rattle.steps.specs.Steps.{planned}
+use Rattle.steps.specs.Planned.{nextPlan, planned, headerIn}
 
 -- ---- the first frame of the view
 
@@ -64,6 +63,15 @@ current s = go (leb (lbase s) (lastLbaseAt s (lbase s)))
 selector-is : (w : ℕ) → w / 2 ^ 16 / 2 ^ 11 % 2 ≡ alternate w
 selector-is w = omega arith
 
+-- the header of the current frame's function, by the view and by the words
+pub header-seen : (regular other s : List ℕ) → headerIn regular other (view s) ≡ currentHeader regular other s
+unfolding currentHeader
+header-seen regular other s =
+    let c = current s in
+    let p : planned.selectorOf (c .frame) ≡ selectorOf s = rw (c .function, selector-is (codeWordAt s (lbase s))) in
+    let n : planned.numberOf (c .frame) ≡ numberOf s = rw (c .function) in
+    rw (c .frames, p, n)
+
 found : (regular other : List ℕ) (w : ℕ) → known regular other w ≡ true
     → functionOf (segmentOf regular other w) (functionNumber w)
     ≡ F.At (blockAt (segmentOf regular other w) (startOf (segmentOf regular other w) (functionNumber w)))
@@ -74,6 +82,10 @@ abbrev pub running : List ℕ → List ℕ → List ℕ → Running
 running s regular other =
     let p = segmentOf regular other (codeWordAt s (lbase s)) in
     record { regular = regular; alternate = other; selector = selectorOf s; block = blockAt p (startOf p (numberOf s)) }
+
+pub header-running : (s regular other : List ℕ) → headerIn regular other (view s) ≡ headerOf (running s regular other)
+unfolding currentHeader
+header-running s regular other = header-seen regular other s
 
 -- An instruction of which these effects are planned.
 pub record Decodes (s : List ℕ) (f : Running) (es : List Effect) : Type 0 where

@@ -1,19 +1,27 @@
 -- What is known of the effects that are planned on an accepted segment.
 use Prim.Native.Nat.{ℕ, _-_}
-use mathlib.Core.Path.{_≡_, sym, _∙_}
-use mathlib.Core.List.{List}
+use mathlib.Core.Path.{_≡_, refl, sym, _∙_}
+use mathlib.Core.Bool.{true}
+use mathlib.Core.List.{List, [], _∷_}
 use lib.ListN.{length}
+use Rattle.procedure.specs.declared.directory.Function.{Function}
+use Rattle.procedure.specs.declared.directory.Function.the-variants as F
+use Rattle.procedure.specs.Directory.{selected, functionOf}
 use Rattle.segment.specs.State.{sbase, lbase}
 use Rattle.segment.specs.Stack.{codeWordAt, pctr}
+use Rattle.segment.specs.Cells.{Cell}
+use Rattle.view.specs.Machine.{Frame, Machine}
 use Rattle.view.specs.View.{view}
 use Rattle.acceptance.specs.Structure.{Accepted}
-use Rattle.manual.specs.OrTrap.{gives}
-use Rattle.manual.specs.Effects.{Effect}
-use Rattle.manual.specs.Instructions.{Running, planOf}
+use Rattle.manual.specs.OrTrap.{gives, trap}
+use Rattle.manual.specs.Effects.{Effect, Plan}
+use Rattle.manual.specs.Seen.{seenOf}
+use Rattle.manual.specs.Instructions.{Running}
+use Rattle.manual.specs.Traps.{listed}
+use Rattle.manual.proofs.Traps.{traps-listed}
 use Rattle.effects.specs.Seen.{seen}
 use Rattle.effects_theorems.specs.Theorems.{EntersFirst}
 use Rattle.plans.specs.Fitting.{Fitting}
-use Rattle.plans.proofs.Given.{given}
 use Rattle.plans.proofs.Theorems.{plans-fit}
 use Rattle.bounded.specs.Lent.{Lent}
 use Rattle.bounded.specs.Bounded.{AllSmall}
@@ -21,7 +29,7 @@ use Rattle.bounded.proofs.Theorems.{bounded-theorems}
 use Rattle.legal_accepted.proofs.Theorem.{legal-theorems}
 use Rattle.legal_steps.specs.Kept.{Kept}
 use Rattle.legal_steps.proofs.Theorems.{kept-theorems}
-use Rattle.steps.specs.Steps.{planned}
+use Rattle.steps.specs.Planned.{selectorOf, numberOf, planIn, planFrom, nextPlan, planned}
 use Rattle.steps.proofs.Entering.{plan-enters}
 use Rattle.steps.proofs.Current.{running, runs, runs-in, plan-is, decodes}
 use Rattle.steps.proofs.Again.{sound-of}
@@ -43,8 +51,39 @@ module _ (s regular other : List ℕ) (lent : Lent s regular other) (h : Accepte
       let i = d .instruction in
       record {
         fitting = plans-fit .fitting s sound (lent .words) f (runs s regular other h) i (d .next) es (d .byWords);
-        first = given EntersFirst (planOf f (seen s) i (d .next)) es (plan-enters f (seen s) i (d .next)) (d .byWords);
+        first = plan-enters f (seen s) i (d .next) es (d .byWords);
         kept = kept-theorems .kept (legal-theorems .split s regular other h .legal) (runs-in s regular other h) (length s - sbase s) i (d .next) (d .byCells);
         small = bounded-theorems .plan s sound (lent .words) f (lent .regularBytes) (lent .otherBytes) (runs s regular other h)
             (pctr (codeWordAt s (lbase s))) es (sym (plan-is s regular other h sound) ∙ e);
       }
+
+-- ---- traps
+
+trap-same : (a b class number : ℕ) → listed a b ≡ true → _≡_ {A = Plan} (trap a b) (trap class number) → listed class number ≡ true
+trap-same a b class number h e =
+    let c : a ≡ class = cc in
+    let n : b ≡ number = cc in
+    rw (c, n) at h
+
+-- every trap that is planned is one of the manual's list
+module _ (regular other : List ℕ) (words : ℕ) (m : Machine Cell) (class number : ℕ) where
+  abbrev Listed : Plan → Type 0
+  Listed plan = plan ≡ trap class number → listed class number ≡ true
+
+  no-code : Listed (trap 3 1)
+  unfolding listed
+  no-code = trap-same 3 1 class number refl
+
+  found-listed : (r : Frame Cell) (f : Function) → Listed (planIn regular other words m r f)
+  found-listed r (F.At block) =
+      traps-listed .atPlace (record { regular = regular; alternate = other; selector = selectorOf r; block = block }) (seenOf words m)
+      (traps-listed .machines words m) (r .pctr) .inTable class number
+  found-listed r F.Absent = no-code
+
+  frames-listed : (l : List (Frame Cell)) → Listed (planFrom regular other words m l)
+  frames-listed [] = no-code
+  frames-listed (r ∷ older) = found-listed r (functionOf (selected (selectorOf r) regular other) (numberOf r))
+
+  pub plan-listed : Listed (nextPlan regular other words m)
+  unfolding nextPlan
+  plan-listed = frames-listed (m .frames)

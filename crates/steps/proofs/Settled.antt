@@ -3,24 +3,22 @@ use Prim.Native.Nat.{ℕ, _^_, _<_, _≤_}
 use mathlib.Core.Path.{_≡_, refl}
 use mathlib.Core.Bool.{Bool, true, false, _&&_}
 use mathlib.Core.List.{List, [], _∷_}
-use mathlib.Core.Logic.{_≢_, inl, inr}
+use mathlib.Core.Logic.{_≢_}
 use native.Mathlib.Omega.{arith}
 use lib.Dec.{eqb}
 use lib.ListN.{set}
 use borrow.Author.Tests.{eqb-false}
 use Rattle.segment.specs.State.{flags, fcnctrc, fcnrtrc, setTrap}
 use Rattle.manual.specs.Effects.{Effect, replaces, discards, swaps, stores, storesElement, enters, leaves, jumps, setsOrigin}
-use Rattle.storage_tests.proofs.Tests.{by-eq}
 use Rattle.perform.specs.declared.Outcome.{Outcome}
 use Rattle.perform.specs.declared.Outcome.the-variants as O
 use Rattle.perform.specs.Carried.{outcomeOf}
 use Rattle.stepping.specs.declared.Stepped.the-variants.{Finished, Traced}
 use Rattle.stepping.specs.Step.{Result, after, currentHeader, dueIf, due, finished, settled}
-use Rattle.steps.specs.Steps.{Counted}
 
 -- ---- effects never come to a trap
 
-outcome-by : (P : Outcome → Type 0) → P O.Finished → P O.Entered → P O.Left → (es : List Effect) → P (outcomeOf es)
+pub outcome-by : (P : Outcome → Type 0) → P O.Finished → P O.Entered → P O.Left → (es : List Effect) → P (outcomeOf es)
 outcome-by P f e l [] = f
 outcome-by P f e l (replaces n source ∷ es) = outcome-by P f e l es
 outcome-by P f e l (discards n ∷ es) = outcome-by P f e l es
@@ -53,17 +51,12 @@ module _ (regular other : List ℕ) (rtntrace : Bool) (t : List ℕ) (es : List 
 -- ---- the result
 
 module _ (d : ℕ) (small : d ≤ 3) (t : List ℕ) where
-  finished-by : (P : Result → Type 0) → P (after Finished t) → (d ≢ 0 → P (after (Traced 2 d) (setTrap t 2 d))) → P (finished d t)
+  pub finished-by : (P : Result → Type 0) → P (after Finished t) → (d ≢ 0 → P (after (Traced 2 d) (setTrap t 2 d))) → P (finished d t)
   finished-by P f g = go (eqb d 0) refl
     where
       go : (b : Bool) → eqb d 0 ≡ b → P (finished d t)
       go true e = rw e f
       go false e = rw e (g (eqb-false d 0 e))
-
-  pub finished-counted : Counted (finished d t .answer)
-  finished-counted =
-      finished-by (λ r. Counted (r .answer)) tt
-      (λ n. (refl, by-eq d 1 (λ e. inl e) (λ m. by-eq d 2 (λ e. inr (inl e)) (λ k. inr (inr (omega (arith, n, m, k)))))))
 
   -- what holds of the words, and goes by no trap, holds of the words that are left
   pub finished-keeps : (P : List ℕ → Type 0) → ((v : ℕ) → v < 2 ^ 16 → P (set t 3 v)) → P t → P (finished d t .words)

@@ -1,4 +1,2 @@
--- Steps and runs of an accepted segment.
+-- The plan of the next instruction of a machine.
 pub mod Planned
-pub mod Steps
-pub mod Runs

@@ -1,14 +1,18 @@
 -- The plan of the next instruction of a machine, told by its cells: the current frame says which function runs, and where.
 -- Nothing here speaks of storage. Assumes nothing.
-use Prim.Native.Nat.{ℕ, _/_, _%_, _^_}
+use Prim.Native.Nat.{ℕ, _-_, _/_, _%_, _^_}
 use mathlib.Core.Bool.{Bool}
 use mathlib.Core.List.{List, [], _∷_}
 use lib.Dec.{eqb}
+use lib.ListN.{length}
+use Rattle.procedure.specs.declared.header.Header.{Header}
 use Rattle.procedure.specs.declared.directory.Function.{Function}
 use Rattle.procedure.specs.declared.directory.Function.the-variants as F
-use Rattle.procedure.specs.Directory.{selected, functionOf}
+use Rattle.procedure.specs.Directory.{selected, functionOf, headerOfFunction}
+use Rattle.segment.specs.State.{sbase}
 use Rattle.segment.specs.Cells.{Cell}
 use Rattle.view.specs.Machine.{Frame, Machine}
+use Rattle.view.specs.View.{view}
 use Rattle.manual.specs.OrTrap.{trap}
 use Rattle.manual.specs.Effects.{Plan}
 use Rattle.manual.specs.Seen.{seenOf}
@@ -33,3 +37,15 @@ planFrom regular other words m (r ∷ older) = planIn regular other words m r (f
 -- On a stack of `words` words.
 unfoldable pub nextPlan : List ℕ → List ℕ → ℕ → Machine Cell → Plan
 nextPlan regular other words m = planFrom regular other words m (m .frames)
+
+-- The plan of the next instruction, by the view of the segment.
+abbrev pub planned : List ℕ → List ℕ → List ℕ → Plan
+planned s regular other = nextPlan regular other (length s - sbase s) (view s)
+
+-- The header of the current frame's function. A machine has at least one frame.
+abbrev pub headerFrom : List ℕ → List ℕ → List (Frame Cell) → Header
+headerFrom regular other [] = headerOfFunction regular 0
+headerFrom regular other (r ∷ older) = headerOfFunction (selected (selectorOf r) regular other) (numberOf r)
+
+abbrev pub headerIn : List ℕ → List ℕ → Machine Cell → Header
+headerIn regular other m = headerFrom regular other (m .frames)

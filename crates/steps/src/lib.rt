@@ -1,1 +1,1 @@
-// What is proved of steps and runs on an accepted segment.
+// The next instruction of an accepted segment: its plan, and what is known of it.
