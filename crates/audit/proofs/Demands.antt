@@ -1,106 +1,308 @@
--- The demands: each call, and by induction every list of calls.
-use Prim.Native.Nat.{ℕ}
+-- The demands: what `Did` and `Step` say of each call and each instruction, and by induction of every list of calls.
+use Prim.Native.Nat.{ℕ, zero, suc, _+_, _-_, _≤_}
 use mathlib.Core.Path.{_≡_, refl, sym, _∙_, ap, subst}
-use mathlib.Core.Logic.{_≢_, _⊎_, inl, inr}
-use mathlib.Core.List.{List, [], _∷_}
+use mathlib.Core.Bool.{Bool, true, false, cond, _&&_}
+use mathlib.Core.Logic.{_↔_, _≢_, _⊎_, inl, inr, ⊎-elim}
+use mathlib.Core.List.{List, [], _∷_, map}
+use native.Mathlib.Omega.{arith}
+use lib.Dec.{eqb}
+use lib.ListN.{length}
 use borrow.Author.Tests.{ne-eqb}
+use Rattle.segment.specs.State.{sbase, stepFlag, fcnctrc, fcnrtrc, flags}
 use Rattle.segment.specs.Cells.{Cell}
+use Rattle.view.specs.View.{view}
 use Rattle.heap.proofs.Theorems.{heap-theorems}
 use Rattle.storage_tests.proofs.Tests.{by-eq}
+use Rattle.acceptance.specs.Refusal.{refusal}
 use Rattle.acceptance.specs.Structure.{Accepted}
 use Rattle.acceptance.proofs.Structure.{structure}
-use Rattle.stepping.specs.declared.Ran.{Ran}
-use Rattle.stepping.specs.declared.Ran.the-variants as machine
-use Rattle.stepping.specs.Run.{runOf}
-use Rattle.layout.specs.LayOut.{layOutRefusal}
-use Rattle.plans.specs.Fitting.{Words}
-use Rattle.operations.specs.declared.Looked.{Looked}
-use Rattle.operations.specs.declared.Looked.the-variants.{Scalar, Array, Refused}
-use Rattle.operations.specs.Answers.{answerOf, statusOf, runStatus, lookStatus}
-use Rattle.operations.specs.Run.{Ended, answerOf as answer}
-use Rattle.operations.specs.Load.{loadRefusal}
+use Rattle.manual.specs.OrTrap.{gives, trap}
+use Rattle.manual.specs.Effects.{Effect}
+use Rattle.manual.specs.Traps.{listed}
+use Rattle.effects_theorems.proofs.Tests.{never}
+use Rattle.perform.specs.declared.Outcome.{Outcome as Turn}
+use Rattle.perform.specs.declared.Outcome.the-variants as T
+use Rattle.perform.specs.Carried.{outcomeOf}
+use Rattle.procedure.specs.declared.header.Header.{Header}
+use Rattle.stepping.specs.Step.{stepOf}
+use Rattle.steps.specs.Planned.{planned, headerIn}
+use Rattle.steps.proofs.Planned.{plan-listed}
+use Rattle.layout.specs.LayOut.{layOutRefusal, laidOut}
+use Rattle.operations.specs.Load.{loadRefusal, loaded}
 use Rattle.operations.specs.Look.{looked}
-use Rattle.audit.specs.Calls.{Procedures, Call, layOut, run, load, look, after, returned, held, refusedBy, LentCall, AllLent}
-use Rattle.audit.specs.Meets.{Tells}
-use Rattle.audit.specs.Demands.{RefusedCall, Answers, Meets, Kept, AllMeet, Demand1, Demand2, Demand3, Demands}
-use Rattle.audit.proofs.LayOut.{lay-out-meets, lay-out-words}
-use Rattle.audit.proofs.Run.{run-refused, run-done, run-meets, run-words}
-use Rattle.audit.proofs.Load.{load-meets, load-words}
-use Rattle.audit.proofs.Look.{look-meets}
+use Rattle.operations.specs.Run.{ran as ranOf}
+use Rattle.operations.specs.Answers as operations
+use Rattle.plans.specs.Fitting.{Words}
+use Rattle.bounded.specs.Lent.{Lent}
+use Rattle.audit.specs.Calls.{Procedures, Call, layOut, run, load, look, Answer, refused, done, ran, trapped, scalar, array, answerOf, runAnswer, lookAnswer, firstFailed, segmentTests, tests, held, LentCall}
+use Rattle.audit.specs.Steps as step
+use Rattle.audit.specs.Steps.{Step, traps, full, does, Done, inVain, dueAfter}
+use Rattle.audit.specs.Runs.{Runs, over, goesOn, traced, stops}
+use Rattle.audit.specs.Did.{LaidOut, Ran, Loaded, Tells, Did, isRefused, isLaidOut, hasRun, isLoaded, hasTold}
+use Rattle.audit.specs.Lists.{refusalOf, Answers, Kept, LoadInVain, FullExactly, Event, Happened, AllLent}
+use Rattle.audit.specs.Demands.{Demand1, Demand2, AllHold, Demand3, Demands}
+use Rattle.audit.proofs.Tests.{segment-told}
+use Rattle.audit.proofs.Steps.{outcomeFrom, step-done, step-accepted}
+use Rattle.audit.proofs.Runs.{step-left, vain-traps}
+use Rattle.audit.proofs.LayOut.{lay-out-did, lay-out-words}
+use Rattle.audit.proofs.Run.{run-did, run-words}
+use Rattle.audit.proofs.Look.{look-did}
+use Rattle.audit.proofs.Load.{load-did, load-words, load-full}
 
--- What every call finds and leaves: words of 32 bits, accepted beside some procedure segments.
+-- ---- the table
+
+accepts : (s : List ℕ) (p : Procedures) → (firstFailed (segmentTests s p) ≡ 0) ↔ Accepted s (p .regular) (p .alternate)
+accepts s p = (
+  λ e. structure .sound s (p .regular) (p .alternate) (sym (segment-told s p) ∙ e),
+  λ a. segment-told s p ∙ structure .complete s (p .regular) (p .alternate) a,
+)
+
+-- ---- a run counts no more than it was asked
+
+abbrev Counted : ℕ → ℕ → Answer → Type 0
+Counted budget steps (ran n) = n ≡ steps + budget
+Counted budget steps (trapped n) = n ≤ steps + budget
+Counted budget steps (refused n) = ⊥
+Counted budget steps done = ⊥
+Counted budget steps (scalar w) = ⊥
+Counted budget steps (array block) = ⊥
+
+more-counted : (budget steps : ℕ) (a : Answer) → Counted budget (steps + 1) a → Counted (suc budget) steps a
+more-counted budget steps (ran n) h = omega arith
+more-counted budget steps (trapped n) h = omega arith
+more-counted budget steps (refused n) h = h
+more-counted budget steps done h = h
+more-counted budget steps (scalar w) h = h
+more-counted budget steps (array block) h = h
+
+counted : {p : Procedures} {budget steps : ℕ} {s t : List ℕ} {a : Answer} → Runs p budget steps s a t → Counted budget steps a
+counted over = omega arith
+counted (goesOn {budget = budget} {steps = steps} {answer = answer} accepted e rest) = more-counted budget steps answer (counted rest)
+counted (traced accepted some e) = omega arith
+counted (stops accepted e) = omega arith
+
+counted-answers : (budget : ℕ) (a : Answer) → Counted budget 0 a → (a ≡ ran budget) ⊎ ((n : ℕ) × (a ≡ trapped n) × (n ≤ budget))
+counted-answers budget (ran n) h = inl (ap ran (omega arith))
+counted-answers budget (trapped n) h = inr (n, refl, omega arith)
+counted-answers budget (refused n) h = absurd h
+counted-answers budget done h = absurd h
+counted-answers budget (scalar w) h = absurd h
+counted-answers budget (array block) h = absurd h
+
+run-unrefused : (budget : ℕ) (a : Answer) → Counted budget 0 a → refusalOf a ≡ 0
+run-unrefused budget (ran n) h = refl
+run-unrefused budget (trapped n) h = refl
+run-unrefused budget (refused n) h = absurd h
+run-unrefused budget done h = absurd h
+run-unrefused budget (scalar w) h = absurd h
+run-unrefused budget (array block) h = absurd h
+
+-- ---- what a look tells
+
+tells-unrefused : (s : List ℕ) (a : Answer) (c : Cell) → Tells s a c → refusalOf a ≡ 0
+tells-unrefused s (scalar w) c h = refl
+tells-unrefused s (array block) c h = refl
+tells-unrefused s (refused n) c h = absurd h
+tells-unrefused s done c h = absurd h
+tells-unrefused s (ran n) c h = absurd h
+tells-unrefused s (trapped n) c h = absurd h
+
+tells-answers : (s : List ℕ) (a : Answer) (c : Cell) → Tells s a c → ((w : ℕ) × (a ≡ scalar w)) ⊎ ((block : ℕ) × (a ≡ array block))
+tells-answers s (scalar w) c h = inl (w, refl)
+tells-answers s (array block) c h = inr (block, refl)
+tells-answers s (refused n) c h = absurd h
+tells-answers s done c h = absurd h
+tells-answers s (ran n) c h = absurd h
+tells-answers s (trapped n) c h = absurd h
+
+-- ---- demand 1
+
+number : {s t : List ℕ} {c : Call} {a : Answer} → Did s c a t → refusalOf a ≡ firstFailed (tests s c)
+number (isRefused d e) = sym e
+number (isLaidOut e h) = sym e
+number (hasRun {budget = budget} {answer = answer} e h) = run-unrefused budget answer (counted (h .steps)) ∙ sym e
+number (isLoaded e h) = sym e
+number {s = s} (hasTold {g = g} {answer = answer} e h) = tells-unrefused s answer (held s g) h ∙ sym e
+
+unchanged : {s t : List ℕ} {c : Call} {a : Answer} → Did s c a t → refusalOf a ≢ 0 → t ≡ s
+unchanged (isRefused d e) n = refl
+unchanged (isLaidOut e h) n = absurd (n refl)
+unchanged (hasRun {budget = budget} {answer = answer} e h) n = absurd (n (run-unrefused budget answer (counted (h .steps))))
+unchanged (isLoaded e h) n = absurd (n refl)
+unchanged (hasTold e h) n = refl
+
+answers : {s t : List ℕ} {c : Call} {a : Answer} → Did s c a t → refusalOf a ≡ 0 → Answers c a
+answers (isRefused d e) z = absurd (d z)
+answers (isLaidOut e h) z = refl
+answers (hasRun {budget = budget} {answer = answer} e h) z = counted-answers budget answer (counted (h .steps))
+answers (isLoaded e h) z = refl
+answers {s = s} (hasTold {g = g} {answer = answer} e h) z = tells-answers s answer (held s g) h
+
+-- what a call leaves, by the definitions
+abbrev Made : List ℕ → Call → Type 0
+Made s c = (a : Answer) × (t : List ℕ) × Did s c a t × Words t
+
+ends : (s : List ℕ) → Words s → (c : Call) → LentCall c → Made s c
+ends s words (layOut p l) lent =
+    (answerOf (operations.answerOf (layOutRefusal s (p .regular) (p .alternate) l)), laidOut s (p .regular) (p .alternate) l, lay-out-did s p l, lay-out-words s p l words)
+ends s words (run p budget) lent = (
+  runAnswer (ranOf s (p .regular) (p .alternate) budget .answer),
+  ranOf s (p .regular) (p .alternate) budget .words,
+  run-did s p budget words lent,
+  run-words s p budget words lent,
+)
+ends s words (load p g lengths ravel) lent = (
+  answerOf (operations.answerOf (loadRefusal s (p .regular) (p .alternate) g lengths ravel)),
+  loaded s (p .regular) (p .alternate) g lengths ravel,
+  load-did s p g lengths ravel,
+  load-words s p g lengths ravel words (lent .2),
+)
+ends s words (look p g) lent = (lookAnswer (looked s (p .regular) (p .alternate) g), s, look-did s p g, words)
+
+instruction : (s : List ℕ) (p : Procedures) → Lent s (p .regular) (p .alternate) → Accepted s (p .regular) (p .alternate)
+    → (o : step.Outcome) × (t : List ℕ) × Step p s o t × Accepted t (p .regular) (p .alternate)
+instruction s p lent h =
+    (outcomeFrom (stepOf (p .regular) (p .alternate) s .answer), stepOf (p .regular) (p .alternate) s .words, step-done s p lent h .0, step-accepted s p lent h)
+
+-- what is due is (2,1), (2,2) or (2,3)
+due-low : (b : Bool) (n f : ℕ) → n ≤ 3 → cond b n (stepFlag f) ≤ 3
+due-low true n f h = h
+due-low false n f h = omega arith
+
+due-small : (turn : Turn) (f : ℕ) (called left : Header) → dueAfter turn f called left ≤ 3
+due-small T.Finished f called left = omega arith
+due-small T.Entered f called left = due-low (eqb (fcnctrc f) 1 && called .calltrace) 2 f (omega arith)
+due-small T.Left f called left = due-low (eqb (fcnrtrc f) 1 && left .rtntrace) 3 f (omega arith)
+due-small (T.Trapped class number) f called left = omega arith
+
+abbrev Low : step.Outcome → Type 0
+Low (step.trapped class n) = class ≡ 2 → n ≡ 4
+Low (step.done d) = d ≤ 3
+
+breakpoint-alone : (number : ℕ) → listed 2 number ≡ true → number ≡ 4
+unfolding listed
+breakpoint-alone number h = by-eq number 4 (λ e. e) (λ d. never (sym h ∙ rw (ne-eqb number 4 d)))
+
+low : {p : Procedures} {s t : List ℕ} {o : step.Outcome} → Step p s o t → Low o
+low {p = p} {s = s} (traps {class = class} {number = n} e) = λ c.
+    breakpoint-alone n (rw c at (plan-listed (p .regular) (p .alternate) (length s - sbase s) (view s) class n e))
+low (full e v) = λ c. absurd (omega (arith, c))
+low {p = p} {s = s} {t = t} (does {es = es} e v k) =
+    subst (λ (n : ℕ). n ≤ 3) (sym (k .due))
+    (due-small (outcomeOf es) (flags s) (headerIn (p .regular) (p .alternate) (view t)) (headerIn (p .regular) (p .alternate) (view s)))
+
+pub demand-1 : Demand1
+demand-1 = record {
+  accepts = accepts;
+  number = number;
+  unchanged = unchanged;
+  ends = ends;
+  answers = answers;
+  instruction = instruction;
+  trapped = λ e. step-left e;
+  after = λ e. low e;
+  alone = λ e. low e refl;
+}
+
+-- ---- demand 2
+
+trap-told : {s t : List ℕ} {p : Procedures} {o : step.Outcome} → Step p s o t → (class number : ℕ)
+    → planned s (p .regular) (p .alternate) ≡ trap class number → (o ≡ step.trapped class number) × (listed class number ≡ true)
+trap-told {s = s} {p = p} (traps e) class number q = (cc, plan-listed (p .regular) (p .alternate) (length s - sbase s) (view s) class number q)
+trap-told (full e v) class number q = let z : _≡_ {A = ℕ} 0 1 = cc in absurd (omega arith)
+trap-told (does e v k) class number q = let z : _≡_ {A = ℕ} 0 1 = cc in absurd (omega arith)
+
+done-told : {s t : List ℕ} {p : Procedures} {o : step.Outcome} → Step p s o t → (es : List Effect)
+    → planned s (p .regular) (p .alternate) ≡ gives es → inVain s es ≡ false → (d : ℕ) × (o ≡ step.done d) × Done p s es d t
+done-told (traps e) es q v = let z : _≡_ {A = ℕ} 0 1 = cc in absurd (omega arith)
+done-told {s = s} (full {es = fs} e w) es q v = let same : fs ≡ es = cc in never (sym w ∙ ap (inVain s) same ∙ v)
+done-told {s = s} {t = t} {p = p} (does {es = fs} {d = d} e w k) es q v = let same : fs ≡ es = cc in (d, refl, subst (λ (l : List Effect). Done p s l d t) same k)
+
+laid-out : {s t : List ℕ} {p : Procedures} {l : _} {a : Answer} → Did s (layOut p l) a t → refusalOf a ≡ 0 → LaidOut s p l t
+laid-out (isRefused d e) z = absurd (d z)
+laid-out (isLaidOut e h) z = h
+
+has-run : {s t : List ℕ} {p : Procedures} {budget : ℕ} {a : Answer} → Did s (run p budget) a t → refusalOf a ≡ 0 → Ran s p budget a t
+has-run (isRefused d e) z = absurd (d z)
+has-run (hasRun e h) z = h
+
+is-loaded : {s t lengths ravel : List ℕ} {p : Procedures} {g : ℕ} {a : Answer} → Did s (load p g lengths ravel) a t → refusalOf a ≡ 0
+    → Loaded s p g lengths ravel t
+is-loaded (isRefused d e) z = absurd (d z)
+is-loaded (isLoaded e h) z = h
+
+has-told : {s t : List ℕ} {p : Procedures} {g : ℕ} {a : Answer} → Did s (look p g) a t → refusalOf a ≡ 0 → Tells s a (held s g) × (t ≡ s)
+has-told (isRefused d e) z = absurd (d z)
+has-told (hasTold e h) z = (h, refl)
+
+pub demand-2 : Demand2
+demand-2 = record {
+  trap = trap-told;
+  full = λ e es q v. vain-traps e (es, q, v) .0;
+  does = done-told;
+  layOut = laid-out;
+  run = has-run;
+  load = is-loaded;
+  look = has-told;
+}
+
+-- ---- demand 3
+
+-- accepted beside some procedure segments
 record Good (s : List ℕ) : Type 0 where
-  words : Words s
   beside : Procedures
-  accepted : Accepted s (beside .regular) (beside .other)
+  accepted : Accepted s (beside .regular) (beside .alternate)
 
 kept : {s : List ℕ} → Good s → Kept s
 kept {s} g =
     let o = g .accepted .owned in
     record { blocks = o .blocks; ring = o .ring; heap = o .heap; tiling = heap-theorems .tiling s (o .blocks) (o .ring) (o .heap); named = o .named; counts = o .counts }
 
--- ---- the numbers returned
-
-status : (n : ℕ) → statusOf (answerOf n) ≡ n
-status n = by-eq n 0 (λ e. rw e) (λ d. rw (ne-eqb n 0 d))
-
-run-status : (r : Ran) → (runStatus (answer r) ≡ 2) ⊎ (runStatus (answer r) ≡ 3)
-run-status (machine.Done steps) = inl refl
-run-status (machine.Trapped steps) = inr refl
-
-look-status : (s : List ℕ) (a : Looked) (c : Cell) → Tells s a c → lookStatus a ≡ 0
-look-status s (Scalar w) c h = refl
-look-status s (Array block) c h = refl
-look-status s (Refused number) c h = absurd h
-
-refused : (s : List ℕ) (c : Call) → refusedBy s c ≢ 0 → RefusedCall s c
-refused s (layOut p l) d = record { number = status (layOutRefusal s (p .regular) (p .other) l); unchanged = lay-out-meets s p l .refused d }
-refused s (run p budget) d =
-    let e = run-refused s p budget d in
-    record { number = ap (λ (r : Ended). runStatus (r .answer)) e; unchanged = ap (λ (r : Ended). r .words) e }
-refused s (load p g lengths ravel) d =
-    record { number = status (loadRefusal s (p .regular) (p .other) g lengths ravel); unchanged = load-meets s p g lengths ravel .refused d }
-refused s (look p g) d = record { number = ap lookStatus (look-meets s p g .refused d); unchanged = refl }
-
-answered : (s : List ℕ) (c : Call) → refusedBy s c ≡ 0 → Answers c (returned s c)
-answered s (layOut p l) e = status (layOutRefusal s (p .regular) (p .other) l) ∙ e
-answered s (run p budget) e = rw (run-done s p budget e) (run-status (runOf (p .regular) (p .other) s budget .answer))
-answered s (load p g lengths ravel) e = status (loadRefusal s (p .regular) (p .other) g lengths ravel) ∙ e
-answered s (look p g) e = look-status s (looked s (p .regular) (p .other) g) (held s g) (look-meets s p g .told e)
-
--- ---- the demands
-
-each : (s : List ℕ) → Words s → (c : Call) → LentCall c → Meets s c
-each s words (layOut p l) lent = lay-out-meets s p l
-each s words (run p budget) lent = run-meets s words p lent budget
-each s words (load p g lengths ravel) lent = load-meets s p g lengths ravel
-each s words (look p g) lent = look-meets s p g
-
 -- a call that is not refused leaves what is accepted beside its own procedure segments
-left : (s : List ℕ) → Good s → (c : Call) → LentCall c → refusedBy s c ≡ 0 → Good (after s c)
-left s g (layOut p l) lent e = record { words = lay-out-words s p l e; beside = p; accepted = lay-out-meets s p l .accepted e }
-left s g (run p budget) lent e =
-    record { words = run-words s (g .words) p lent budget e; beside = p; accepted = run-meets s (g .words) p lent budget .accepted e }
-left s g (load p i lengths ravel) lent e =
-    record { words = load-words s p i lengths ravel e (g .words) (lent .2); beside = p; accepted = load-meets s p i lengths ravel .accepted e }
-left s g (look p i) lent e = g
+good : {s t : List ℕ} {c : Call} {a : Answer} → Good s → Did s c a t → Good t
+good g (isRefused d e) = g
+good g (isLaidOut {p = p} e h) = record { beside = p; accepted = h .accepted }
+good g (hasRun {p = p} e h) = record { beside = p; accepted = h .accepted }
+good g (isLoaded {p = p} e h) = record { beside = p; accepted = h .accepted }
+good g (hasTold e h) = g
 
-good : (s : List ℕ) → Good s → (c : Call) → LentCall c → Good (after s c)
-good s g c lent = by-eq (refusedBy s c) 0 (left s g c lent) (λ d. subst Good (sym (refused s c d .unchanged)) g)
+full-exactly : {s t : List ℕ} {c : Call} {a : Answer} → Did s c a t → FullExactly s c a t
+full-exactly {s = s} {t = t} {c = c} {a = a} h = record {
+  run = λ p budget e z. let r = has-run (subst (λ (c : Call). Did s c a t) e h) z in (r .steps, r .full);
+  load = λ p g lengths ravel e. let n = number (subst (λ (c : Call). Did s c a t) e h) in loading p g lengths ravel a n;
+}
+  where
+    refusal-24 : (a : Answer) → refusalOf a ≡ 24 → a ≡ refused 24
+    refusal-24 (refused n) e = ap refused e
+    refusal-24 done e = absurd (omega (arith, e))
+    refusal-24 (ran n) e = absurd (omega (arith, e))
+    refusal-24 (trapped n) e = absurd (omega (arith, e))
+    refusal-24 (scalar w) e = absurd (omega (arith, e))
+    refusal-24 (array block) e = absurd (omega (arith, e))
 
-list : (s : List ℕ) → Good s → (calls : List Call) → AllLent calls → AllMeet s calls
-list s g [] lent = kept g
-list s g (c ∷ calls) lent = (kept g, each s (g .words) c (lent .0), list (after s c) (good s g c (lent .0)) calls (lent .1))
+    loading : (p : Procedures) (g : ℕ) (lengths ravel : List ℕ) (a : Answer) → refusalOf a ≡ firstFailed (tests s (load p g lengths ravel))
+        → (a ≡ refused 24) ↔ LoadInVain s p g lengths ravel
+    loading p g lengths ravel a n =
+        let f = load-full s p g lengths ravel in
+        (λ e. f .0 (sym n ∙ ap refusalOf e), λ k. refusal-24 a (n ∙ f .1 k))
 
-pub demand-1 : Demand1
-demand-1 = record { refused = refused; answered = answered; counted = λ s words p lent e budget. run-meets s words p lent budget .steps e }
+hold : (s : List ℕ) → Good s → (events : List Event) → Happened s events → AllHold s events
+hold s g [] h = kept g
+hold s g (e ∷ events) h = (kept g, h .0, full-exactly (h .0), hold (e .after) (good g (h .0)) events (h .1))
 
-pub demand-2 : Demand2
-demand-2 = each
+happens : (s : List ℕ) → Words s → (calls : List Call) → AllLent calls
+    → (events : List Event) × (map (λ (e : Event). e .call) events ≡ calls) × Happened s events
+happens s words [] lent = ([], refl, tt)
+happens s words (c ∷ calls) lent =
+    let m = ends s words c (lent .0) in
+    let more = happens (m .1) (m .3) calls (lent .1) in
+    (record { call = c; answer = m .0; after = m .1 } ∷ more .0, ap (λ (l : List Call). c ∷ l) (more .1), (m .2, more .2))
 
 pub demand-3 : Demand3
-demand-3 s regular other words e calls lent =
-    list s (record { words = words; beside = record { regular = regular; other = other }; accepted = structure .sound s regular other e }) calls lent
+demand-3 = record {
+  list = λ s p e. hold s (record { beside = p; accepted = accepts s p .0 e });
+  happens = happens;
+}
 
 pub demands : Demands
-demands = record { refused = demand-1; each = demand-2; list = demand-3 }
+demands = record { first = demand-1; second = demand-2; third = demand-3 }

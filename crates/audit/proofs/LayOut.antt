@@ -1,12 +1,13 @@
--- A lay out does what `LayOutMeets` says, and leaves words of 32 bits.
+-- A lay out does what `Did` says, and leaves words of 32 bits.
 use Prim.Native.Nat.{ℕ, _+_, _-_, _*_, _^_, _<_}
-use mathlib.Core.Path.{_≡_, sym, subst}
+use mathlib.Core.Path.{_≡_, sym, _∙_, subst}
 use mathlib.Core.Logic.{_≢_}
 use mathlib.Core.List.{List}
 use native.Mathlib.Omega.{arith}
 use lib.ListN.{length, set, replicate}
 use lib.Seq.{sets}
-use borrow.Author.Tests.{ne-eqb}
+use borrow.Author.Tests.{eq-eqb, ne-eqb}
+use Rattle.storage_tests.proofs.Tests.{by-eq}
 use Rattle.descriptor.specs.Fields.{undefinedWord}
 use Rattle.plans.specs.Fitting.{Words}
 use Rattle.plans.proofs.Lists.{all-replicate}
@@ -15,8 +16,11 @@ use Rattle.layout.specs.LayOut.{Layout, startOf, baseOf, localsOf, freshHead, f
 use Rattle.layout.proofs.Words.{Room}
 use Rattle.layout.proofs.Passed.{wordOf, passed, laid-out, word-made}
 use Rattle.layout.proofs.Fresh.{fresh-theorem}
-use Rattle.audit.specs.Calls.{Procedures}
-use Rattle.audit.specs.Meets.{LayOutMeets}
+use Rattle.layout.proofs.FreshWords.{fresh-said}
+use Rattle.operations.specs.Answers as operations
+use Rattle.audit.specs.Calls.{Procedures, answerOf, layOut}
+use Rattle.audit.specs.Did.{LaidOut, Did, isRefused, isLaidOut}
+use Rattle.audit.proofs.Tests.{lay-out-told}
 
 -- ---- the words of a fresh segment
 
@@ -69,20 +73,32 @@ fresh-words n locals word l h w =
 -- ---- the call
 
 module _ (s : List ℕ) (p : Procedures) (l : Layout) where
-  lay-out-refused : layOutRefusal s (p .regular) (p .other) l ≢ 0 → laidOut s (p .regular) (p .other) l ≡ s
+  lay-out-refused : layOutRefusal s (p .regular) (p .alternate) l ≢ 0 → laidOut s (p .regular) (p .alternate) l ≡ s
   unfolding laidOut
-  lay-out-refused h = simp (ne-eqb (layOutRefusal s (p .regular) (p .other) l) 0 h)
+  lay-out-refused h = simp (ne-eqb (layOutRefusal s (p .regular) (p .alternate) l) 0 h)
 
-  pub lay-out-meets : LayOutMeets s p l
-  lay-out-meets = record {
-    refused = lay-out-refused;
-    accepted = fresh-theorem .accepted s (p .regular) (p .other) l;
-    seen = fresh-theorem .seen s (p .regular) (p .other) l;
+  lay-out-laid : layOutRefusal s (p .regular) (p .alternate) l ≡ 0 → LaidOut s p l (laidOut s (p .regular) (p .alternate) l)
+  lay-out-laid e = record {
+    words = fresh-said .said s (p .regular) (p .alternate) l e;
+    seen = fresh-theorem .seen s (p .regular) (p .alternate) l e;
+    accepted = fresh-theorem .accepted s (p .regular) (p .alternate) l e;
   }
 
-  pub lay-out-words : layOutRefusal s (p .regular) (p .other) l ≡ 0 → Words (laidOut s (p .regular) (p .other) l)
-  lay-out-words e =
-      let k = passed (p .regular) (p .other) l s e in
+  abbrev number : ℕ
+  number = layOutRefusal s (p .regular) (p .alternate) l
+
+  pub lay-out-did : Did s (layOut p l) (answerOf (operations.answerOf number)) (laidOut s (p .regular) (p .alternate) l)
+  lay-out-did =
+      by-eq number 0
+      (λ e. rw (eq-eqb number 0 e) (isLaidOut (lay-out-told s p l ∙ e) (lay-out-laid e)))
+      (λ d. rw (ne-eqb number 0 d, lay-out-refused d) (isRefused d (lay-out-told s p l)))
+
+  done-words : number ≡ 0 → Words (laidOut s (p .regular) (p .alternate) l)
+  done-words e =
+      let k = passed (p .regular) (p .alternate) l s e in
       let w : wordOf l < 2 ^ 32 = omega (arith, word-made l (k .function .selector), k .function .selector, k .function .number) in
-      subst Words (sym (laid-out (p .regular) (p .other) l s e))
-      (fresh-words (length s) (localsOf (p .regular) (p .other) l) (wordOf l) l (k .room) w)
+      subst Words (sym (laid-out (p .regular) (p .alternate) l s e))
+      (fresh-words (length s) (localsOf (p .regular) (p .alternate) l) (wordOf l) l (k .room) w)
+
+  pub lay-out-words : Words s → Words (laidOut s (p .regular) (p .alternate) l)
+  lay-out-words h = by-eq number 0 done-words (λ d. subst Words (sym (lay-out-refused d)) h)

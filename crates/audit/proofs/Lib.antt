@@ -1,4 +1,8 @@
--- Each call, the demands, the par list, and the examples by computation.
+-- Steps, runs and each call, the demands, the par list, and the examples by computation.
+pub mod Full
+pub mod Steps
+pub mod Runs
+pub mod Tests
 pub mod LayOut
 pub mod Run
 pub mod Look

@@ -1,4 +1,4 @@
--- A load does what `LoadMeets` says: it is one store of a value to a global.
+-- A load does what `Did` says: it is one store of a value to a global.
 use Prim.Native.Nat.{ℕ, _≤_, _<_}
 use mathlib.Core.Path.{_≡_, refl, sym, _∙_, ap, subst}
 use mathlib.Core.Bool.{Bool, true, false, cond, not}
@@ -7,7 +7,7 @@ use mathlib.Core.List.{List, [], _∷_}
 use native.Mathlib.Omega.{arith}
 use lib.Dec.{leb, ltb, eqb}
 use lib.ListN.{length}
-use borrow.Author.Tests.{leb-true, ltb-true, ltb-false, eqb-true, not-true, not-false, eq-eqb, ne-eqb, lt-ltb}
+use borrow.Author.Tests.{leb-true, ltb-true, ltb-false, eqb-true, eqb-false, not-true, not-false, eq-eqb, ne-eqb, lt-ltb}
 use Rattle.descriptor.specs.declared.Target.{Target}
 use Rattle.descriptor.specs.declared.Target.the-variants.{Global}
 use Rattle.descriptor.specs.Kinds.{segment, isScalar}
@@ -17,7 +17,8 @@ use Rattle.storage.specs.Heap.{Block, count}
 use Rattle.view.specs.View.{view}
 use Rattle.heap.specs.Words.{HasRoom}
 use Rattle.heap.proofs.Counts.{hit-cases, hit-same}
-use Rattle.storage_tests.proofs.Tests.{by-eq, both}
+use Rattle.storage_tests.specs.Room.{longEnough}
+use Rattle.storage_tests.proofs.Tests.{fails, by-eq, both}
 use Rattle.acceptance.specs.Refusal.{refusal}
 use Rattle.acceptance.specs.Structure.{Accepted}
 use Rattle.acceptance.proofs.Structure.{line, structure}
@@ -38,9 +39,13 @@ use Rattle.legal_accepted.proofs.Cells.{globals-length}
 use Rattle.legal_accepted.proofs.Theorem.{legal-theorems}
 use Rattle.legal_steps.proofs.Effects.{put-kept}
 use Rattle.steps.proofs.Again.{sound-of, accepted-again}
+use Rattle.operations.specs.Answers as operations
 use Rattle.operations.specs.Load.{isGlobal, isValue, sourceOf, isFull, loadRefusal, loaded}
-use Rattle.audit.specs.Calls.{Procedures}
-use Rattle.audit.specs.Meets.{LoadMeets}
+use Rattle.audit.specs.Calls.{Procedures, answerOf, load, test, firstFailed, tests, hasRoom}
+use Rattle.audit.specs.Did.{Loaded, Did, isRefused, isLoaded}
+use Rattle.audit.specs.Lists.{LoadInVain}
+use Rattle.audit.proofs.Full.{has-room}
+use Rattle.audit.proofs.Tests.{further-told, segment-below}
 use Rattle.audit.proofs.Look.{global-within}
 
 -- ---- what may be loaded
@@ -111,13 +116,9 @@ room-left : (b : Bool) → _≡_ {A = ℕ} (cond b 24 0) 0 → b ≡ false
 room-left true e = absurd (omega (arith, e))
 room-left false e = refl
 
-no-room : (b : Bool) → _≡_ {A = ℕ} (cond b 24 0) 24 → b ≡ true
-no-room true e = refl
-no-room false e = absurd (omega (arith, e))
-
 module _ (s : List ℕ) (p : Procedures) (g : ℕ) (lengths ravel : List ℕ) where
   abbrev number : ℕ
-  number = loadRefusal s (p .regular) (p .other) g lengths ravel
+  number = loadRefusal s (p .regular) (p .alternate) g lengths ravel
 
   abbrev target : Target
   target = Global (segment g)
@@ -125,38 +126,38 @@ module _ (s : List ℕ) (p : Procedures) (g : ℕ) (lengths ravel : List ℕ) wh
   abbrev effect : Effect
   effect = stores target (sourceOf lengths ravel)
 
-  load-refused : number ≢ 0 → loaded s (p .regular) (p .other) g lengths ravel ≡ s
+  load-refused : number ≢ 0 → loaded s (p .regular) (p .alternate) g lengths ravel ≡ s
   unfolding loaded
   load-refused h = simp (ne-eqb number 0 h)
 
-  load-done : number ≡ 0 → loaded s (p .regular) (p .other) g lengths ravel ≡ perform s effect
+  load-done : number ≡ 0 → loaded s (p .regular) (p .alternate) g lengths ravel ≡ perform s effect
   unfolding loaded store
   load-done h = simp (eq-eqb number 0 h)
 
   -- what is left of the table where the segment is accepted, and the address and the value are good
-  number-left : refusal s (p .regular) (p .other) ≡ 0 → isGlobal s g ≡ true → isValue lengths ravel ≡ true → number ≡ cond (isFull s lengths ravel) 24 0
+  number-left : refusal s (p .regular) (p .alternate) ≡ 0 → isGlobal s g ≡ true → isValue lengths ravel ≡ true → number ≡ cond (isFull s lengths ravel) 24 0
   unfolding loadRefusal
-  number-left h k v = simp (eq-eqb (refusal s (p .regular) (p .other)) 0 h, k, v)
+  number-left h k v = simp (eq-eqb (refusal s (p .regular) (p .alternate)) 0 h, k, v)
 
   -- The first tests pass.
   record Loadable : Type 0 where
-    start : Accepted s (p .regular) (p .other)
+    start : Accepted s (p .regular) (p .alternate)
     global : isGlobal s g ≡ true
     good : isValue lengths ravel ≡ true
 
   loadable : number ≡ 0 → Loadable
   unfolding loadRefusal
   loadable h =
-      by-eq (refusal s (p .regular) (p .other)) 0
+      by-eq (refusal s (p .regular) (p .alternate)) 0
       (λ e.
-      let a = line (isGlobal s g) _ 20 (simp (eq-eqb (refusal s (p .regular) (p .other)) 0 e) at h) in
+      let a = line (isGlobal s g) _ 20 (simp (eq-eqb (refusal s (p .regular) (p .alternate)) 0 e) at h) in
       let b = line (isValue lengths ravel) _ 22 (a .1) in
-      record { start = structure .sound s (p .regular) (p .other) e; global = a .0; good = b .0 })
-      (λ e. absurd (e (simp (ne-eqb (refusal s (p .regular) (p .other)) 0 e) at h)))
+      record { start = structure .sound s (p .regular) (p .alternate) e; global = a .0; good = b .0 })
+      (λ e. absurd (e (simp (ne-eqb (refusal s (p .regular) (p .alternate)) 0 e) at h)))
 
   module _ (h : Loadable) where
     number-is : number ≡ cond (isFull s lengths ravel) 24 0
-    number-is = number-left (structure .complete s (p .regular) (p .other) (h .start)) (h .global) (h .good)
+    number-is = number-left (structure .complete s (p .regular) (p .alternate) (h .start)) (h .global) (h .good)
 
     source : Gives s lengths ravel (sourceOf lengths ravel)
     source = gives s lengths ravel (value-of lengths ravel (h .good))
@@ -184,8 +185,96 @@ module _ (s : List ℕ) (p : Procedures) (g : ℕ) (lengths ravel : List ℕ) wh
               ∙ ⊎-elim (λ q. q) (λ q. never (sym q)) (one-holds (performing.isFull s effect) false (t .1 (vain .1 (lt-ltb 0 (length lengths) (k .0), k .1)))),
         )
 
-    numbered : (number ≡ 24) ↔ ((0 < length lengths) × (HasRoom blocks (need lengths ravel) → ⊥))
-    numbered = (λ e. full .0 (no-room (isFull s lengths ravel) (sym number-is ∙ e)), λ k. number-is ∙ rw (full .1 k))
+    -- test 24, by the words and by the free blocks
+    judged : isFull s lengths ravel ≡ not (hasRoom s lengths ravel)
+    judged = go (hasRoom s lengths ravel) refl
+      where
+        room : (longEnough s (need lengths ravel) ≡ true) ↔ HasRoom blocks (need lengths ravel)
+        room = has-room s (p .regular) (p .alternate) (h .start) (need lengths ravel)
+
+        go : (b : Bool) → hasRoom s lengths ravel ≡ b → isFull s lengths ravel ≡ not b
+        go true e =
+            fails (isFull s lengths ravel) (λ q.
+            let k = full .0 q in
+            ⊎-elim (λ z. omega (arith, eqb-true (length lengths) 0 z, k .0)) (λ z. k .1 (room .0 z)) (one-holds (eqb (length lengths) 0) _ e))
+        go false e =
+            let n = none-holds (eqb (length lengths) 0) _ e in
+            full .1 (omega (arith, eqb-false (length lengths) 0 (n .0)), λ r. never (sym (room .1 r) ∙ n .1))
+
+  -- ---- the table
+
+  abbrev first : ℕ
+  first = firstFailed (tests s (load p g lengths ravel))
+
+  first-is : first ≡ cond (eqb (refusal s (p .regular) (p .alternate)) 0)
+      (cond (isGlobal s g) (cond (isValue lengths ravel) (cond (hasRoom s lengths ravel) 0 24) 23) 21)
+      (refusal s (p .regular) (p .alternate))
+  first-is = further-told s p (test 21 (isGlobal s g) ∷ test 23 (isValue lengths ravel) ∷ test 24 (hasRoom s lengths ravel) ∷ [])
+
+  exchanged : (b : Bool) → _≡_ {A = ℕ} (cond b 0 24) (cond (not b) 24 0)
+  exchanged true = refl
+  exchanged false = refl
+
+  abbrev Same : Type 0
+  Same = cond (eqb (refusal s (p .regular) (p .alternate)) 0)
+      (cond (isGlobal s g) (cond (isValue lengths ravel) (cond (hasRoom s lengths ravel) 0 24) 23) 21)
+      (refusal s (p .regular) (p .alternate))
+      ≡ cond (eqb (refusal s (p .regular) (p .alternate)) 0)
+      (cond (isGlobal s g) (cond (isValue lengths ravel) (cond (isFull s lengths ravel) 24 0) 23) 21)
+      (refusal s (p .regular) (p .alternate))
+
+  first-number : first ≡ number
+  unfolding loadRefusal
+  first-number = first-is ∙ by-eq (refusal s (p .regular) (p .alternate)) 0 accepted (λ d. simp (ne-eqb (refusal s (p .regular) (p .alternate)) 0 d))
+    where
+      valued : refusal s (p .regular) (p .alternate) ≡ 0 → isGlobal s g ≡ true → (b : Bool) → isValue lengths ravel ≡ b → Same
+      valued h k true v =
+          let j = judged (record { start = structure .sound s (p .regular) (p .alternate) h; global = k; good = v }) in
+          simp (eq-eqb (refusal s (p .regular) (p .alternate)) 0 h, k, v, j) (exchanged (hasRoom s lengths ravel))
+      valued h k false v = simp (eq-eqb (refusal s (p .regular) (p .alternate)) 0 h, k, v)
+
+      found : refusal s (p .regular) (p .alternate) ≡ 0 → (b : Bool) → isGlobal s g ≡ b → Same
+      found h true k = valued h k (isValue lengths ravel) refl
+      found h false k = simp (eq-eqb (refusal s (p .regular) (p .alternate)) 0 h, k)
+
+      accepted : refusal s (p .regular) (p .alternate) ≡ 0 → Same
+      accepted h = found h (isGlobal s g) refl
+
+  -- 24 exactly where the load comes to a request, and no free block is long enough
+  pub load-full : (first ≡ 24) ↔ LoadInVain s p g lengths ravel
+  load-full = (λ e. by-eq (refusal s (p .regular) (p .alternate)) 0 (λ h. found h (isGlobal s g) refl e) (λ d. absurd (early d e)), in-vain)
+    where
+      early : refusal s (p .regular) (p .alternate) ≢ 0 → first ≡ 24 → ⊥
+      early d e =
+          let q : first ≡ refusal s (p .regular) (p .alternate) = first-is ∙ simp (ne-eqb (refusal s (p .regular) (p .alternate)) 0 d) in
+          omega (arith, segment-below s p, e, q)
+
+      left : refusal s (p .regular) (p .alternate) ≡ 0 → isGlobal s g ≡ true → isValue lengths ravel ≡ true → first ≡ cond (hasRoom s lengths ravel) 0 24
+      left h k v = first-is ∙ simp (eq-eqb (refusal s (p .regular) (p .alternate)) 0 h, k, v)
+
+      judging : refusal s (p .regular) (p .alternate) ≡ 0 → isGlobal s g ≡ true → isValue lengths ravel ≡ true → (b : Bool) → hasRoom s lengths ravel ≡ b → first ≡ 24
+          → LoadInVain s p g lengths ravel
+      judging h k v true r e = absurd (omega (arith, e, left h k v ∙ ap (λ (t : Bool). cond {A = ℕ} t 0 24) r))
+      judging h k v false r e =
+          let n = none-holds (eqb (length lengths) 0) _ r in
+          record { accepted = structure .sound s (p .regular) (p .alternate) h; global = k; value = v; asks = eqb-false (length lengths) 0 (n .0); none = n .1 }
+
+      valued : refusal s (p .regular) (p .alternate) ≡ 0 → isGlobal s g ≡ true → (b : Bool) → isValue lengths ravel ≡ b → first ≡ 24 → LoadInVain s p g lengths ravel
+      valued h k true v e = judging h k v (hasRoom s lengths ravel) refl e
+      valued h k false v e =
+          let q : first ≡ 23 = first-is ∙ simp (eq-eqb (refusal s (p .regular) (p .alternate)) 0 h, k, v) in
+          absurd (omega (arith, e, q))
+
+      found : refusal s (p .regular) (p .alternate) ≡ 0 → (b : Bool) → isGlobal s g ≡ b → first ≡ 24 → LoadInVain s p g lengths ravel
+      found h true k e = valued h k (isValue lengths ravel) refl e
+      found h false k e =
+          let q : first ≡ 21 = first-is ∙ simp (eq-eqb (refusal s (p .regular) (p .alternate)) 0 h, k) in
+          absurd (omega (arith, e, q))
+
+      in-vain : LoadInVain s p g lengths ravel → first ≡ 24
+      in-vain k =
+          left (structure .complete s (p .regular) (p .alternate) (k .accepted)) (k .global) (k .value)
+          ∙ rw (ne-eqb (length lengths) 0 (k .asks), k .none)
 
   module _ (e : number ≡ 0) where
     able : Loadable
@@ -194,32 +283,47 @@ module _ (s : List ℕ) (p : Procedures) (g : ℕ) (lengths ravel : List ℕ) wh
     sound : Sound s
     sound = sound-of (able .start)
 
-    has-room : performing.isFull s effect ≡ false
-    has-room = same-full able ∙ room-left (isFull s lengths ravel) (sym (number-is able) ∙ e)
+    has-room-left : performing.isFull s effect ≡ false
+    has-room-left = same-full able ∙ room-left (isFull s lengths ravel) (sym (number-is able) ∙ e)
 
     performed : Performed s effect
-    performed = effects-theorems .performed s sound effect (fits able) has-room
+    performed = effects-theorems .performed s sound effect (fits able) has-room-left
 
     load-view : view (perform s effect) ≡ put target (value lengths ravel) (view s)
     load-view = performed .seen ∙ ap (λ (c : Cell). put target c (view s)) (source able .seen)
 
-    load-accepted : Accepted (perform s effect) (p .regular) (p .other)
+    load-accepted : Accepted (perform s effect) (p .regular) (p .alternate)
     load-accepted =
-        let kept = effects-theorems .kept s sound effect (fits able) has-room in
-        accepted-again s (p .regular) (p .other) (able .start) (perform s effect) (kept .long) (performed .sound)
-        (rw load-view (put-kept (legal-theorems .split s (p .regular) (p .other) (able .start) .legal) target (value lengths ravel) tt))
-        (omega (arith, effects-theorems .flagsKept s sound effect (fits able) has-room (λ k. k), able .start .head .flagBits))
+        let kept = effects-theorems .kept s sound effect (fits able) has-room-left in
+        accepted-again s (p .regular) (p .alternate) (able .start) (perform s effect) (kept .long) (performed .sound)
+        (rw load-view (put-kept (legal-theorems .split s (p .regular) (p .alternate) (able .start) .legal) target (value lengths ravel) tt))
+        (omega (arith, effects-theorems .flagsKept s sound effect (fits able) has-room-left (λ k. k), able .start .head .flagBits))
         (omega (arith, kept .rest 3 (omega arith) (omega arith), able .start .head .trapBits))
         (λ i l u. kept .rest i (omega arith) u)
 
-    pub load-words : Words s → Words ravel → Words (loaded s (p .regular) (p .other) g lengths ravel)
-    load-words h k =
-        subst Words (sym (load-done e)) (bounded-theorems .effect s sound h effect (fits able) has-room (source able .small k))
+    done-words : Words s → Words ravel → Words (loaded s (p .regular) (p .alternate) g lengths ravel)
+    done-words h k =
+        subst Words (sym (load-done e)) (bounded-theorems .effect s sound h effect (fits able) has-room-left (source able .small k))
 
-  pub load-meets : LoadMeets s p g lengths ravel
-  load-meets = record {
-    refused = load-refused;
-    accepted = λ e. rw (load-done e) (load-accepted e);
-    seen = λ e. rw (load-done e) (load-view e);
-    full = λ a k v. numbered (record { start = a; global = k; good = v });
-  }
+    load-loaded : Loaded s p g lengths ravel (perform s effect)
+    load-loaded =
+        let kept = effects-theorems .kept s sound effect (fits able) has-room-left in
+        record {
+          seen = load-view;
+          others = λ u before after apart. effects-theorems .others s sound effect (fits able) has-room-left u before after apart;
+          length = kept .long;
+          sbase = kept .base;
+          blockptr = kept .rest 4 (omega arith) (omega arith);
+          flags = effects-theorems .flagsKept s sound effect (fits able) has-room-left (λ k. k);
+          trapWord = kept .rest 3 (omega arith) (omega arith);
+          accepted = load-accepted;
+        }
+
+  pub load-did : Did s (load p g lengths ravel) (answerOf (operations.answerOf number)) (loaded s (p .regular) (p .alternate) g lengths ravel)
+  load-did =
+      by-eq number 0
+      (λ e. rw (eq-eqb number 0 e, load-done e) (isLoaded (first-number ∙ e) (load-loaded e)))
+      (λ d. rw (ne-eqb number 0 d, load-refused d) (isRefused d first-number))
+
+  pub load-words : Words s → Words ravel → Words (loaded s (p .regular) (p .alternate) g lengths ravel)
+  load-words h k = by-eq number 0 (λ e. done-words e h k) (λ d. subst Words (sym (load-refused d)) h)

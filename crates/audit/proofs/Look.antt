@@ -1,9 +1,9 @@
--- A look does what `LookMeets` says: the parts handed back are the shape and the ravel of what the global is seen as.
+-- A look does what `Did` says: the parts handed back are the shape and the ravel of what the global is seen as.
 use Prim.Native.Nat.{ℕ, _+_, _-_, _≤_, _<_}
-use mathlib.Core.Path.{_≡_, refl, sym, _∙_, ap}
-use mathlib.Core.Bool.{Bool, true, false, cond}
-use mathlib.Core.Logic.{_≢_, _⊎_, inl, inr, ⊎-elim}
-use mathlib.Core.List.{List}
+use mathlib.Core.Path.{_≡_, refl, sym, _∙_, subst}
+use mathlib.Core.Bool.{Bool, true, false, cond, not}
+use mathlib.Core.Logic.{_≢_}
+use mathlib.Core.List.{List, [], _∷_}
 use native.Mathlib.Omega.{arith}
 use lib.Dec.{leb, ltb, eqb}
 use lib.ListN.{getD, length}
@@ -20,6 +20,7 @@ use Rattle.storage_tests.proofs.Tests.{by-eq, both}
 use Rattle.acceptance.specs.Refusal.{refusal}
 use Rattle.acceptance.specs.Structure.{Accepted}
 use Rattle.acceptance.proofs.Structure.{structure}
+use Rattle.manual.specs.Loads.{isUndefined}
 use Rattle.effects.specs.Seen.{whole, readKind, read}
 use Rattle.effects_theorems.proofs.Tests.{never}
 use Rattle.effects_theorems.proofs.Reading.{read-cell}
@@ -33,8 +34,9 @@ use Rattle.operations.specs.declared.Looked.{Looked}
 use Rattle.operations.specs.declared.Looked.the-variants.{Refused}
 use Rattle.operations.specs.Load.{isGlobal}
 use Rattle.operations.specs.Look.{seenAs, looked}
-use Rattle.audit.specs.Calls.{Procedures, held, isUndefined, lookRefusal}
-use Rattle.audit.specs.Meets.{Tells, LookMeets}
+use Rattle.audit.specs.Calls.{Procedures, Answer, lookAnswer, look, firstFailed, tests, test, held}
+use Rattle.audit.specs.Did.{Tells, Did, isRefused, hasTold}
+use Rattle.audit.proofs.Tests.{further-told}
 
 pub global-within : (s : List ℕ) (g : ℕ) → isGlobal s g ≡ true → (8 ≤ g) × (g < blockptr s)
 unfolding isGlobal
@@ -60,7 +62,7 @@ module _ (s : List ℕ) (a : ℕ) where
 
 module _ (s : List ℕ) (v : ℕ) where
   tells : (k : Kind) → Direct (cellOfKind s v k) → isUndefined (cellOfKind s v k) ≡ false → readKind s v k ≡ cellOfKind s v k
-      → Tells s (seenAs v k) (cellOfKind s v k)
+      → Tells s (lookAnswer (seenAs v k)) (cellOfKind s v k)
   tells (K.Scalar k) d u r = refl
   tells (K.Array a) d u r = parts-seen s (a .0) (read-whole (whole s (a .0)) (shapeAt s (a .0)) (elementsAt s (a .0)) r)
   tells (K.Indirect t) d u r = d
@@ -78,31 +80,43 @@ module _ (s : List ℕ) (v : ℕ) where
 
 module _ (s : List ℕ) (p : Procedures) (g : ℕ) where
   abbrev number : ℕ
-  number = refusal s (p .regular) (p .other)
+  number = refusal s (p .regular) (p .alternate)
+
+  abbrev first : ℕ
+  first = firstFailed (tests s (look p g))
 
   abbrev answer : Looked
-  answer = looked s (p .regular) (p .other) g
+  answer = looked s (p .regular) (p .alternate) g
 
   abbrev v : ℕ
   v = getD s g 0
 
+  abbrev LookDid : Looked → Type 0
+  LookDid a = Did s (look p g) (lookAnswer a) s
+
   -- the ways of the table
-  refused-by : number ≢ 0 → (lookRefusal s (p .regular) (p .other) g ≡ number) × (answer ≡ Refused number)
+  first-is : first ≡ cond (eqb number 0) (cond (isGlobal s g) (cond (not (isUndefined (held s g))) 0 22) 21) number
+  first-is = further-told s p (test 21 (isGlobal s g) ∷ test 22 (not (isUndefined (held s g))) ∷ [])
+
+  stops : (n : ℕ) → n ≢ 0 → first ≡ n → answer ≡ Refused n → LookDid answer
+  stops n d f e = subst LookDid (sym e) (isRefused d f)
+
+  refused-by : number ≢ 0 → (first ≡ number) × (answer ≡ Refused number)
   unfolding looked
-  refused-by h = (simp (ne-eqb number 0 h), simp (ne-eqb number 0 h))
+  refused-by h = (first-is ∙ simp (ne-eqb number 0 h), simp (ne-eqb number 0 h))
 
   module _ (h : number ≡ 0) where
-    outside : isGlobal s g ≡ false → (lookRefusal s (p .regular) (p .other) g ≡ 21) × (answer ≡ Refused 21)
+    outside : isGlobal s g ≡ false → (first ≡ 21) × (answer ≡ Refused 21)
     unfolding looked
-    outside k = (simp (eq-eqb number 0 h, k), simp (eq-eqb number 0 h, k))
+    outside k = (first-is ∙ simp (eq-eqb number 0 h, k), simp (eq-eqb number 0 h, k))
 
     module _ (k : isGlobal s g ≡ true) where
-      within : (lookRefusal s (p .regular) (p .other) g ≡ cond (isUndefined (held s g)) 22 0) × (answer ≡ seenAs v (kindOf v))
+      within : (first ≡ cond (not (isUndefined (held s g))) 0 22) × (answer ≡ seenAs v (kindOf v))
       unfolding looked
-      within = (simp (eq-eqb number 0 h, k), simp (eq-eqb number 0 h, k))
+      within = (first-is ∙ simp (eq-eqb number 0 h, k), simp (eq-eqb number 0 h, k))
 
-      start : Accepted s (p .regular) (p .other)
-      start = structure .sound s (p .regular) (p .other) h
+      start : Accepted s (p .regular) (p .alternate)
+      start = structure .sound s (p .regular) (p .alternate) h
 
       held-is : held s g ≡ cellOfKind s v (kindOf v)
       unfolding cell
@@ -111,13 +125,13 @@ module _ (s : List ℕ) (p : Procedures) (g : ℕ) where
       held-direct : Direct (held s g)
       held-direct =
           let b = global-within s g k in
-          legal-theorems .split s (p .regular) (p .other) start .legal .globals (g - 8) (omega (arith, b, globals-length s))
+          legal-theorems .split s (p .regular) (p .alternate) start .legal .globals (g - 8) (omega (arith, b, globals-length s))
 
       held-read : readKind s v (kindOf v) ≡ cellOfKind s v (kindOf v)
       unfolding read cell
       held-read = let b = global-within s g k in read-cell s (sound-of start) v (global-owns s g (b .0) (b .1))
 
-      value-told : isUndefined (held s g) ≡ false → Tells s answer (held s g)
+      value-told : isUndefined (held s g) ≡ false → Tells s (lookAnswer answer) (held s g)
       value-told u =
           rw (within .1, held-is)
           (tells s v (kindOf v) (rw held-is at held-direct) (rw held-is at u) held-read)
@@ -125,27 +139,13 @@ module _ (s : List ℕ) (p : Procedures) (g : ℕ) where
       none-told : isUndefined (held s g) ≡ true → answer ≡ Refused 22
       none-told u = within .1 ∙ tells-none s v (kindOf v) (rw held-is at u)
 
-  abbrev Ways : Type 0
-  Ways =
-      ((lookRefusal s (p .regular) (p .other) g ≢ 0) × (answer ≡ Refused (lookRefusal s (p .regular) (p .other) g)))
-      ⊎ ((lookRefusal s (p .regular) (p .other) g ≡ 0) × Tells s answer (held s g))
-
-  stops : (n : ℕ) → n ≢ 0 → (lookRefusal s (p .regular) (p .other) g ≡ n) × (answer ≡ Refused n) → Ways
-  stops n d r = inl (λ z. d (sym (r .0) ∙ z), r .1 ∙ ap Refused (sym (r .0)))
-
-  ways : Ways
-  ways = by-eq number 0 (λ h. inside h (isGlobal s g) refl) (λ h. stops number h (refused-by h))
+  pub look-did : LookDid answer
+  look-did = by-eq number 0 (λ h. inside h (isGlobal s g) refl) (λ h. stops number h (refused-by h .0) (refused-by h .1))
     where
-      holding : (h : number ≡ 0) (k : isGlobal s g ≡ true) (b : Bool) → isUndefined (held s g) ≡ b → Ways
-      holding h k true u = stops 22 (omega arith) (within h k .0 ∙ rw u, none-told h k u)
-      holding h k false u = inr (within h k .0 ∙ rw u, value-told h k u)
+      holding : (h : number ≡ 0) (k : isGlobal s g ≡ true) (b : Bool) → isUndefined (held s g) ≡ b → LookDid answer
+      holding h k true u = stops 22 (omega arith) (within h k .0 ∙ rw u) (none-told h k u)
+      holding h k false u = hasTold (within h k .0 ∙ rw u) (value-told h k u)
 
-      inside : number ≡ 0 → (b : Bool) → isGlobal s g ≡ b → Ways
+      inside : number ≡ 0 → (b : Bool) → isGlobal s g ≡ b → LookDid answer
       inside h true k = holding h k (isUndefined (held s g)) refl
-      inside h false k = stops 21 (omega arith) (outside h k)
-
-  pub look-meets : LookMeets s p g
-  look-meets = record {
-    refused = λ d. ⊎-elim (λ w. w .1) (λ w. absurd (d (w .0))) ways;
-    told = λ e. ⊎-elim (λ w. absurd (w .0 e)) (λ w. w .1) ways;
-  }
+      inside h false k = stops 21 (omega arith) (outside h k .0) (outside h k .1)

@@ -1,63 +1,36 @@
--- A step leaves the value of every variable that it does not store to: where its request is served by the step's theorem, and
--- where it is not because a trap changes no cell.
-use Prim.Native.Nat.{ℕ, _+_, _-_, _<_, _≤_}
+-- A step leaves the value of every variable that it does not store to: where its request is served by `Done`, and where it is not
+-- because a trap changes no cell.
+use Prim.Native.Nat.{ℕ, _+_, _-_, _<_}
 use mathlib.Core.Path.{_≡_, refl, _∙_, ap}
-use mathlib.Core.Bool.{true}
-use mathlib.Core.Logic.{_⊎_, inl, inr, ⊎-elim, _≢_}
+use mathlib.Core.Bool.{Bool, true, false}
+use mathlib.Core.Logic.{_⊎_, inl, inr, ⊎-elim}
 use mathlib.Core.List.{List, [], _∷_}
 use native.Mathlib.Omega.{arith}
 use lib.ListN.{length, length-set}
 use Rattle.descriptor.specs.declared.Target.{Target}
 use Rattle.descriptor.specs.declared.Target.the-variants.{Local, Global}
 use Rattle.descriptor.specs.Kinds.{segment}
-use Rattle.segment.specs.State.{setTrap}
 use Rattle.segment.specs.Cells.{Cell, undefined}
-use Rattle.storage.specs.Heap.{Block, free, array}
 use Rattle.view.specs.Machine.{Machine}
 use Rattle.view.specs.View.{view}
-use Rattle.heap.specs.Words.{HasRoom}
-use Rattle.heap.proofs.Counts.{order}
 use Rattle.acceptance.specs.Structure.{Accepted}
 use Rattle.manual.specs.OrTrap.{gives}
 use Rattle.manual.specs.Effects.{Effect, replaces, discards, swaps, stores, storesElement, enters, leaves, jumps, setsOrigin, look, put, meant, withElement, performOn, performAll}
 use Rattle.effects.specs.Fits.{IsVariable}
-use Rattle.effects.specs.Perform.{wanted}
-use Rattle.effects_theorems.specs.Theorems.{NoneStoresTo, AsksInVain}
+use Rattle.effects_theorems.specs.Theorems.{NoneStoresTo}
 use Rattle.effects_theorems.proofs.State.{trap-view}
 use Rattle.effects_theorems.proofs.Variables.{in-view}
 use Rattle.legal_accepted.proofs.Cells.{globals-length}
-use Rattle.bounded.specs.Lent.{Lent}
-use Rattle.stepping.specs.Step.{Result, stepOf}
-use Rattle.steps.specs.Steps.{planned, Does}
+use Rattle.steps.specs.Planned.{planned}
 use Rattle.steps.proofs.Again.{sound-of}
-use Rattle.steps.proofs.Steps.{step-theorem}
 use Rattle.operations.specs.Load.{isGlobal}
-use Rattle.audit.specs.Calls.{held}
+use Rattle.audit.specs.Calls.{Procedures, held}
+use Rattle.audit.specs.Steps as step
+use Rattle.audit.specs.Steps.{Outcome, Step, inVain}
 use Rattle.audit.specs.ParList.{ParList}
+use Rattle.audit.proofs.Runs.{vain-traps}
 use Rattle.audit.proofs.Look.{global-within}
-
-abbrev Decided : Type 0 → Type 0
-Decided A = A ⊎ (A → ⊥)
-
-room : (blocks : List Block) (size : ℕ) → Decided (HasRoom blocks size)
-room [] size = inr (λ h. h)
-room (free n ∷ blocks) size =
-    ⊎-elim (λ (h : size ≤ n). inl (inl h))
-    (λ (h : n < size). ⊎-elim (λ r. inl (inr r)) (λ r. inr (λ k. ⊎-elim (λ (q : size ≤ n). absurd (omega arith)) r k)) (room blocks size))
-    (order size n)
-room (array n slop ∷ blocks) size = room blocks size
-
-asks : (s : List ℕ) (blocks : List Block) (e : Effect) → Decided ((wanted s e ≢ 0) × (HasRoom blocks (wanted s e) → ⊥))
-asks s blocks e =
-    ⊎-elim (λ (h : 1 ≤ wanted s e).
-    ⊎-elim (λ r. inr (λ k. k .1 r)) (λ r. inl (omega arith, r)) (room blocks (wanted s e)))
-    (λ (h : wanted s e < 1). inr (λ k. k .0 (omega arith)))
-    (order 1 (wanted s e))
-
-vain : (s : List ℕ) (blocks : List Block) (es : List Effect) → Decided (AsksInVain s blocks es)
-vain s blocks [] = inr (λ h. h)
-vain s blocks (e ∷ es) =
-    ⊎-elim (λ h. inl (inl h)) (λ h. ⊎-elim (λ r. inl (inr r)) (λ r. inr (λ k. ⊎-elim h r k)) (vain s blocks es)) (asks s blocks e)
+use Rattle.audit.proofs.Demands.{demand-2}
 
 -- no effect adds a global or takes one away
 put-globals : (t : Target) (c : Cell) (m : Machine Cell) → length (put t c m .globals) ≡ length (m .globals)
@@ -79,30 +52,37 @@ all-globals : (es : List Effect) (m : Machine Cell) → length (performAll es m 
 all-globals [] m = refl
 all-globals (e ∷ es) m = all-globals es (performOn e m) ∙ effect-globals e m
 
-module _ (s regular other : List ℕ) (lent : Lent s regular other) (h : Accepted s regular other) (es : List Effect)
-    (e : planned s regular other ≡ gives es) where
-  abbrev t : List ℕ
-  t = stepOf regular other s .words
-
+module _ (s : List ℕ) (p : Procedures) (t : List ℕ) (h : Accepted s (p .regular) (p .alternate)) (es : List Effect)
+    (e : planned s (p .regular) (p .alternate) ≡ gives es) where
   -- the request is not served, and no cell changes; or the effects are done
-  done : (view t ≡ view s) ⊎ Does s regular other es
-  unfolding setTrap
-  done =
-      let means = step-theorem .step s regular other lent h in
-      ⊎-elim (λ v. inl (ap (λ (r : Result). view (r .words)) (means .full es e v) ∙ trap-view s (sound-of h) _)) (λ v. inr (means .does es e v)) (vain s (h .owned .blocks) es)
+  abbrev Done : Type 0
+  Done = (view t ≡ view s) ⊎ (d : ℕ) × step.Done p s es d t
 
-  unchanged : (u : Target) → IsVariable s u → IsVariable t u → NoneStoresTo es u → look undefined u (view t) ≡ look undefined u (view s)
-  unchanged u before after none = ⊎-elim (λ q. ap (look undefined u) q) (λ d. d .others u before after none) done
+  done : (o : Outcome) → Step p s o t → Done
+  done o k = go (inVain s es) refl
+    where
+      go : (b : Bool) → inVain s es ≡ b → Done
+      go true v = inl (ap view (vain-traps k (es, e, v) .1) ∙ trap-view s (sound-of h) _)
+      go false v = let d = demand-2 .does k es e v in inr (d .0, d .2)
 
-  globals-stay : length (view t .globals) ≡ length (view s .globals)
-  globals-stay = ⊎-elim (λ q. ap (λ (m : Machine Cell). length (m .globals)) q) (λ d. ap (λ (m : Machine Cell). length (m .globals)) (d .seen) ∙ all-globals es (view s)) done
+  module _ (o : Outcome) (k : Step p s o t) where
+    unchanged : (u : Target) → IsVariable s u → IsVariable t u → NoneStoresTo es u → look undefined u (view t) ≡ look undefined u (view s)
+    unchanged u before after none = ⊎-elim (λ q. ap (look undefined u) q) (λ d. d .1 .others u before after none) (done o k)
 
-  global : (g : ℕ) → isGlobal s g ≡ true → NoneStoresTo es (Global (segment g)) → held t g ≡ held s g
-  global g k none =
-      let b = global-within s g k in
-      let there : g < 8 + length (view s .globals) = omega (arith, b, globals-length s) in
-      unchanged (Global (segment g)) (in-view s (Global (segment g)) .1 (b .0, there))
-      (in-view t (Global (segment g)) .1 (b .0, omega (arith, there, globals-stay))) none
+    globals-stay : length (view t .globals) ≡ length (view s .globals)
+    globals-stay =
+        ⊎-elim (λ q. ap (λ (m : Machine Cell). length (m .globals)) q)
+        (λ d. ap (λ (m : Machine Cell). length (m .globals)) (d .1 .seen) ∙ all-globals es (view s)) (done o k)
+
+    global : (g : ℕ) → isGlobal s g ≡ true → NoneStoresTo es (Global (segment g)) → held t g ≡ held s g
+    global g i none =
+        let b = global-within s g i in
+        let there : g < 8 + length (view s .globals) = omega (arith, b, globals-length s) in
+        unchanged (Global (segment g)) (in-view s (Global (segment g)) .1 (b .0, there))
+        (in-view t (Global (segment g)) .1 (b .0, omega (arith, there, globals-stay))) none
 
 pub par-list : ParList
-par-list = record { unchanged = unchanged; global = global }
+par-list = record {
+  unchanged = λ s p o t h k es e. unchanged s p t h es e o k;
+  global = λ s p o t h k es e. global s p t h es e o k;
+}

@@ -1,45 +1,71 @@
--- A run does what `RunMeets` says, and leaves words of 32 bits.
-use Prim.Native.Nat.{ℕ}
-use mathlib.Core.Path.{_≡_}
+-- A run does what `Did` says, and leaves words of 32 bits.
+use Prim.Native.Nat.{ℕ, _<_}
+use mathlib.Core.Path.{_≡_, refl, sym, _∙_, subst}
 use mathlib.Core.Logic.{_≢_}
 use mathlib.Core.List.{List}
+use native.Mathlib.Omega.{arith}
+use lib.ListN.{length, set}
+use lib.Seq.{getD-set-same}
 use borrow.Author.Tests.{eq-eqb, ne-eqb}
+use Rattle.segment.specs.State.{trapWord}
+use Rattle.storage_tests.proofs.Tests.{by-eq}
 use Rattle.acceptance.specs.Refusal.{refusal}
 use Rattle.acceptance.specs.Structure.{Accepted}
 use Rattle.acceptance.proofs.Structure.{structure}
+use Rattle.stepping.specs.declared.Ran.{Ran as Answered}
+use Rattle.stepping.specs.declared.Ran.the-variants as machine
 use Rattle.stepping.specs.Run.{runOf}
 use Rattle.plans.specs.Fitting.{Words}
 use Rattle.bounded.specs.Lent.{Lent}
-use Rattle.steps.proofs.Runs.{run-theorem}
 use Rattle.operations.specs.declared.Run.the-variants as answers
-use Rattle.operations.specs.Run.{ended, accepted, ran}
-use Rattle.audit.specs.Calls.{Procedures, LentProcedures}
-use Rattle.audit.specs.Meets.{RunMeets}
+use Rattle.operations.specs.Run as operations
+use Rattle.operations.specs.Run.{Ended, ended, ran}
+use Rattle.audit.specs.Calls.{Procedures, runAnswer, run, LentProcedures}
+use Rattle.audit.specs.Did.{Ran, Did, isRefused, hasRun}
+use Rattle.audit.proofs.Tests.{segment-told}
+use Rattle.audit.proofs.Runs.{answerOf, Ready, run-steps, run-ready, run-all, run-full}
+
+same-answer : (r : Answered) → runAnswer (operations.answerOf r) ≡ answerOf r
+same-answer (machine.Done steps) = refl
+same-answer (machine.Trapped steps) = refl
 
 module _ (s : List ℕ) (p : Procedures) (budget : ℕ) where
-  pub run-refused : refusal s (p .regular) (p .other) ≢ 0
-      → ran s (p .regular) (p .other) budget ≡ ended (answers.Refused (refusal s (p .regular) (p .other))) s
+  abbrev number : ℕ
+  number = refusal s (p .regular) (p .alternate)
+
+  abbrev RunDid : Ended → Type 0
+  RunDid e = Did s (run p budget) (runAnswer (e .answer)) (e .words)
+
+  run-refused : number ≢ 0 → ran s (p .regular) (p .alternate) budget ≡ ended (answers.Refused number) s
   unfolding ran
-  run-refused h = simp (ne-eqb (refusal s (p .regular) (p .other)) 0 h)
+  run-refused h = simp (ne-eqb number 0 h)
 
-  pub run-done : refusal s (p .regular) (p .other) ≡ 0 → ran s (p .regular) (p .other) budget ≡ accepted (runOf (p .regular) (p .other) s budget)
+  run-done : number ≡ 0 → ran s (p .regular) (p .alternate) budget ≡ operations.accepted (runOf (p .regular) (p .alternate) s budget)
   unfolding ran
-  run-done e = simp (eq-eqb (refusal s (p .regular) (p .other)) 0 e)
+  run-done e = simp (eq-eqb number 0 e)
 
-module _ (s : List ℕ) (words : Words s) (p : Procedures) (bytes : LentProcedures p) (budget : ℕ) where
-  lent : Lent s (p .regular) (p .other)
-  lent = record { words = words; regularBytes = bytes .0; otherBytes = bytes .1 }
+  module _ (words : Words s) (bytes : LentProcedures p) where
+    start : number ≡ 0 → Ready s p
+    start e = record {
+      lent = record { words = words; regularBytes = bytes .0; otherBytes = bytes .1 };
+      accepted = structure .sound s (p .regular) (p .alternate) e;
+    }
 
-  start : refusal s (p .regular) (p .other) ≡ 0 → Accepted s (p .regular) (p .other)
-  start e = structure .sound s (p .regular) (p .other) e
+    has-run : (e : number ≡ 0) → Ran s p budget (answerOf (runOf (p .regular) (p .alternate) s budget .answer)) (runOf (p .regular) (p .alternate) s budget .words)
+    has-run e =
+        let steps = run-steps p s (start e) budget in
+        let there : 3 < length s = omega (arith, start e .accepted .shortest) in
+        let zero : trapWord (set s 3 0) ≡ 0 = rw getD-set-same in
+        record { steps = steps; all = run-all steps zero; full = run-full steps; accepted = run-ready p s (start e) budget .accepted }
 
-  pub run-words : refusal s (p .regular) (p .other) ≡ 0 → Words (ran s (p .regular) (p .other) budget .words)
-  run-words e = rw (run-done s p budget e) (run-theorem .lent s (p .regular) (p .other) lent (start e) budget .words)
+    pub run-did : RunDid (ran s (p .regular) (p .alternate) budget)
+    run-did =
+        by-eq number 0
+        (λ e. subst RunDid (sym (run-done e)) (rw (same-answer (runOf (p .regular) (p .alternate) s budget .answer)) (hasRun (segment-told s p ∙ e) (has-run e))))
+        (λ d. subst RunDid (sym (run-refused d)) (isRefused d (segment-told s p)))
 
-  pub run-meets : RunMeets s p budget
-  run-meets = record {
-    refused = run-refused s p budget;
-    answer = λ e. rw (run-done s p budget e);
-    steps = λ e. rw (run-done s p budget e) (run-theorem .run s (p .regular) (p .other) lent (start e) budget);
-    accepted = λ e. rw (run-done s p budget e) (run-theorem .accepted s (p .regular) (p .other) lent (start e) budget);
-  }
+    pub run-words : Words (ran s (p .regular) (p .alternate) budget .words)
+    run-words =
+        by-eq number 0
+        (λ e. rw (run-done e) (run-ready p s (start e) budget .lent .words))
+        (λ d. rw (run-refused d) words)

@@ -1,26 +1,44 @@
--- A list of calls: lay outs, runs, loads and looks, each with its own procedure segments, numbers and values, each given the
--- words that the one before left. What each returns and leaves is what its contract cites. Assumes nothing.
+-- A call of one of the four operations, what it answers, and the table of document 01: "Tests go in table order, save that 20
+-- comes before 19; lay out omits 13–18." A reader must believe: each test is the sentence of its number. Assumes nothing.
 use Prim.Native.Nat.{ℕ}
-use mathlib.Core.Bool.{Bool, true, false, cond}
-use mathlib.Core.List.{List, [], _∷_}
+use mathlib.Core.Bool.{Bool, true, false, cond, not, _||_}
+use mathlib.Core.List.{List, [], _∷_, _++_}
 use lib.Dec.{eqb}
+use lib.ListN.{length}
 use Rattle.descriptor.specs.declared.Target.the-variants.{Global}
 use Rattle.descriptor.specs.Kinds.{segment}
-use Rattle.segment.specs.Cells.{Cell, undefined, indirect, value, invalid}
+use Rattle.procedure.specs.Refusal.{lengthRefused, contentsFault, refuses}
+use Rattle.segment.specs.Blocks.{need}
+use Rattle.segment.specs.Cells.{Cell, undefined}
 use Rattle.view.specs.View.{view}
-use Rattle.acceptance.specs.Refusal.{refusal}
+use Rattle.storage_tests.specs.Tests.{_and_}
+use Rattle.storage_tests.specs.Head.{headTest}
+use Rattle.storage_tests.specs.Blocks.{blocksTest}
+use Rattle.storage_tests.specs.Ring.{ringTest}
+use Rattle.storage_tests.specs.Room.{longEnough}
+use Rattle.acceptance.specs.Frames.{framesTest}
+use Rattle.acceptance.specs.Cells.{cellsTest}
+use Rattle.acceptance.specs.Counts.{countsTest}
+use Rattle.acceptance.specs.Refusal.{lengthTest}
 use Rattle.manual.specs.Effects as manual
+use Rattle.manual.specs.Loads.{isUndefined}
 use Rattle.plans.specs.Fitting.{Words}
 use Rattle.bounded.specs.Lent.{Bytes}
-use Rattle.layout.specs.LayOut.{Layout, layOutRefusal, laidOut}
-use Rattle.operations.specs.Answers.{answerOf, statusOf, runStatus, lookStatus}
-use Rattle.operations.specs.Run.{ran}
-use Rattle.operations.specs.Load.{isGlobal, loadRefusal, loaded}
-use Rattle.operations.specs.Look.{looked}
+use Rattle.layout.specs.LayOut.{Layout, functionTest, partsTest}
+use Rattle.operations.specs.declared.Answer as operations
+use Rattle.operations.specs.declared.Answer.the-variants as A
+use Rattle.operations.specs.declared.Run.{Run}
+use Rattle.operations.specs.declared.Run.the-variants as R
+use Rattle.operations.specs.declared.Looked.{Looked}
+use Rattle.operations.specs.declared.Looked.the-variants as L
+use Rattle.operations.specs.Load.{isGlobal, isValue}
 
 pub record Procedures : Type 0 where
   pub regular : List ℕ
-  pub other : List ℕ
+  pub alternate : List ℕ
+
+abbrev pub procedures : List ℕ → List ℕ → Procedures
+procedures regular alternate = record { regular = regular; alternate = alternate }
 
 pub data Call : Type 0 where
   layOut : Procedures → Layout → Call
@@ -30,55 +48,86 @@ pub data Call : Type 0 where
   load : Procedures → ℕ → List ℕ → List ℕ → Call
   look : Procedures → ℕ → Call
 
--- The segment after a call.
-abbrev pub after : List ℕ → Call → List ℕ
-after s (layOut p l) = laidOut s (p .regular) (p .other) l
-after s (run p budget) = ran s (p .regular) (p .other) budget .words
-after s (load p g lengths ravel) = loaded s (p .regular) (p .other) g lengths ravel
-after s (look p g) = s
+-- What a call answers: the number of the test that refused it; 0 of a lay out and of a load; 2 and 3 of a run, with the number
+-- of finished instructions; of a look a scalar's word, or the block whose lengths and elements are handed back.
+pub data Answer : Type 0 where
+  refused : ℕ → Answer
+  done : Answer
+  ran : ℕ → Answer
+  trapped : ℕ → Answer
+  scalar : ℕ → Answer
+  array : ℕ → Answer
 
--- The number that a call returns.
-abbrev pub returned : List ℕ → Call → ℕ
-returned s (layOut p l) = statusOf (answerOf (layOutRefusal s (p .regular) (p .other) l))
-returned s (run p budget) = runStatus (ran s (p .regular) (p .other) budget .answer)
-returned s (load p g lengths ravel) = statusOf (answerOf (loadRefusal s (p .regular) (p .other) g lengths ravel))
-returned s (look p g) = lookStatus (looked s (p .regular) (p .other) g)
+-- The answers in code.
+abbrev pub answerOf : operations.Answer → Answer
+answerOf A.Done = done
+answerOf (A.Refused number) = refused number
 
--- ---- the table of document 01 for each call
+abbrev pub runAnswer : Run → Answer
+runAnswer (R.Done steps) = ran steps
+runAnswer (R.Trapped steps) = trapped steps
+runAnswer (R.Refused number) = refused number
+
+abbrev pub lookAnswer : Looked → Answer
+lookAnswer (L.Scalar w) = scalar w
+lookAnswer (L.Array block) = array (block .0)
+lookAnswer (L.Refused number) = refused number
+
+-- ---- the table
+
+pub record Test : Type 0 where
+  pub number : ℕ
+  pub passes : Bool
+
+abbrev pub test : ℕ → Bool → Test
+test number passes = record { number = number; passes = passes }
+
+-- The number of the first test that fails; 0 where all pass.
+abbrev pub firstFailed : List Test → ℕ
+firstFailed [] = 0
+firstFailed (x ∷ tests) = cond (x .passes) (firstFailed tests) (x .number)
+
+abbrev pub lentTests : List ℕ → Procedures → List Test
+lentTests s p =
+    test 10 (lengthTest s)
+    ∷ test 11 (not (lengthRefused (p .regular) || lengthRefused (p .alternate)))
+    ∷ test 12 (not (refuses (contentsFault (p .regular)) || refuses (contentsFault (p .alternate))))
+    ∷ []
+
+abbrev pub segmentTests : List ℕ → Procedures → List Test
+segmentTests s p =
+    lentTests s p
+    ++ (test 13 (headTest s)
+    ∷ test 14 (blocksTest s)
+    ∷ test 15 (ringTest s)
+    ∷ test 16 (framesTest s (p .regular) (p .alternate))
+    ∷ test 17 (cellsTest s (p .regular) (p .alternate))
+    ∷ test 18 (countsTest s)
+    ∷ [])
 
 -- The value of a global.
 abbrev pub held : List ℕ → ℕ → Cell
 held s g = manual.look undefined (Global (segment g)) (view s)
 
-abbrev pub isUndefined : Cell → Bool
-isUndefined undefined = true
-isUndefined (indirect t) = false
-isUndefined (value shape ravel) = false
-isUndefined invalid = false
+-- What a load asks for finds a free block: a scalar asks for none.
+abbrev pub hasRoom : List ℕ → List ℕ → List ℕ → Bool
+hasRoom s lengths ravel = eqb (length lengths) 0 || longEnough s (need lengths ravel)
 
--- 10–18, then 21, then 22.
-abbrev pub lookRefusal : List ℕ → List ℕ → List ℕ → ℕ → ℕ
-lookRefusal s regular other g =
-    cond (eqb (refusal s regular other) 0) (cond (isGlobal s g) (cond (isUndefined (held s g)) 22 0) 21) (refusal s regular other)
-
--- The first test that refuses the call; 0 where none does.
-abbrev pub refusedBy : List ℕ → Call → ℕ
-refusedBy s (layOut p l) = layOutRefusal s (p .regular) (p .other) l
-refusedBy s (run p budget) = refusal s (p .regular) (p .other)
-refusedBy s (load p g lengths ravel) = loadRefusal s (p .regular) (p .other) g lengths ravel
-refusedBy s (look p g) = lookRefusal s (p .regular) (p .other) g
+abbrev pub tests : List ℕ → Call → List Test
+tests s (layOut p l) =
+    lentTests s p ++ (test 20 (functionTest (p .regular) (p .alternate) l) ∷ test 19 (partsTest s (p .regular) (p .alternate) l) ∷ [])
+tests s (run p budget) = segmentTests s p
+tests s (load p g lengths ravel) =
+    segmentTests s p ++ (test 21 (isGlobal s g) ∷ test 23 (isValue lengths ravel) ∷ test 24 (hasRoom s lengths ravel) ∷ [])
+tests s (look p g) = segmentTests s p ++ (test 21 (isGlobal s g) ∷ test 22 (not (isUndefined (held s g))) ∷ [])
 
 -- ---- what a call brings: bytes and 32-bit words, as their types say in code
 
 abbrev pub LentProcedures : Procedures → Type 0
-LentProcedures p = Bytes (p .regular) × Bytes (p .other)
+LentProcedures p = Bytes (p .regular) × Bytes (p .alternate)
 
 abbrev pub LentCall : Call → Type 0
 LentCall (layOut p l) = LentProcedures p
 LentCall (run p budget) = LentProcedures p
 LentCall (load p g lengths ravel) = LentProcedures p × Words lengths × Words ravel
 LentCall (look p g) = LentProcedures p
-
-abbrev pub AllLent : List Call → Type 0
-AllLent [] = Unit {0}
-AllLent (c ∷ calls) = LentCall c × AllLent calls

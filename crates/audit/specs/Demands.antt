@@ -1,87 +1,72 @@
--- The demands of document 01 as theorems. A reader must believe: `refusal` is document 01's table, the operations' definitions
--- say what their contracts cite, and `Runs` and `Meets` say what the demands say. Assumes nothing.
-use Prim.Native.Nat.{ℕ, _^_, _<_}
+-- The three demands of document 01 over `Did` and `Step`, a field for each clause, in the demands' order. Assumes nothing.
+use Prim.Native.Nat.{ℕ, _≤_}
 use mathlib.Core.Path.{_≡_}
-use mathlib.Core.Logic.{_≢_, _⊎_}
-use mathlib.Core.List.{List, [], _∷_}
+use mathlib.Core.Bool.{true, false}
+use mathlib.Core.Logic.{_↔_, _≢_}
+use mathlib.Core.List.{List, [], _∷_, map}
 use lib.ListN.{set}
-use Rattle.descriptor.specs.Fields.{arrayWord}
-use Rattle.segment.specs.State.{blockptr}
-use Rattle.segment.specs.Blocks.{countAt}
-use Rattle.storage.specs.Heap.{Block, count, Heap}
-use Rattle.storage.specs.Owned.{ArrayIn}
-use Rattle.view.specs.View.{owners}
-use Rattle.heap.specs.Tiling.{Tiling}
-use Rattle.acceptance.specs.Refusal.{refusal}
+use Rattle.segment.specs.State as state
+use Rattle.acceptance.specs.Structure.{Accepted}
+use Rattle.manual.specs.OrTrap.{gives, trap}
+use Rattle.manual.specs.Effects.{Effect}
+use Rattle.manual.specs.Traps.{listed}
+use Rattle.layout.specs.LayOut.{Layout}
 use Rattle.plans.specs.Fitting.{Words}
-use Rattle.stepping.specs.Run.{runOf}
-use Rattle.steps.specs.Runs.{Runs}
-use Rattle.operations.specs.Run.{ran}
-use Rattle.audit.specs.Calls.{Procedures, Call, layOut, run, load, look, after, returned, refusedBy, LentProcedures, LentCall, AllLent}
-use Rattle.audit.specs.Meets.{LayOutMeets, RunMeets, LoadMeets, LookMeets}
-
--- ---- demand 1: a refused call returns its number and changes nothing; a run counts the instructions that finished
-
-pub record RefusedCall (s : List ℕ) (c : Call) : Type 0 where
-  pub number : returned s c ≡ refusedBy s c
-  pub unchanged : after s c ≡ s
-
--- What a call returns that is not refused: 2 or 3 of a run, 0 of every other.
-abbrev pub Answers : Call → ℕ → Type 0
-Answers (layOut p l) number = number ≡ 0
-Answers (run p budget) number = (number ≡ 2) ⊎ (number ≡ 3)
-Answers (load p g lengths ravel) number = number ≡ 0
-Answers (look p g) number = number ≡ 0
-
--- ---- demand 2: every call does what the manual says
-
--- Demands 1 and 2 for one call.
-abbrev pub Meets : List ℕ → Call → Type 0
-Meets s (layOut p l) = LayOutMeets s p l
-Meets s (run p budget) = RunMeets s p budget
-Meets s (load p g lengths ravel) = LoadMeets s p g lengths ravel
-Meets s (look p g) = LookMeets s p g
-
--- ---- demand 3: array storage, whatever was called
-
--- Array storage as demand 3 wants it.
-pub record Kept (s : List ℕ) : Type 0 where
-  pub blocks : List Block
-  pub ring : List ℕ
-  -- no two free neighbours, the ring one round through the dummy and every free block, LAST the reverse, ROVER on it
-  pub heap : Heap s blocks ring
-  -- no two blocks share a word, and every word of array storage lies in a block
-  pub tiling : Tiling s blocks
-  -- a cell that holds an array's word points to one of these arrays
-  pub named : (x : ℕ) → x < 2 ^ 16 → 0 < count (arrayWord x) (owners s) → (size : ℕ) × ArrayIn (blockptr s) blocks x size
-  -- every array's count is the number of cells pointing to it, and not zero
-  pub counts : (x size : ℕ) → ArrayIn (blockptr s) blocks x size → (countAt s x ≡ count (arrayWord x) (owners s)) × (0 < count (arrayWord x) (owners s))
-
--- Every call of the list meets demands 1 and 2 on the words that the one before left, and before and after each storage is as it
--- must be.
-abbrev pub AllMeet : List ℕ → List Call → Type 0
-AllMeet s [] = Kept s
-AllMeet s (c ∷ calls) = Kept s × Meets s c × AllMeet (after s c) calls
-
--- ---- the demands
+use Rattle.bounded.specs.Lent.{Lent}
+use Rattle.steps.specs.Planned.{planned}
+use Rattle.audit.specs.Calls.{Procedures, Call, layOut, run, load, look, Answer, firstFailed, segmentTests, tests, held, LentCall}
+use Rattle.audit.specs.Steps as step
+use Rattle.audit.specs.Steps.{Outcome, Step, Done, inVain}
+use Rattle.audit.specs.Did.{LaidOut, Ran, Loaded, Tells, Did}
+use Rattle.audit.specs.Lists.{refusalOf, Answers, Kept, FullExactly, Event, Happened, AllLent}
 
 pub record Demand1 : Type 0 where
-  -- of any words and any call
-  pub refused : (s : List ℕ) (c : Call) → refusedBy s c ≢ 0 → RefusedCall s c
-  pub answered : (s : List ℕ) (c : Call) → refusedBy s c ≡ 0 → Answers c (returned s c)
-  -- of 32-bit words: every step of a run counts one finished instruction
-  pub counted : (s : List ℕ) → Words s → (p : Procedures) → LentProcedures p → refusal s (p .regular) (p .other) ≡ 0 → (budget : ℕ)
-      → Runs (p .regular) (p .other) budget 0 (set s 3 0) (runOf (p .regular) (p .other) s budget .answer) (ran s (p .regular) (p .other) budget .words)
+  -- "A bad length, segment or number is refused with its number, changing nothing."
+  pub accepts : (s : List ℕ) (p : Procedures) → (firstFailed (segmentTests s p) ≡ 0) ↔ Accepted s (p .regular) (p .alternate)
+  pub number : {s t : List ℕ} {c : Call} {a : Answer} → Did s c a t → refusalOf a ≡ firstFailed (tests s c)
+  pub unchanged : {s t : List ℕ} {c : Call} {a : Answer} → Did s c a t → refusalOf a ≢ 0 → t ≡ s
+  -- "Otherwise each operation ends,"
+  pub ends : (s : List ℕ) → Words s → (c : Call) → LentCall c → (a : Answer) × (t : List ℕ) × Did s c a t × Words t
+  pub answers : {s t : List ℕ} {c : Call} {a : Answer} → Did s c a t → refusalOf a ≡ 0 → Answers c a
+  -- "and each instruction finishes, or traps by class and number"
+  pub instruction : (s : List ℕ) (p : Procedures) → Lent s (p .regular) (p .alternate) → Accepted s (p .regular) (p .alternate)
+      → (o : Outcome) × (t : List ℕ) × Step p s o t × Accepted t (p .regular) (p .alternate)
+  -- "with everything but the trap word unchanged (step and trace traps alone come after a finished instruction)."
+  pub trapped : {s t : List ℕ} {p : Procedures} {class number : ℕ} → Step p s (step.trapped class number) t → t ≡ set s 3 (state.trap class number)
+  pub after : {s t : List ℕ} {p : Procedures} {d : ℕ} → Step p s (step.done d) t → d ≤ 3
+  pub alone : {s t : List ℕ} {p : Procedures} {number : ℕ} → Step p s (step.trapped 2 number) t → number ≡ 4
 
--- Of any data segment of 32-bit words and any call.
-abbrev pub Demand2 : Type 0
-Demand2 = (s : List ℕ) → Words s → (c : Call) → LentCall c → Meets s c
+pub record Demand2 : Type 0 where
+  -- "Every step does what the manual, as fixed in document 01, gives: values, frames, next PCTR, trap."
+  pub trap : {s t : List ℕ} {p : Procedures} {o : Outcome} → Step p s o t → (class number : ℕ)
+      → planned s (p .regular) (p .alternate) ≡ trap class number → (o ≡ step.trapped class number) × (listed class number ≡ true)
+  pub full : {s t : List ℕ} {p : Procedures} {o : Outcome} → Step p s o t → (es : List Effect)
+      → planned s (p .regular) (p .alternate) ≡ gives es → inVain s es ≡ true → o ≡ step.trapped 1 2
+  -- "A value that the instruction does not take, write or drop stays the same though it shares storage": `Done.others`.
+  pub does : {s t : List ℕ} {p : Procedures} {o : Outcome} → Step p s o t → (es : List Effect)
+      → planned s (p .regular) (p .alternate) ≡ gives es → inVain s es ≡ false → (d : ℕ) × (o ≡ step.done d) × Done p s es d t
+  -- and each call
+  pub layOut : {s t : List ℕ} {p : Procedures} {l : Layout} {a : Answer} → Did s (layOut p l) a t → refusalOf a ≡ 0 → LaidOut s p l t
+  pub run : {s t : List ℕ} {p : Procedures} {budget : ℕ} {a : Answer} → Did s (run p budget) a t → refusalOf a ≡ 0 → Ran s p budget a t
+  pub load : {s t lengths ravel : List ℕ} {p : Procedures} {g : ℕ} {a : Answer} → Did s (load p g lengths ravel) a t → refusalOf a ≡ 0
+      → Loaded s p g lengths ravel t
+  pub look : {s t : List ℕ} {p : Procedures} {g : ℕ} {a : Answer} → Did s (look p g) a t → refusalOf a ≡ 0 → Tells s a (held s g) × (t ≡ s)
 
--- From a segment that tests 10–18 accept beside some procedure segments: one claim about the list.
-abbrev pub Demand3 : Type 0
-Demand3 = (s regular other : List ℕ) → Words s → refusal s regular other ≡ 0 → (calls : List Call) → AllLent calls → AllMeet s calls
+-- "1 and 2 hold for each, and afterwards blocks are disjoint and cover storage, no two free neighbours, the ring holds each free
+-- block once, every count is the number of cells pointing to the array; full is reported exactly when no free block is long enough."
+abbrev pub AllHold : List ℕ → List Event → Type 0
+AllHold s [] = Kept s
+AllHold s (e ∷ events) =
+    Kept s × Did s (e .call) (e .answer) (e .after) × FullExactly s (e .call) (e .answer) (e .after) × AllHold (e .after) events
+
+pub record Demand3 : Type 0 where
+  -- "Over any list of lay outs, runs, loads and looks on an accepted segment": one claim about the list.
+  pub list : (s : List ℕ) (p : Procedures) → firstFailed (segmentTests s p) ≡ 0 → (events : List Event) → Happened s events → AllHold s events
+  -- and any list of calls may happen
+  pub happens : (s : List ℕ) → Words s → (calls : List Call) → AllLent calls
+      → (events : List Event) × (map (λ (e : Event). e .call) events ≡ calls) × Happened s events
 
 pub record Demands : Type 0 where
-  pub refused : Demand1
-  pub each : Demand2
-  pub list : Demand3
+  pub first : Demand1
+  pub second : Demand2
+  pub third : Demand3

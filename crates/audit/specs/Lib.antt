@@ -1,6 +1,9 @@
--- The demands, the auditor's par list, and the marked examples.
+-- The demands over the relation between words, call, answer and words; the auditor's par list; the marked examples.
 pub mod Calls
-pub mod Meets
+pub mod Steps
+pub mod Runs
+pub mod Did
+pub mod Lists
 pub mod Demands
 pub mod ParList
 pub mod Table

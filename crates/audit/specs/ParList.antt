@@ -13,18 +13,19 @@ use Rattle.acceptance.specs.Structure.{Accepted}
 use Rattle.manual.specs.OrTrap.{gives}
 use Rattle.manual.specs.Effects.{Effect, look}
 use Rattle.effects.specs.Fits.{IsVariable}
-use Rattle.stepping.specs.Step.{stepOf}
 use Rattle.effects_theorems.specs.Theorems.{NoneStoresTo}
-use Rattle.bounded.specs.Lent.{Lent}
-use Rattle.steps.specs.Steps.{planned}
 use Rattle.operations.specs.Load.{isGlobal}
-use Rattle.audit.specs.Calls.{held}
+use Rattle.steps.specs.Planned.{planned}
+use Rattle.audit.specs.Calls.{Procedures, held}
+use Rattle.audit.specs.Steps.{Outcome, Step}
 
 pub record ParList : Type 0 where
-  -- A step of any instruction leaves the value of every variable that it does not store to, whatever shares storage.
-  pub unchanged : (s regular other : List ℕ) → Lent s regular other → Accepted s regular other → (es : List Effect) → planned s regular other ≡ gives es
-      → (t : Target) → IsVariable s t → IsVariable (stepOf regular other s .words) t → NoneStoresTo es t
-      → look undefined t (view (stepOf regular other s .words)) ≡ look undefined t (view s)
+  -- A step of any instruction, finished or trapped, leaves the value of every variable that it does not store to, whatever
+  -- shares storage.
+  pub unchanged : (s : List ℕ) (p : Procedures) (o : Outcome) (t : List ℕ) → Accepted s (p .regular) (p .alternate) → Step p s o t
+      → (es : List Effect) → planned s (p .regular) (p .alternate) ≡ gives es
+      → (u : Target) → IsVariable s u → IsVariable t u → NoneStoresTo es u → look undefined u (view t) ≡ look undefined u (view s)
   -- So a global that no effect of the instruction names keeps its value: what a look told of it before, a look tells after.
-  pub global : (s regular other : List ℕ) → Lent s regular other → Accepted s regular other → (es : List Effect) → planned s regular other ≡ gives es
-      → (g : ℕ) → isGlobal s g ≡ true → NoneStoresTo es (Global (segment g)) → held (stepOf regular other s .words) g ≡ held s g
+  pub global : (s : List ℕ) (p : Procedures) (o : Outcome) (t : List ℕ) → Accepted s (p .regular) (p .alternate) → Step p s o t
+      → (es : List Effect) → planned s (p .regular) (p .alternate) ≡ gives es
+      → (g : ℕ) → isGlobal s g ≡ true → NoneStoresTo es (Global (segment g)) → held t g ≡ held s g

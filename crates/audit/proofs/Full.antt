@@ -1,0 +1,53 @@
+-- A plan's request is in vain by the free blocks exactly where it is full by the words.
+use Prim.Native.Nat.{ℕ}
+use mathlib.Core.Path.{_≡_, refl}
+use mathlib.Core.Bool.{Bool, true, false, not, _&&_}
+use mathlib.Core.List.{List, [], _∷_}
+use mathlib.Core.Logic.{_↔_, _≢_, inl, ⊎-elim}
+use native.Mathlib.Omega.{arith}
+use lib.Dec.{ltb}
+use borrow.Author.Tests.{lt-ltb, le-ltb}
+use Rattle.heap.specs.Words.{HasRoom}
+use Rattle.storage.specs.Heap.{Block}
+use Rattle.storage_tests.specs.Room.{longEnough}
+use Rattle.storage_tests.proofs.Tests.{never, fails, by-eq}
+use Rattle.storage_tests.proofs.Room.{room-told}
+use Rattle.acceptance.specs.Structure.{Accepted}
+use Rattle.manual.specs.Effects.{Effect}
+use Rattle.effects.specs.Requests.{FirstFits, OneRequest}
+use Rattle.effects.specs.Perform.{wanted, anyFull}
+use Rattle.effects_theorems.specs.Theorems.{AsksInVain}
+use Rattle.effects_theorems.proofs.Lists.{none-in-vain}
+use Rattle.effects_theorems.proofs.Theorems.{effects-theorems}
+use Rattle.steps.proofs.Again.{sound-of}
+use Rattle.audit.specs.Steps.{inVain}
+
+none-passes : (b : Bool) → (b && false) ≡ true → ⊥
+none-passes true q = never q
+none-passes false q = never q
+
+module _ (s regular other : List ℕ) (h : Accepted s regular other) where
+  abbrev blocks : List Block
+  blocks = h .owned .blocks
+
+  pub has-room : (n : ℕ) → (longEnough s n ≡ true) ↔ HasRoom blocks n
+  has-room n = room-told s blocks (h .owned .ring) (record { head = h .head; heap = h .owned .heap; inside = h .owned .inside }) n
+
+  in-vain : (n : ℕ) → ((n ≢ 0) × (HasRoom blocks n → ⊥)) ↔ ((ltb 0 n && not (longEnough s n)) ≡ true)
+  in-vain n = (
+    λ k. let l = lt-ltb 0 n (omega (arith, k .0)) in let m = fails (longEnough s n) (λ q. k .1 (has-room n .0 q)) in rw (l, m),
+    λ k. by-eq n 0 (λ z. let l = le-ltb 0 n (omega (arith, z)) in absurd (never (rw l at k))) (λ z. (z, λ r. none-passes (ltb 0 n) (rw (has-room n .1 r) at k))),
+  )
+
+  by-blocks : (es : List Effect) → OneRequest es → AsksInVain s blocks es ↔ (inVain s es ≡ true)
+  by-blocks [] once = (λ q. absurd q, λ q. never q)
+  by-blocks (e ∷ es) once = (
+    λ q. ⊎-elim (in-vain (wanted s e) .0) (λ k. absurd (none-in-vain s blocks es once k)) q,
+    λ q. inl (in-vain (wanted s e) .1 q),
+  )
+
+  pub vain-full : (es : List Effect) → FirstFits s es → OneRequest es → (anyFull s es ≡ true) ↔ (inVain s es ≡ true)
+  vain-full es first once =
+      let t = effects-theorems .full s (sound-of h) es first once in
+      let b = by-blocks es once in
+      (λ q. b .0 (t .0 q), λ q. t .1 (b .1 q))

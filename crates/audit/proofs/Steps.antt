@@ -1,0 +1,297 @@
+-- A step of an accepted segment is a `Step`, by the cases of its plan.
+use Prim.Native.Nat.{ℕ, _+_, _-_, _*_, _/_, _%_, _^_, _<_, _≤_}
+use mathlib.Core.Path.{_≡_, refl, sym, _∙_, ap, subst}
+use mathlib.Core.Bool.{Bool, true, false, cond}
+use mathlib.Core.List.{List, [], _∷_}
+use mathlib.Core.Logic.{_↔_, _≢_}
+use native.Mathlib.Omega.{arith}
+use lib.Dec.{eqb}
+use lib.ListN.{getD, set, length, length-set}
+use lib.Seq.{getD-set-same, getD-set-other}
+use borrow.Author.Tests.{eqb-true, eqb-false, eq-eqb, ne-eqb}
+use Rattle.descriptor.specs.declared.Target.{Target}
+use Rattle.descriptor.specs.declared.Target.the-variants.{Local, Global}
+use Rattle.procedure.specs.declared.header.Header.{Header}
+use Rattle.segment.specs.State.{sbase, flags, fcnctrc, fcnrtrc, stepFlag, trapWord, trap as trapOf, blockptr, setTrap}
+use Rattle.segment.specs.Cells.{Cell, undefined}
+use Rattle.view.specs.Machine.{Machine}
+use Rattle.view.specs.View.{words, view}
+use Rattle.storage_tests.proofs.Tests.{fails}
+use Rattle.acceptance.specs.Structure.{Accepted}
+use Rattle.manual.specs.OrTrap.{gives, trap}
+use Rattle.manual.specs.Effects.{Effect, replaces, discards, swaps, stores, storesElement, enters, leaves, jumps, setsOrigin, Plan, look, performOn, performAll}
+use Rattle.manual.specs.Instructions.{Running, headerOf}
+use Rattle.manual.proofs.Traps.{traps-listed}
+use Rattle.effects.specs.Sound.{Sound}
+use Rattle.effects.specs.Fits.{InMachine, IsVariable}
+use Rattle.effects.specs.Perform.{performs, anyFull}
+use Rattle.effects_theorems.specs.Theorems.{NoneStoresTo, StateKept, PerformedAll}
+use Rattle.effects_theorems.proofs.State.{trap-sound, trap-words, trap-view}
+use Rattle.effects_theorems.proofs.Tests.{never}
+use Rattle.effects_theorems.proofs.Theorems.{effects-theorems}
+use Rattle.plans.specs.Fitting.{Words}
+use Rattle.bounded.specs.Lent.{Lent}
+use Rattle.bounded.specs.Bounded.{Small, AllSmall}
+use Rattle.bounded.proofs.Words.{words-set}
+use Rattle.bounded.proofs.Theorems.{bounded-theorems}
+use Rattle.perform.specs.declared.Outcome.{Outcome as Turn}
+use Rattle.perform.specs.declared.Outcome.the-variants as T
+use Rattle.perform.specs.Carried.{outcomeOf, carry}
+use Rattle.stepping.specs.declared.Stepped.{Stepped}
+use Rattle.stepping.specs.declared.Stepped.the-variants as S
+use Rattle.stepping.specs.Step as stepping
+use Rattle.stepping.specs.Step.{Result, finished, due, settle, stepOf, currentHeader}
+use Rattle.steps.specs.Planned.{planned, headerIn}
+use Rattle.steps.proofs.Current.{running, step-is, header-seen, header-running}
+use Rattle.steps.proofs.Planned.{Known, plan-known, plan-listed}
+use Rattle.steps.proofs.Again.{sound-of, trap-accepted, effects-accepted}
+use Rattle.steps.proofs.Settled.{settled-effects, due-small, finished-keeps}
+use Rattle.audit.specs.Calls.{Procedures}
+use Rattle.audit.specs.Steps.{Outcome, trapped, done, inVain, dueAfter, Done, Step, traps, full, does}
+use Rattle.audit.proofs.Full.{vain-full}
+
+-- ---- what an effect leaves of the flags
+
+origin-half : (f v : ℕ) → v < 2 → (f / 2 * 2 + v) / 2 ≡ f / 2
+origin-half f v h = omega arith
+
+flags-kept : (e : Effect) (m : Machine Cell) → Small e → performOn e m .flags / 2 ≡ m .flags / 2
+flags-kept (replaces n source) m h = refl
+flags-kept (discards n) m h = refl
+flags-kept swaps m h = refl
+flags-kept (stores (Local a) source) m h = refl
+flags-kept (stores (Global g) source) m h = refl
+flags-kept (storesElement (Local a) place w n) m h = refl
+flags-kept (storesElement (Global g) place w n) m h = refl
+flags-kept (enters n f) m h = refl
+flags-kept (leaves n result) m h = refl
+flags-kept (jumps place) m h = refl
+flags-kept (setsOrigin v) m h = origin-half (m .flags) v h
+
+all-flags : (es : List Effect) (m : Machine Cell) → AllSmall es → performAll es m .flags / 2 ≡ m .flags / 2
+all-flags [] m h = refl
+all-flags (e ∷ es) m h = all-flags es (performOn e m) (h .1) ∙ flags-kept e m (h .0)
+
+view-flags : (s : List ℕ) → view s .flags ≡ flags s
+unfolding view words
+view-flags s = refl
+
+-- ---- what is due
+
+-- flags but IORG say what is due
+module _ (f g : ℕ) (h : f / 2 ≡ g / 2) where
+  same-step : stepFlag f ≡ stepFlag g
+  same-step = omega arith
+
+  same-call : fcnctrc f ≡ fcnctrc g
+  same-call = omega arith
+
+  same-return : fcnrtrc f ≡ fcnrtrc g
+  same-return = omega arith
+
+  same-due : (turn : Turn) (called left : Header) → dueAfter turn f called left ≡ dueAfter turn g called left
+  same-due T.Finished called left = same-step
+  same-due T.Entered called left = rw (same-call, same-step)
+  same-due T.Left called left = rw (same-return, same-step)
+  same-due (T.Trapped class number) called left = refl
+
+due-told : (regular other : List ℕ) (left : Header) (turn : Turn) (t : List ℕ)
+    → due regular other (left .rtntrace) turn t ≡ dueAfter turn (flags t) (currentHeader regular other t) left
+due-told regular other left T.Finished t = refl
+due-told regular other left T.Entered t = refl
+due-told regular other left T.Left t = refl
+due-told regular other left (T.Trapped class number) t = refl
+
+-- ---- what a step's answer comes to
+
+abbrev pub outcomeFrom : Stepped → Outcome
+outcomeFrom S.Finished = done 0
+outcomeFrom (S.Traced class number) = done number
+outcomeFrom (S.Trapped class number) = trapped class number
+
+-- what is due after a traced instruction
+abbrev pub Some : Stepped → Type 0
+Some S.Finished = Unit {0}
+Some (S.Traced class number) = number ≢ 0
+Some (S.Trapped class number) = Unit {0}
+
+-- The machine is the same.
+record Unchanged (t u : List ℕ) : Type 0 where
+  sound : Sound u
+  cells : words u ≡ words t
+  seen : view u ≡ view t
+
+unchanged : {t : List ℕ} → Sound t → Unchanged t t
+unchanged g = record { sound = g; cells = refl; seen = refl }
+
+trap-unchanged : {t : List ℕ} → Sound t → (v : ℕ) → Unchanged t (set t 3 v)
+trap-unchanged {t} g v = record { sound = trap-sound t g v; cells = trap-words t g v; seen = trap-view t g v }
+
+module _ (s : List ℕ) (p : Procedures) (lent : Lent s (p .regular) (p .alternate)) (h : Accepted s (p .regular) (p .alternate)) where
+  abbrev regular : List ℕ
+  regular = p .regular
+
+  abbrev other : List ℕ
+  other = p .alternate
+
+  abbrev f : Running
+  f = running s regular other
+
+  abbrev sound : Sound s
+  sound = sound-of h
+
+  abbrev plan : Plan
+  plan = planned s regular other
+
+  abbrev StepOf : Result → Type 0
+  StepOf r = Step p s (outcomeFrom (r .answer)) (r .words) × Some (r .answer)
+
+  known : (es : List Effect) → plan ≡ gives es → Known s regular other es
+  known = plan-known s regular other lent h
+
+  -- ---- a step, by its plan
+
+  step-of : (q : Plan) → plan ≡ q → stepOf regular other s ≡ settle regular other (headerOf f .rtntrace) (carry s q)
+  step-of q e = step-is s regular other h sound ∙ ap (λ (q : Plan). settle regular other (headerOf f .rtntrace) (carry s q)) e
+
+  trap-step : (class number : ℕ) → plan ≡ trap class number → stepOf regular other s ≡ stepping.trapped s class number
+  trap-step class number e = step-of (trap class number) e
+
+  trap-small : (class number : ℕ) → class < 2 ^ 8 → number < 2 ^ 8 → stepping.trapped s class number ≡ stepping.after (S.Trapped class number) (set s 3 (trapOf class number))
+  unfolding setTrap
+  trap-small class number c n =
+      let a : class % 2 ^ 8 ≡ class = omega arith in
+      let b : number % 2 ^ 8 ≡ number = omega arith in
+      rw (a, b)
+
+  module _ (es : List Effect) (e : plan ≡ gives es) where
+    abbrev t : List ℕ
+    t = performs s es
+
+    abbrev d : ℕ
+    d = due regular other (headerOf f .rtntrace) (outcomeOf es) (performs s es)
+
+    full-step : anyFull s es ≡ true → stepOf regular other s ≡ stepping.trapped s 1 2
+    full-step q = step-of (gives es) e ∙ rw q
+
+    -- the request, by the words and by the free blocks
+    vain : (anyFull s es ≡ true) ↔ (inVain s es ≡ true)
+    vain = let k = known es e .fitting in vain-full s regular other h es (k .first) (k .once)
+
+    module _ (q : anyFull s es ≡ false) where
+      served : inVain s es ≡ false
+      served = fails (inVain s es) (λ v. never (sym (vain .1 v) ∙ q))
+
+      done-step : stepOf regular other s ≡ finished d t
+      done-step = step-of (gives es) e ∙ rw q (settled-effects regular other (headerOf f .rtntrace) t es)
+
+      performed : PerformedAll s es
+      performed = let k = known es e .fitting in effects-theorems .allPerformed s sound es (k .all) (k .once) q
+
+      kept : StateKept s t
+      kept = let k = known es e .fitting in effects-theorems .allKept s sound es (k .all) (k .once) q
+
+      done-accepted : Accepted t regular other
+      done-accepted = effects-accepted s regular other h es performed kept (known es e .kept)
+
+      others : (u : Target) → IsVariable s u → IsVariable t u → NoneStoresTo es u → look undefined u (view t) ≡ look undefined u (view s)
+      others u before after none =
+          let k = known es e .fitting in
+          effects-theorems .allOthers s sound es (k .all) (k .once) q u
+          (effects-theorems .stands s sound es (k .all) (k .once) q (known es e .first) u before after) none
+
+      same-flags : flags t / 2 ≡ flags s / 2
+      same-flags =
+          ap (λ (n : ℕ). n / 2) (sym (view-flags t) ∙ ap (λ (m : Machine Cell). m .flags) (performed .seen))
+          ∙ all-flags es (view s) (known es e .small)
+          ∙ ap (λ (n : ℕ). n / 2) (view-flags s)
+
+      is-due : d ≡ dueAfter (outcomeOf es) (flags s) (currentHeader regular other t) (headerIn regular other (view s))
+      is-due =
+          due-told regular other (headerOf f) (outcomeOf es) t
+          ∙ same-due (flags t) (flags s) same-flags (outcomeOf es) (currentHeader regular other t) (headerOf f)
+          ∙ ap (dueAfter (outcomeOf es) (flags s) (currentHeader regular other t)) (sym (header-running s regular other))
+
+      small : d ≤ 3
+      small = due-small regular other (headerOf f .rtntrace) t es
+
+      -- whether or not a trap is due, and its word written
+      module _ (u : List ℕ) (same : Unchanged t u) (long : length u ≡ length t) (rest : (i : ℕ) → i ≢ 3 → getD u i 0 ≡ getD t i 0)
+          (written : trapWord u ≡ cond (eqb d 0) (trapWord t) (trapOf 2 d)) where
+        done-as : Done p s es d u
+        done-as = record {
+          seen = same .seen ∙ performed .seen;
+          others = λ v before after none. ap (look undefined v) (same .seen) ∙ others v before (subst (InMachine v) (same .cells) after) none;
+          due = is-due ∙ ap (λ (c : Header). dueAfter (outcomeOf es) (flags s) c (headerIn regular other (view s)))
+              (sym (header-seen regular other t) ∙ ap (headerIn regular other) (sym (same .seen)));
+          trapWord = written ∙ ap (λ (w : ℕ). cond (eqb d 0) w (trapOf 2 d)) (kept .rest 3 (omega arith) (omega arith));
+          length = long ∙ kept .long;
+          sbase = ap (λ (w : ℕ). w / 2 ^ 16) (rest 0 (omega arith)) ∙ kept .base;
+          blockptr = rest 4 (omega arith) ∙ kept .rest 4 (omega arith) (omega arith);
+          flags = ap (λ (w : ℕ). w / 2) (rest 2 (omega arith)) ∙ same-flags;
+        }
+
+      silent : d ≡ 0 → Step p s (done 0) t
+      silent z =
+          subst (λ (n : ℕ). Step p s (done n) t) z
+          (does e served (done-as t (unchanged (performed .sound)) refl (λ i n. refl) (rw (eq-eqb d 0 z))))
+
+      traced : d ≢ 0 → Step p s (done d) (setTrap t 2 d)
+      unfolding setTrap
+      traced n =
+          let there : 3 < length t = omega (arith, kept .long, h .shortest) in
+          let word : trapWord (set t 3 (trapOf 2 d)) ≡ trapOf 2 d = rw getD-set-same in
+          does e served
+          (done-as (set t 3 (trapOf 2 d)) (trap-unchanged (performed .sound) (trapOf 2 d)) (length-set t 3 (trapOf 2 d)) (λ i k. rw getD-set-other)
+          (word ∙ rw (ne-eqb d 0 n)))
+
+      done-is : StepOf (finished d t)
+      done-is = go (eqb d 0) refl
+        where
+          go : (b : Bool) → eqb d 0 ≡ b → StepOf (finished d t)
+          go true z = rw z (silent (eqb-true d 0 z), tt)
+          go false z = rw z (traced (eqb-false d 0 z), eqb-false d 0 z)
+
+  -- ---- the step
+
+  pub step-done : StepOf (stepOf regular other s)
+  step-done = go plan refl
+    where
+      gone : (es : List Effect) → plan ≡ gives es → (b : Bool) → anyFull s es ≡ b → StepOf (stepOf regular other s)
+      gone es e true q = subst StepOf (sym (full-step es e q ∙ trap-small 1 2 (omega arith) (omega arith))) (full e (vain es e .0 q), tt)
+      gone es e false q = subst StepOf (sym (done-step es e q)) (done-is es e q)
+
+      go : (q : Plan) → plan ≡ q → StepOf (stepOf regular other s)
+      go (gives es) e = gone es e (anyFull s es) refl
+      go (trap class number) e =
+          let l = plan-listed regular other (length s - sbase s) (view s) class number e in
+          subst StepOf (sym (trap-step class number e ∙ trap-small class number (traps-listed .class class number l) (traps-listed .number class number l))) (traps e, tt)
+
+  -- what holds of the segment, is kept by the effects of its plan, and goes by no trap
+  step-keeps : (P : List ℕ → Type 0) → ((t : List ℕ) → P t → (v : ℕ) → v < 2 ^ 16 → P (set t 3 v)) → P s
+      → ((es : List Effect) → plan ≡ gives es → anyFull s es ≡ false → P (performs s es)) → P (stepOf regular other s .words)
+  unfolding setTrap
+  step-keeps P trapping start effects = go plan refl
+    where
+      stopped : (class number : ℕ) → stepOf regular other s ≡ stepping.trapped s class number → P (stepOf regular other s .words)
+      stopped class number q = rw q (trapping s start _ (omega arith))
+
+      gone : (es : List Effect) → plan ≡ gives es → (b : Bool) → anyFull s es ≡ b → P (stepOf regular other s .words)
+      gone es e true q = stopped 1 2 (full-step es e q)
+      gone es e false q =
+          rw (done-step es e q)
+          (finished-keeps (d es e) (small es e q) (t es e) P (trapping (t es e) (effects es e q)) (effects es e q))
+
+      go : (q : Plan) → plan ≡ q → P (stepOf regular other s .words)
+      go (gives es) e = gone es e (anyFull s es) refl
+      go (trap class number) e = stopped class number (trap-step class number e)
+
+  -- what is left is accepted again, and of 32-bit words
+  pub step-accepted : Accepted (stepOf regular other s .words) regular other
+  step-accepted = step-keeps (λ t. Accepted t regular other) (λ t k v l. trap-accepted t regular other k v l) h done-accepted
+
+  pub step-words : Words (stepOf regular other s .words)
+  step-words =
+      step-keeps Words (λ t k v l. words-set t k 3 v (omega arith)) (lent .words) (λ es e q.
+      let k = known es e in
+      bounded-theorems .effects s sound (lent .words) es (k .fitting .all) (k .fitting .once) q (k .small))
