@@ -21,6 +21,9 @@ use Rattle.layout.proofs.Passed.{passed as passes}
 use Rattle.operations.specs.declared.Answer.{Answer}
 use Rattle.operations.specs.declared.Answer.the-variants.{Done, Refused}
 use Rattle.operations.specs.Answers.{answerOf}
+use Rattle.audit.specs.Calls as call
+use Rattle.audit.specs.Did.{Promised}
+use Rattle.audit.proofs.LayOut.{lay-out-did}
 
 -- ---- the bottom function
 
@@ -117,3 +120,11 @@ module _ (s regular other : List ℕ) (l : Layout) where
           room =
               let p = passes regular other l s (judged true fit) in
               ((p .function .selector, p .function .number, p .room .storage), (rw (by-block regular other l block at) (p .room .stack), p .room .longest))
+
+-- ---- the promise
+
+pub promised : (s regular alternate : List ℕ) (l : Layout) (answer : Answer) (after : List ℕ) → Answers s regular alternate l answer after
+    → (answer ≡ answerOf (layOutRefusal s regular alternate l))
+    × ((after ≡ laidOut s regular alternate l) × Promised s (call.layOut (call.procedures regular alternate) l) (call.answerOf answer) after)
+unfolding Promised
+promised s regular alternate l answer after e = (e .0, (e .1, λ words lent. rw (e .0, e .1) (lay-out-did s (call.procedures regular alternate) l)))

@@ -1,5 +1,5 @@
--- Laws of the crate.
-pub mod Products
+-- The tables of the operations, and that what they say is what is promised.
 pub mod LayingOut
 pub mod Loading
 pub mod Running
+pub mod Looking

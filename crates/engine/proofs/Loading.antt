@@ -24,6 +24,9 @@ use Rattle.perform.proofs.Placing.{full-by-need}
 use Rattle.operations.specs.declared.Answer.{Answer}
 use Rattle.operations.specs.declared.Answer.the-variants.{Done, Refused}
 use Rattle.operations.specs.Answers.{answerOf}
+use Rattle.audit.specs.Calls as call
+use Rattle.audit.specs.Did.{Promised}
+use Rattle.audit.proofs.Load.{load-did}
 use Rattle.operations.specs.Load as meaning
 use Rattle.operations.specs.Load.{isGlobal, isValue, sourceOf, loadRefusal, loaded}
 
@@ -117,3 +120,13 @@ module _ (s regular other : List ℕ) (g : ℕ) (lengths ravel : List ℕ) where
                 let e = told-done (isFull s effect) told in
                 let same = done (judged false (by-need ∙ e)) in
                 (same .0, left ∙ rw (e, at) (simp (ne-eqb (length lengths) 0 rank) at (same .1)))
+
+-- ---- the promise
+
+pub promised : (s regular alternate : List ℕ) (g : ℕ) (lengths ravel : List ℕ) (answer : Answer) (after : List ℕ)
+    → Answers s regular alternate g lengths ravel answer after
+    → (answer ≡ answerOf (loadRefusal s regular alternate g lengths ravel))
+    × ((after ≡ loaded s regular alternate g lengths ravel) × Promised s (call.load (call.procedures regular alternate) g lengths ravel) (call.answerOf answer) after)
+unfolding Promised
+promised s regular alternate g lengths ravel answer after e =
+    (e .0, (e .1, λ words lent. rw (e .0, e .1) (load-did s (call.procedures regular alternate) g lengths ravel)))

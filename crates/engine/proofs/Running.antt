@@ -1,20 +1,47 @@
 -- The table of run: what is answered, and the segment after it, where the segment is refused, and where it is not.
 use Prim.Native.Nat.{ℕ}
-use mathlib.Core.Path.{_≡_, ap}
+use mathlib.Core.Path.{_≡_, sym, ap, subst}
 use mathlib.Core.List.{List}
+use lib.ListN.{set}
 use borrow.Author.Tests.{ne-eqb}
 use Rattle.acceptance.specs.Refusal.{refusal}
 use Rattle.stepping.specs.declared.Ran.{Ran}
 use Rattle.stepping.specs.Run as machine
+use Rattle.operations.specs.declared.Run.{Run}
 use Rattle.operations.specs.declared.Run.the-variants.{Refused}
-use Rattle.operations.specs.Run.{ended, answerOf, accepted, ran}
+use Rattle.operations.specs.Run.{Ended, ended, answerOf, accepted, ran}
+use Rattle.audit.specs.Calls as call
+use Rattle.audit.specs.Did.{Did, Promised}
+use Rattle.audit.proofs.Run.{run-did}
 
-module _ (s regular other : List ℕ) (budget : ℕ) where
-  pub unaccepted : (n : ℕ) → n ≡ refusal s regular other → (n ≡ 0 → ⊥) → ended (Refused n) s ≡ ran s regular other budget
-  unfolding ran
-  unaccepted n same some = simp (← same, ne-eqb n 0 some)
+-- ---- the table
 
-  pub has-run : 0 ≡ refusal s regular other → (r : Ran) (after : List ℕ) → machine.ended r after ≡ machine.runOf regular other s budget
-      → ended (answerOf r) after ≡ ran s regular other budget
+module _ (s regular alternate : List ℕ) (budget : ℕ) where
+  -- what run answers and leaves, and the promise
+  abbrev pub Answers : Run → List ℕ → Type 0
+  Answers answer after =
+      (ended answer after ≡ ran s regular alternate budget)
+      × Promised s (call.run (call.procedures regular alternate) budget) (call.runAnswer answer) after
+
+  promised : (answer : Run) (after : List ℕ) → ended answer after ≡ ran s regular alternate budget → Answers answer after
+  unfolding Promised
+  promised answer after e = (
+    e,
+    λ words lent.
+        subst (λ (x : Ended). Did s (call.run (call.procedures regular alternate) budget) (call.runAnswer (x .answer)) (x .words)) (sym e)
+        (run-did s (call.procedures regular alternate) budget words lent),
+  )
+
+  pub unaccepted : (n : ℕ) → n ≡ refusal s regular alternate → (n ≡ 0 → ⊥) → Answers (Refused n) s
   unfolding ran
-  has-run passed r after same = simp (← passed) (ap accepted same)
+  unaccepted n same some = promised (Refused n) s (simp (← same, ne-eqb n 0 some))
+
+  module _ (passed : 0 ≡ refusal s regular alternate) (after : List ℕ) where
+    has-run : (r : Ran) → machine.ended r after ≡ machine.stepsFrom budget 0 regular alternate (set s 3 0) → ended (answerOf r) after ≡ ran s regular alternate budget
+    unfolding ran machine.runOf
+    has-run r same = simp (← passed) (ap accepted same)
+
+    -- from the words with word 3 zero
+    pub has-ended : (start : List ℕ) → start ≡ set s 3 0 → (r : Ran) → machine.ended r after ≡ machine.stepsFrom budget 0 regular alternate start
+        → Answers (answerOf r) after
+    has-ended start zero r same = promised (answerOf r) after (has-run r (rw zero at same))

@@ -3,19 +3,22 @@ ghost use mathlib.Core.Path.{_≡_};
 ghost use Rattle.segment.specs.Parts as parts;
 ghost use Rattle.operations.specs.Look.{seenAs, looked};
 ghost use Rattle.descriptor.specs.Kinds.{kindOf};
-use super::judge::is_global;
-use super::judge::refusal_of;
+ghost use Rattle.audit.specs.Calls as call;
+ghost use Rattle.audit.specs.Did.{Promised};
 use descriptor::Descriptor;
 use descriptor::Kind;
 use descriptor::address::SegmentAddress;
+use operation_parts::tests::is_global;
+use operation_parts::tests::refusal_of;
 use operations::Looked;
 use segment::blocks;
 use segment::word;
 
-pub fn look(seg: &[u32], regular: &[u8], other: &[u8], global: u32) -> Looked
-    ensures { λ r. ⌜ r ≡ looked (now (seg .entry)) (now (regular .entry)) (now (other .entry)) global ⌝ }
+pub fn look(seg: &[u32], regular: &[u8], alternate: &[u8], global: u32) -> Looked
+    ensures { λ r. ⌜ r ≡ looked (now (seg .entry)) (now (regular .entry)) (now (alternate .entry)) global ⌝ }
+    ensures { λ r. ⌜ Promised (now (seg .entry)) (call.look (call.procedures (now (regular .entry)) (now (alternate .entry))) global) (call.lookAnswer r) (now (seg .entry)) ⌝ }
 {
-    let refused = refusal_of(seg, regular, other);
+    let refused = refusal_of(seg, regular, alternate);
     if refused != 0 {
         return Looked::Refused(refused);
     }

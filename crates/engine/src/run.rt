@@ -1,18 +1,23 @@
 // Run: at most a given number of instructions.
 ghost use mathlib.Core.Path.{_≡_};
 ghost use Rattle.operations.specs.Run.{ended, ran};
-use super::judge::refusal_of;
+ghost use Rattle.audit.specs.Calls as call;
+ghost use Rattle.audit.specs.Did.{Promised};
+use operation_parts::tests::refusal_of;
 use operations::Run;
+use segment::put;
 use stepping::Ran;
 
-pub fn run(seg: &mut [u32], regular: &[u8], other: &[u8], budget: u32) -> Run
-    ensures { λ r. ⌜ ended r (now (seg .exit)) ≡ ran (now (seg .entry)) (now (regular .entry)) (now (other .entry)) budget ⌝ }
+pub fn run(seg: &mut [u32], regular: &[u8], alternate: &[u8], budget: u32) -> Run
+    ensures { λ r. ⌜ ended r (now (seg .exit)) ≡ ran (now (seg .entry)) (now (regular .entry)) (now (alternate .entry)) budget ⌝ }
+    ensures { λ r. ⌜ Promised (now (seg .entry)) (call.run (call.procedures (now (regular .entry)) (now (alternate .entry))) budget) (call.runAnswer r) (now (seg .exit)) ⌝ }
 {
-    let refused = refusal_of(seg, regular, other);
+    let refused = refusal_of(seg, regular, alternate);
     if refused != 0 {
         return Run::Refused(refused);
     }
-    match machine::run::run(seg, regular, other, budget) {
+    put(seg, 3, 0);
+    match machine::run::run(seg, regular, alternate, budget) {
         Ran::Done(steps) => Run::Done(steps),
         Ran::Trapped(steps) => Run::Trapped(steps),
     }

@@ -8,14 +8,13 @@ ghost use Rattle.procedure.specs.Directory.{selected, functionOf};
 ghost use Rattle.segment.specs.State as state;
 ghost use Rattle.segment.specs.Stack as stack;
 ghost use Rattle.stepping.specs.Step.{selectorOf, numberOf};
-ghost use Rattle.stepping.specs.Run.{ended, stepsFrom, runOf};
+ghost use Rattle.stepping.specs.Run.{ended, stepsFrom};
 ghost use Rattle.stepping.specs.declared.Ran.the-variants as R;
 ghost use Rattle.machine.specs.Stretches.{resumed, Advanced};
 use super::step::step_in;
 use procedure::directory::Function;
 use procedure::directory::find;
 use procedure::header::Block;
-use segment::put;
 use segment::stack::alternate;
 use segment::stack::function_number;
 use segment::stack::pctr;
@@ -29,9 +28,8 @@ use stepping::Stepped;
 // At most `budget` instructions.
 pub fn run(seg: &mut [u32], regular: &[u8], other: &[u8], budget: u32) -> Ran
     requires { ⌜ length (now seg) ≤ 16384 ⌝ }
-    ensures { λ r. ⌜ ended r (now (seg .exit)) ≡ runOf (now (regular .entry)) (now (other .entry)) (now (seg .entry)) budget ⌝ }
+    ensures { λ r. ⌜ ended r (now (seg .exit)) ≡ stepsFrom budget 0 (now (regular .entry)) (now (other .entry)) (now (seg .entry)) ⌝ }
 {
-    put(seg, 3, 0);
     let mut scratch = [0u32; 16384];
     steps_up_to(seg, regular, other, budget, &mut scratch)
 }

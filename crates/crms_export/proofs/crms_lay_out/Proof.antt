@@ -15,7 +15,7 @@ same-length : tie.Need-same-length
 same-length c = search needs
 
 returns : tie.Need-returns
-returns c = (c .status .ensures ∙ ap statusOf (c .before .before .before .lay-out .ensures .0) ∙ status-answer _, c .before .before .before .lay-out .ensures .1)
+returns c = (c .status .ensures ∙ ap statusOf (c .before .before .before .lay-out .ensures .0) ∙ status-answer _, c .before .before .before .lay-out .ensures .1 .0)
 
 pub crms-lay-out-spec : {M : Type 1} → statement M
 crms-lay-out-spec = tie.close (tie.spec lay-out-requires status-requires same-length returns)

@@ -15,7 +15,7 @@ same-length : tie.Need-same-length
 same-length c = search needs
 
 returns : tie.Need-returns
-returns c = (c .status .ensures ∙ ap statusOf (c .before .before .before .load .ensures .0) ∙ status-answer _, c .before .before .before .load .ensures .1)
+returns c = (c .status .ensures ∙ ap statusOf (c .before .before .before .load .ensures .0) ∙ status-answer _, c .before .before .before .load .ensures .1 .0)
 
 pub crms-load-spec : {M : Type 1} → statement M
 crms-load-spec = tie.close (tie.spec load-requires status-requires same-length returns)

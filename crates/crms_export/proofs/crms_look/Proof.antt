@@ -31,13 +31,13 @@ array-number-requires : tie.Need-array-number-requires
 array-number-requires c κs = search needs
 
 returns : tie.Need-returns
-returns c = simp (← c .before .before .before .look .ensures, c .before .number .given .1) (omega arith)
+returns c = simp (← c .before .before .before .look .ensures .0, c .before .number .given .1) (omega arith)
 
 returns-2 : tie.Need-returns-2
-returns-2 c = simp (← c .before .before .look .ensures, c .enum-told .given .1) (omega arith)
+returns-2 c = simp (← c .before .before .look .ensures .0, c .enum-told .given .1) (omega arith)
 
 returns-3 : tie.Need-returns-3
-returns-3 c = simp (← c .before .before .before .before .look .ensures, c .before .before .block .given .1) (c .array-number .ensures)
+returns-3 c = simp (← c .before .before .before .before .look .ensures .0, c .before .before .block .given .1) (c .array-number .ensures)
 
 pub crms-look-spec : {M : Type 1} → statement M
 crms-look-spec =

@@ -13,7 +13,7 @@ same-length : tie.Need-same-length
 same-length c = search needs
 
 returns : tie.Need-returns
-returns c = run-told _ _ _ _ (c .run-number .ensures) (c .before .before .before .run .ensures)
+returns c = run-told _ _ _ _ (c .run-number .ensures) (c .before .before .before .run .ensures .0)
 
 pub crms-run-spec : {M : Type 1} → statement M
 crms-run-spec = tie.close (tie.spec run-requires run-number-requires same-length returns)

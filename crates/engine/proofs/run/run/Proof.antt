@@ -1,6 +1,9 @@
+use mathlib.Core.Path.{ap, _∙_}
+use native.Mathlib.Omega.{arith}
+use lib.ListN.{length, length-set}
 use Rattle.stepping.specs.declared.Ran.the-variants.{Done, Trapped}
 use Rattle.acceptance.proofs.Structure.{table-sound}
-use Rattle.engine.proofs.Running.{unaccepted, has-run}
+use Rattle.engine.proofs.Running.{unaccepted, has-ended}
 use borrow.Author.Needs.{needs}
 use Rattle.engine.proofs.run.run.Statement.{statement}
 use Rattle.engine.proofs.run.run.Tie as tie
@@ -14,10 +17,14 @@ same-length c = search needs
 returns : tie.Need-returns
 returns c = unaccepted _ _ _ _ _ (c .before .refusal-of .ensures) (c .if1 .taken)
 
+put-requires : tie.Need-put-requires
+put-requires c κs = search needs
+
 run-requires : tie.Need-run-requires
 run-requires c κs =
-    let a = c .before .before .before .before .before .before .before .args in
-    table-sound (a .seg .now) (a .regular .now) (a .other .now) (cc) .longest
+    let a = c .before .before .before .before .before .before .before .before .before .before .before .args in
+    let h = table-sound (a .seg .now) (a .regular .now) (a .alternate .now) (cc) .longest in
+    search needs
 
 enum-known-steps : tie.Need-enum-known-steps
 enum-known-steps c = search needs
@@ -29,13 +36,13 @@ same-length-2 : tie.Need-same-length-2
 same-length-2 c = search needs
 
 returns-2 : tie.Need-returns-2
-returns-2 c = has-run _ _ _ _ (cc) (Done (c .before .steps .given .0 .0)) _ (cc)
+returns-2 c = has-ended _ _ _ _ (cc) _ _ (c .before .before .before .before .before .before .before .before .before .put .ensures) (Done (c .before .steps .given .0 .0)) (cc)
 
 same-length-3 : tie.Need-same-length-3
 same-length-3 c = search needs
 
 returns-3 : tie.Need-returns-3
-returns-3 c = has-run _ _ _ _ (cc) (Trapped (c .before .steps2 .given .0 .0)) _ (cc)
+returns-3 c = has-ended _ _ _ _ (cc) _ _ (c .before .before .before .before .before .before .before .before .before .put .ensures) (Trapped (c .before .steps2 .given .0 .0)) (cc)
 
 pub run-spec : {M : Type 1} → statement M
 run-spec =
@@ -44,6 +51,7 @@ run-spec =
     refusal-of-requires
     same-length
     returns
+    put-requires
     run-requires
     enum-known-steps
     enum-known-steps-2

@@ -1,10 +1,6 @@
-use Rattle.stepping.specs.Run.{runOf}
 use borrow.Author.Needs.{needs}
 use Rattle.machine.proofs.run.run.Statement.{statement}
 use Rattle.machine.proofs.run.run.Tie as tie
-
-put-requires : tie.Need-put-requires
-put-requires c κs = search needs
 
 slice-aggregate-steps-up-to : tie.Need-slice-aggregate-steps-up-to
 slice-aggregate-steps-up-to c = search needs
@@ -16,10 +12,7 @@ same-length : tie.Need-same-length
 same-length c = search needs
 
 returns : tie.Need-returns
-unfolding runOf
 returns c = (cc)
 
 pub run-spec : {M : Type 1} → statement M
-run-spec =
-    tie.close
-    (tie.spec put-requires slice-aggregate-steps-up-to steps-up-to-requires same-length returns)
+run-spec = tie.close (tie.spec slice-aggregate-steps-up-to steps-up-to-requires same-length returns)
