@@ -1,8 +1,8 @@
 -- The demands: what `Did` and `Step` say of each call and each instruction, and by induction of every list of calls.
-use Prim.Native.Nat.{ℕ, zero, suc, _+_, _-_, _≤_}
+use Prim.Native.Nat.{ℕ, suc, _+_, _-_, _≤_}
 use mathlib.Core.Path.{_≡_, refl, sym, _∙_, ap, subst}
 use mathlib.Core.Bool.{Bool, true, false, cond, _&&_}
-use mathlib.Core.Logic.{_↔_, _≢_, _⊎_, inl, inr, ⊎-elim}
+use mathlib.Core.Logic.{_↔_, _≢_, _⊎_, inl, inr}
 use mathlib.Core.List.{List, [], _∷_, map}
 use native.Mathlib.Omega.{arith}
 use lib.Dec.{eqb}
@@ -13,7 +13,6 @@ use Rattle.segment.specs.Cells.{Cell}
 use Rattle.view.specs.View.{view}
 use Rattle.heap.proofs.Theorems.{heap-theorems}
 use Rattle.storage_tests.proofs.Tests.{by-eq}
-use Rattle.acceptance.specs.Refusal.{refusal}
 use Rattle.acceptance.specs.Structure.{Accepted}
 use Rattle.acceptance.proofs.Structure.{structure}
 use Rattle.manual.specs.OrTrap.{gives, trap}

@@ -34,7 +34,7 @@ use Rattle.operations.specs.declared.Looked.{Looked}
 use Rattle.operations.specs.declared.Looked.the-variants.{Refused}
 use Rattle.operations.specs.Load.{isGlobal}
 use Rattle.operations.specs.Look.{seenAs, looked}
-use Rattle.audit.specs.Calls.{Procedures, Answer, lookAnswer, look, firstFailed, tests, test, held}
+use Rattle.audit.specs.Calls.{Procedures, lookAnswer, look, firstFailed, tests, test, held}
 use Rattle.audit.specs.Did.{Tells, Did, isRefused, hasTold}
 use Rattle.audit.proofs.Tests.{further-told}
 

@@ -1,8 +1,8 @@
 -- A run of an accepted segment, one step after the other.
-use Prim.Native.Nat.{ℕ, zero, suc, _+_, _-_, _*_, _<_}
+use Prim.Native.Nat.{ℕ, zero, suc, _+_, _-_, _<_}
 use mathlib.Core.Path.{_≡_, refl, sym, _∙_, ap, subst}
-use mathlib.Core.Bool.{Bool, true, false, cond}
-use mathlib.Core.Logic.{_↔_, _≢_, _⊎_, inl, inr, ⊎-elim}
+use mathlib.Core.Bool.{true, cond}
+use mathlib.Core.Logic.{_↔_, _⊎_, inr, ⊎-elim}
 use mathlib.Core.List.{List}
 use native.Mathlib.Omega.{arith}
 use lib.Dec.{eqb}
@@ -19,7 +19,7 @@ use Rattle.stepping.specs.declared.Stepped.{Stepped}
 use Rattle.stepping.specs.declared.Stepped.the-variants as S
 use Rattle.stepping.specs.declared.Ran.{Ran}
 use Rattle.stepping.specs.declared.Ran.the-variants as R
-use Rattle.stepping.specs.Step.{Result, after, stepOf}
+use Rattle.stepping.specs.Step.{stepOf}
 use Rattle.stepping.specs.Run as stepping
 use Rattle.stepping.specs.Run.{following, stepsFrom, runOf}
 use Rattle.effects_theorems.proofs.Tests.{never}
@@ -31,7 +31,7 @@ use Rattle.steps.proofs.Planned.{plan-listed}
 use Rattle.audit.specs.Calls.{Procedures, Answer, refused, done, ran, trapped, scalar, array}
 use Rattle.audit.specs.Steps as step
 use Rattle.audit.specs.Steps.{Step, traps, full, does, Done, inVain}
-use Rattle.audit.specs.Runs.{Runs, over, goesOn, traced, stops, AsksInVain, SomeAsksInVain, ReportsFull}
+use Rattle.audit.specs.Runs.{Runs, over, goesOn, traced, stops, RequestInVain, SomeRequestInVain, ReportsFull}
 use Rattle.audit.proofs.Steps.{outcomeFrom, Some, step-done, step-accepted, step-words}
 
 abbrev pub answerOf : Ran → Answer
@@ -138,7 +138,7 @@ run-all {budget = budget} {s = s} {t = t} runs z n e =
 
 -- a step whose instruction asks in vain is (1,2), and (1,2) comes of nothing else
 abbrev Vain : Procedures → List ℕ → step.Outcome → List ℕ → Type 0
-Vain p s o t = AsksInVain p s → (o ≡ step.trapped 1 2) × (t ≡ set s 3 (state.trap 1 2))
+Vain p s o t = RequestInVain p s → (o ≡ step.trapped 1 2) × (t ≡ set s 3 (state.trap 1 2))
 
 pub vain-traps : {p : Procedures} {s t : List ℕ} {o : step.Outcome} → Step p s o t → Vain p s o t
 vain-traps (traps e) k = let z : _≡_ {A = ℕ} 0 1 = cc in absurd (omega arith)
@@ -148,7 +148,7 @@ vain-traps {s = s} (does {es = es} e v d) k =
     never (sym (k .2) ∙ ap (inVain s) (sym same) ∙ v)
 
 abbrev OnlyVain : Procedures → List ℕ → step.Outcome → Type 0
-OnlyVain p s (step.trapped class number) = state.trap class number ≡ state.trap 1 2 → AsksInVain p s
+OnlyVain p s (step.trapped class number) = state.trap class number ≡ state.trap 1 2 → RequestInVain p s
 OnlyVain p s (step.done d) = Unit {0}
 
 never-full : listed 1 2 ≡ true → ⊥
@@ -169,7 +169,7 @@ only-vain (does e v d) = tt
 trap-read : (s regular other : List ℕ) → Accepted s regular other → (v : ℕ) → trapWord (set s 3 v) ≡ v
 trap-read s regular other h v = let l : 3 < length s = omega (arith, h .shortest) in rw getD-set-same
 
-reports : {p : Procedures} {budget steps : ℕ} {s t : List ℕ} {answer : Answer} → (r : Runs p budget steps s answer t) → ReportsFull answer t → SomeAsksInVain r
+reports : {p : Procedures} {budget steps : ℕ} {s t : List ℕ} {answer : Answer} → (r : Runs p budget steps s answer t) → ReportsFull answer t → SomeRequestInVain r
 reports over f = let z : _≡_ {A = ℕ} 0 1 = cc (f .answered) in absurd (omega arith)
 reports (goesOn accepted e rest) f = inr (reports rest f)
 reports (traced {d = d} {t = t} accepted some e) f =
@@ -178,12 +178,12 @@ reports (traced {d = d} {t = t} accepted some e) f =
 reports {p = p} (stops {class = class} {number = number} {s = s} accepted e) f =
     only-vain e (sym (trap-read s (p .regular) (p .alternate) accepted (state.trap class number)) ∙ ap trapWord (sym (step-left e)) ∙ f .trap)
 
-reported : {p : Procedures} {budget steps : ℕ} {s t : List ℕ} {answer : Answer} → (r : Runs p budget steps s answer t) → SomeAsksInVain r → ReportsFull answer t
+reported : {p : Procedures} {budget steps : ℕ} {s t : List ℕ} {answer : Answer} → (r : Runs p budget steps s answer t) → SomeRequestInVain r → ReportsFull answer t
 reported over k = absurd k
 reported (goesOn accepted e rest) k = ⊎-elim (λ v. let q = vain-traps e v in let z : _≡_ {A = ℕ} 0 1 = cc in absurd (omega arith)) (λ v. reported rest v) k
 reported (traced accepted some e) k = let q = vain-traps e k in let z : _≡_ {A = ℕ} 0 1 = cc in absurd (omega arith)
 reported {p = p} (stops {steps = steps} {s = s} accepted e) k =
     record { steps = steps; answered = refl; trap = ap trapWord (vain-traps e k .1) ∙ trap-read s (p .regular) (p .alternate) accepted (state.trap 1 2) }
 
-pub run-full : {p : Procedures} {budget steps : ℕ} {s t : List ℕ} {answer : Answer} → (r : Runs p budget steps s answer t) → ReportsFull answer t ↔ SomeAsksInVain r
+pub run-full : {p : Procedures} {budget steps : ℕ} {s t : List ℕ} {answer : Answer} → (r : Runs p budget steps s answer t) → ReportsFull answer t ↔ SomeRequestInVain r
 run-full r = (reports r, reported r)

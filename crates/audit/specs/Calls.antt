@@ -1,7 +1,7 @@
 -- A call of one of the four operations, what it answers, and the table of document 01: "Tests go in table order, save that 20
 -- comes before 19; lay out omits 13–18." A reader must believe: each test is the sentence of its number. Assumes nothing.
 use Prim.Native.Nat.{ℕ}
-use mathlib.Core.Bool.{Bool, true, false, cond, not, _||_}
+use mathlib.Core.Bool.{Bool, cond, not, _||_}
 use mathlib.Core.List.{List, [], _∷_, _++_}
 use lib.Dec.{eqb}
 use lib.ListN.{length}
@@ -11,7 +11,6 @@ use Rattle.procedure.specs.Refusal.{lengthRefused, contentsFault, refuses}
 use Rattle.segment.specs.Blocks.{need}
 use Rattle.segment.specs.Cells.{Cell, undefined}
 use Rattle.view.specs.View.{view}
-use Rattle.storage_tests.specs.Tests.{_and_}
 use Rattle.storage_tests.specs.Head.{headTest}
 use Rattle.storage_tests.specs.Blocks.{blocksTest}
 use Rattle.storage_tests.specs.Ring.{ringTest}

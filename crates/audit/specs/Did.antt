@@ -1,8 +1,7 @@
 -- What a call does: the words before it, the call, its answer, the words after it. Demands 1 and 2 of document 01 for each of the
 -- four operations; every public operation's contract is this relation. Assumes nothing.
-use Prim.Native.Nat.{ℕ, _<_}
+use Prim.Native.Nat.{ℕ}
 use mathlib.Core.Path.{_≡_}
-use mathlib.Core.Bool.{false}
 use mathlib.Core.Logic.{_↔_, _≢_}
 use mathlib.Core.List.{List, [], _∷_}
 use lib.Dec.{eqb}
@@ -23,7 +22,7 @@ use Rattle.layout.specs.LayOut.{Layout, localsOf}
 use Rattle.layout.specs.Fresh.{freshView}
 use Rattle.layout.specs.FreshWords.{FreshWords}
 use Rattle.audit.specs.Calls.{Procedures, Call, layOut, run, load, look, Answer, refused, done, ran, trapped, scalar, array, firstFailed, tests, held, LentCall}
-use Rattle.audit.specs.Runs.{Runs, SomeAsksInVain, ReportsFull}
+use Rattle.audit.specs.Runs.{Runs, SomeRequestInVain, ReportsFull}
 
 -- The fresh segment: every word of it is said, and it is seen as all undefined, with one frame at the start of its function's code.
 pub record LaidOut (s : List ℕ) (p : Procedures) (l : Layout) (t : List ℕ) : Type 0 where
@@ -36,7 +35,7 @@ pub record Ran (s : List ℕ) (p : Procedures) (budget : ℕ) (answer : Answer) 
   pub steps : Runs p budget 0 (set s 3 0) answer t
   pub all : (n : ℕ) → answer ≡ ran n → (n ≡ budget) × (trapWord t ≡ 0)
   -- (1,2) is reported exactly where an instruction comes to a request for which no free block is long enough
-  pub full : ReportsFull answer t ↔ SomeAsksInVain steps
+  pub full : ReportsFull answer t ↔ SomeRequestInVain steps
   pub accepted : Accepted t (p .regular) (p .alternate)
 
 -- The global has the value, and every other variable the one it had, though it shares storage.

@@ -17,7 +17,7 @@ use Rattle.heap.specs.Tiling.{Tiling}
 use Rattle.acceptance.specs.Structure.{Accepted}
 use Rattle.operations.specs.Load.{isGlobal, isValue}
 use Rattle.audit.specs.Calls.{Procedures, Call, layOut, run, load, look, Answer, refused, done, ran, trapped, scalar, array, LentCall}
-use Rattle.audit.specs.Runs.{Runs, SomeAsksInVain, ReportsFull}
+use Rattle.audit.specs.Runs.{Runs, SomeRequestInVain, ReportsFull}
 use Rattle.audit.specs.Did.{Did}
 
 -- The number that refuses a call; 0 where none does.
@@ -64,7 +64,7 @@ pub record LoadInVain (s : List ℕ) (p : Procedures) (g : ℕ) (lengths ravel :
 -- Full is (1,2) of a run, 24 of a load.
 pub record FullExactly (s : List ℕ) (c : Call) (a : Answer) (t : List ℕ) : Type 0 where
   pub run : (p : Procedures) (budget : ℕ) → c ≡ run p budget → refusalOf a ≡ 0
-      → (steps : Runs p budget 0 (set s 3 0) a t) × (ReportsFull a t ↔ SomeAsksInVain steps)
+      → (steps : Runs p budget 0 (set s 3 0) a t) × (ReportsFull a t ↔ SomeRequestInVain steps)
   pub load : (p : Procedures) (g : ℕ) (lengths ravel : List ℕ) → c ≡ load p g lengths ravel → (a ≡ refused 24) ↔ LoadInVain s p g lengths ravel
 
 -- ---- the list

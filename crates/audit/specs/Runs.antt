@@ -31,15 +31,15 @@ pub data Runs (p : Procedures) : ℕ → ℕ → List ℕ → Answer → List �
 -- ---- storage full
 
 -- The next instruction comes to a request for which no free block is long enough.
-abbrev pub AsksInVain : Procedures → List ℕ → Type 0
-AsksInVain p s = (es : List Effect) × (planned s (p .regular) (p .alternate) ≡ gives es) × (inVain s es ≡ true)
+abbrev pub RequestInVain : Procedures → List ℕ → Type 0
+RequestInVain p s = (es : List Effect) × (planned s (p .regular) (p .alternate) ≡ gives es) × (inVain s es ≡ true)
 
 -- An instruction of the run does.
-abbrev pub SomeAsksInVain : {p : Procedures} {budget steps : ℕ} {s t : List ℕ} {answer : Answer} → Runs p budget steps s answer t → Type 0
-SomeAsksInVain over = ⊥
-SomeAsksInVain {p = p} (goesOn {s = s} accepted step rest) = AsksInVain p s ⊎ SomeAsksInVain rest
-SomeAsksInVain {p = p} (traced {s = s} accepted some step) = AsksInVain p s
-SomeAsksInVain {p = p} (stops {s = s} accepted step) = AsksInVain p s
+abbrev pub SomeRequestInVain : {p : Procedures} {budget steps : ℕ} {s t : List ℕ} {answer : Answer} → Runs p budget steps s answer t → Type 0
+SomeRequestInVain over = ⊥
+SomeRequestInVain {p = p} (goesOn {s = s} accepted step rest) = RequestInVain p s ⊎ SomeRequestInVain rest
+SomeRequestInVain {p = p} (traced {s = s} accepted some step) = RequestInVain p s
+SomeRequestInVain {p = p} (stops {s = s} accepted step) = RequestInVain p s
 
 -- A run reports full: answer 3 with (1,2) in word 3.
 pub record ReportsFull (answer : Answer) (t : List ℕ) : Type 0 where

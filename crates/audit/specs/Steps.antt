@@ -1,7 +1,7 @@
 -- What one instruction of an accepted segment comes to, told by the words before it, its outcome and the words after it, and by
 -- nothing of how an engine does it. Document 01: "Meanings fixed here" and the manual, by way of the plan of the instruction at
 -- PCTR. A reader must believe: `planned` is the manual's plan, `performAll` its effects on values. Assumes nothing.
-use Prim.Native.Nat.{ℕ, _+_, _*_, _/_}
+use Prim.Native.Nat.{ℕ, _/_}
 use mathlib.Core.Path.{_≡_}
 use mathlib.Core.Bool.{Bool, true, false, cond, not, _&&_}
 use mathlib.Core.List.{List, [], _∷_}
