@@ -12,8 +12,8 @@ use Rattle.descriptor.specs.Fields.{isArray, address, undefinedWord, localWord,
 use Rattle.descriptor.specs.Kinds.{isScalar}
 use Rattle.segment.specs.State.{sbase, blockptr}
 use Rattle.storage.specs.Heap.{count}
-use Rattle.storage_tests.specs.Tests.{_and_}
-use Rattle.storage_tests.proofs.Tests.{both, passes}
+use Rattle.acceptance_storage.specs.Tests.{_and_}
+use Rattle.acceptance_storage.proofs.Tests.{both, passes}
 use Rattle.acceptance.specs.Cells.{inList, isIndirect, isGlobal, direct, pointing, freeCell}
 use Rattle.acceptance.specs.Structure.{VariableOf, Direct, NamesGlobal, NamesVariable, DirectOrIndirect}
 

@@ -11,18 +11,18 @@ use Rattle.descriptor.specs.Fields.{arrayWord}
 use Rattle.segment.specs.State.{blockptr}
 use Rattle.segment.specs.Blocks.{freeAt, spanAt, countAt, dummy}
 use Rattle.storage.specs.Heap.{Block, free, array, Walk, over, count}
-use Rattle.heap.proofs.Walks.{over-le}
-use Rattle.heap.proofs.Counts.{hit-eq, hit-not, hit-same}
-use Rattle.view.specs.View.{owners}
-use Rattle.storage_tests.specs.Tests.{every}
-use Rattle.storage_tests.specs.Head.{Head}
-use Rattle.storage_tests.specs.Blocks.{walkFrom, walkTest, startsFrom, arrayStarts, blocksTest}
-use Rattle.storage_tests.specs.Marks.{Tally}
-use Rattle.storage_tests.specs.Structure.{arrays}
-use Rattle.storage_tests.proofs.Tests.{by-eq, both}
-use Rattle.storage_tests.proofs.Tallies.{count-le}
-use Rattle.storage_tests.proofs.Starts.{starts-few, starts-end, array-hit, array-miss}
-use Rattle.storage_tests.proofs.Tiling.{Tiled, walk-sound, walk-starts}
+use Rattle.storage_theorems.proofs.Walks.{over-le}
+use Rattle.storage_theorems.proofs.Counts.{hit-eq, hit-not, hit-same}
+use Rattle.segment.specs.View.{owners}
+use Rattle.acceptance_storage.specs.Tests.{every}
+use Rattle.acceptance_storage.specs.Head.{Head}
+use Rattle.acceptance_storage.specs.Blocks.{walkFrom, walkTest, startsFrom, arrayStarts, blocksTest}
+use Rattle.acceptance_storage.specs.Marks.{Tally}
+use Rattle.acceptance_storage.specs.Structure.{arrays}
+use Rattle.acceptance_storage.proofs.Tests.{by-eq, both}
+use Rattle.acceptance_storage.proofs.Tallies.{count-le}
+use Rattle.acceptance_storage.proofs.Starts.{starts-few, starts-end, array-hit, array-miss}
+use Rattle.acceptance_storage.proofs.Tiling.{Tiled, walk-sound, walk-starts}
 use Rattle.acceptance.specs.Counts.{countTest, countsTest}
 use Rattle.acceptance.specs.Tables.{Tallied, Met}
 

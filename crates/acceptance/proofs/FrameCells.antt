@@ -14,11 +14,11 @@ use Rattle.segment.specs.Stack.{lastLbaseAt, codeWordAt}
 use Rattle.segment.specs.Blocks.{part}
 use Rattle.segment.proofs.Parts.{part-take}
 use Rattle.storage.specs.Heap.{count}
-use Rattle.heap.proofs.Counts.{order}
-use Rattle.storage_tests.specs.Tests.{_and_, every, words}
-use Rattle.storage_tests.proofs.Tests.{words-every}
-use Rattle.storage_tests.specs.Blocks.{arrayStarts}
-use Rattle.storage_tests.specs.Marks.{Tally}
+use Rattle.storage_theorems.proofs.Counts.{order}
+use Rattle.acceptance_storage.specs.Tests.{_and_, every, words}
+use Rattle.acceptance_storage.proofs.Tests.{words-every}
+use Rattle.acceptance_storage.specs.Blocks.{arrayStarts}
+use Rattle.acceptance_storage.specs.Marks.{Tally}
 use Rattle.acceptance.specs.Frames.{arguments, variables}
 use Rattle.acceptance.specs.Cells.{range, inTable, inList, direct, plainCell, freeCell, variablesFrom, frameCells, cellsFrom, cellsTest}
 use Rattle.acceptance.specs.Tables.{Gains, lacking, Met}

@@ -14,10 +14,10 @@ use Rattle.descriptor.specs.Fields.{isArray, address, arrayWord, undefinedWord}
 use Rattle.descriptor.specs.Kinds.{isScalar}
 use Rattle.descriptor.proofs.Scalars.{small-scalar, large-scalar}
 use Rattle.storage.specs.Heap.{hit, count}
-use Rattle.heap.proofs.Counts.{hit-cases, hit-not, count-append}
-use Rattle.storage_tests.specs.Tests.{_and_, every}
-use Rattle.storage_tests.proofs.Tests.{every-on, every-bad, every-end}
-use Rattle.storage_tests.proofs.Tallies.{inside-table, raise-at}
+use Rattle.storage_theorems.proofs.Counts.{hit-cases, hit-not, count-append}
+use Rattle.acceptance_storage.specs.Tests.{_and_, every}
+use Rattle.acceptance_storage.proofs.Tests.{every-on, every-bad, every-end}
+use Rattle.acceptance_storage.proofs.Tallies.{inside-table, raise-at}
 use Rattle.acceptance.specs.Cells.{inTable, direct, freeCell}
 use Rattle.acceptance.specs.Tables.{meet, Met}
 

@@ -14,10 +14,10 @@ use Rattle.segment.specs.State.{sbase, ltop, lbase, blockptr}
 use Rattle.segment.specs.Blocks.{part}
 use Rattle.segment.specs.Stack.{stackAt, lastLbaseAt, downward}
 use Rattle.storage.specs.Heap.{count}
-use Rattle.heap.proofs.Counts.{count-append}
-use Rattle.view.specs.Machine.{cellsOfFrames}
-use Rattle.view.specs.View.{framesFrom, words, owners}
-use Rattle.storage_tests.proofs.Tests.{never, by-le}
+use Rattle.storage_theorems.proofs.Counts.{count-append}
+use Rattle.segment.specs.Machine.{cellsOfFrames}
+use Rattle.segment.specs.View.{framesFrom, words, owners}
+use Rattle.acceptance_storage.proofs.Tests.{never, by-le}
 use Rattle.acceptance.specs.Frames.{variables}
 use Rattle.acceptance.specs.Structure.{Chain, startOf, localsOf, Direct, DirectOrIndirect, FrameCells, StackCells}
 use Rattle.acceptance.proofs.Tallies.{downward-count, cells-bottom, cells-on}

@@ -8,9 +8,9 @@ use native.Mathlib.Omega.{arith}
 use lib.ListN.{getD}
 use Rattle.segment.specs.Stack.{downward}
 use Rattle.storage.specs.Heap.{hit, count}
-use Rattle.heap.proofs.Counts.{hit-cases}
-use Rattle.storage_tests.specs.Tests.{words}
-use Rattle.storage_tests.proofs.Tests.{both, passes, by-le}
+use Rattle.storage_theorems.proofs.Counts.{hit-cases}
+use Rattle.acceptance_storage.specs.Tests.{words}
+use Rattle.acceptance_storage.proofs.Tests.{both, passes, by-le}
 use Rattle.acceptance.specs.Cells.{range}
 
 pub words-at : (n : ℕ) (test : ℕ → Bool) (s : List ℕ) (a : ℕ) → words n test s a ≡ true → (i : ℕ) → a ≤ i → i < a + n → test (getD s i 0) ≡ true

@@ -6,10 +6,10 @@ use mathlib.Core.Logic.{⊎-elim}
 use native.Mathlib.Omega.{arith}
 use lib.ListN.{getD, set, length, length-set}
 use Rattle.storage.specs.Heap.{count}
-use Rattle.heap.proofs.Counts.{hit-cases, hit-same}
+use Rattle.storage_theorems.proofs.Counts.{hit-cases, hit-same}
 use Rattle.acceptance.specs.Cells.{range}
 use Rattle.acceptance.specs.Tables.{Gains}
-use Rattle.storage_tests.proofs.Tallies.{raise-at, lower-at}
+use Rattle.acceptance_storage.proofs.Tallies.{raise-at, lower-at}
 
 range-step : (i end : ℕ) → i < end → range i (end - i) ≡ i ∷ range (i + 1) (end - (i + 1))
 range-step i end h = let e : end - i ≡ suc (end - (i + 1)) = omega arith in rw e

@@ -13,15 +13,15 @@ use Rattle.segment.specs.Blocks.{sizeAt, countAt}
 use Rattle.procedure.specs.Refusal.{procedureRefusal}
 use Rattle.storage.specs.Heap.{Block, over, count}
 use Rattle.storage.specs.Owned.{ArrayIn}
-use Rattle.view.specs.View.{owners}
-use Rattle.storage_tests.specs.Tests.{_and_, words}
-use Rattle.storage_tests.specs.Head.{headTest}
-use Rattle.storage_tests.specs.Blocks.{arrayStarts, blocksTest}
-use Rattle.storage_tests.specs.Ring.{ringTest}
-use Rattle.storage_tests.specs.Structure.{Passed, Stored, arrays}
-use Rattle.storage_tests.proofs.Tests.{both, passes, by-eq, every-at, every-all}
-use Rattle.storage_tests.proofs.Tiling.{array-counted, array-named}
-use Rattle.storage_tests.proofs.Structure as storage
+use Rattle.segment.specs.View.{owners}
+use Rattle.acceptance_storage.specs.Tests.{_and_, words}
+use Rattle.acceptance_storage.specs.Head.{headTest}
+use Rattle.acceptance_storage.specs.Blocks.{arrayStarts, blocksTest}
+use Rattle.acceptance_storage.specs.Ring.{ringTest}
+use Rattle.acceptance_storage.specs.Structure.{Passed, Stored, arrays}
+use Rattle.acceptance_storage.proofs.Tests.{both, passes, by-eq, every-at, every-all}
+use Rattle.acceptance_storage.proofs.Tiling.{array-counted, array-named}
+use Rattle.acceptance_storage.proofs.Structure as storage
 use Rattle.acceptance.specs.Frames.{framesTest}
 use Rattle.acceptance.specs.Cells.{inList, plainCell, cellsTest}
 use Rattle.acceptance.specs.Counts.{countTest, countsTest}

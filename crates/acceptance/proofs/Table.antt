@@ -9,13 +9,13 @@ use lib.Dec.{leb}
 use borrow.Author.Tests.{leb-true, le-leb, lt-leb, ne-eqb}
 use Rattle.segment.specs.State.{ltop, lbase}
 use Rattle.procedure.specs.Refusal.{procedureRefusal}
-use Rattle.storage_tests.specs.declared.blocks.Blocks.{Blocks}
-use Rattle.storage_tests.specs.declared.blocks.Blocks.the-variants.{Improper, Proper}
-use Rattle.storage_tests.specs.Head.{headTest}
-use Rattle.storage_tests.specs.Blocks.{freeStarts, blocksTest}
-use Rattle.storage_tests.specs.Ring.{ringTest}
-use Rattle.storage_tests.specs.Answer.{blocksAnswer}
-use Rattle.storage_tests.proofs.Tests.{both}
+use Rattle.acceptance_storage.specs.declared.blocks.Blocks.{Blocks}
+use Rattle.acceptance_storage.specs.declared.blocks.Blocks.the-variants.{Improper, Proper}
+use Rattle.acceptance_storage.specs.Head.{headTest}
+use Rattle.acceptance_storage.specs.Blocks.{freeStarts, blocksTest}
+use Rattle.acceptance_storage.specs.Ring.{ringTest}
+use Rattle.acceptance_storage.specs.Answer.{blocksAnswer}
+use Rattle.acceptance_storage.proofs.Tests.{both}
 use Rattle.acceptance.specs.Frames.{framesTest, known}
 use Rattle.acceptance.specs.Cells.{cellsTest}
 use Rattle.acceptance.specs.Counts.{countsTest}

@@ -12,9 +12,9 @@ use Rattle.segment.specs.State.{sbase, ltop, lbase, blockptr}
 use Rattle.segment.specs.Blocks.{part}
 use Rattle.segment.specs.Stack.{lastLbaseAt, downward}
 use Rattle.storage.specs.Heap.{hit, count}
-use Rattle.heap.proofs.Counts.{count-append}
-use Rattle.view.specs.Machine.{cellsOfFrames}
-use Rattle.view.specs.View.{frameAt, framesFrom, words, owners}
+use Rattle.storage_theorems.proofs.Counts.{count-append}
+use Rattle.segment.specs.Machine.{cellsOfFrames}
+use Rattle.segment.specs.View.{frameAt, framesFrom, words, owners}
 use Rattle.acceptance.specs.Tables.{Met}
 use Rattle.acceptance.proofs.Meeting.{met-then, still-marked}
 

@@ -9,8 +9,8 @@ use lib.Dec.{leb}
 use borrow.Author.Tests.{le-leb, lt-leb}
 use Rattle.segment.specs.Stack.{lastLbaseAt, codeWordAt}
 use Rattle.storage.specs.Heap.{count}
-use Rattle.storage_tests.specs.Marks.{Tally}
-use Rattle.heap.proofs.Counts.{count-append}
+use Rattle.acceptance_storage.specs.Marks.{Tally}
+use Rattle.storage_theorems.proofs.Counts.{count-append}
 use Rattle.acceptance.specs.Cells.{range, variablesFrom}
 use Rattle.acceptance.specs.Tables.{Gains}
 use Rattle.acceptance.proofs.Ranges.{range-once}

@@ -11,8 +11,8 @@ use Rattle.descriptor.specs.Kinds.{isScalar}
 use Rattle.segment.specs.State.{sbase, ltop, lbase, blockptr}
 use Rattle.segment.specs.Stack.{lastLbaseAt, codeWordAt}
 use Rattle.storage.specs.Heap.{count}
-use Rattle.storage_tests.specs.Tests.{_and_, words}
-use Rattle.storage_tests.specs.Blocks.{arrayStarts}
+use Rattle.acceptance_storage.specs.Tests.{_and_, words}
+use Rattle.acceptance_storage.specs.Blocks.{arrayStarts}
 use Rattle.acceptance.specs.Frames.{arguments, variables}
 
 -- How often a number stands in a table, and in a list.

@@ -7,9 +7,9 @@ use lib.Dec.{leb, eqb}
 use Rattle.descriptor.specs.Fields.{arrayWord}
 use Rattle.segment.specs.Blocks.{countAt}
 use Rattle.storage.specs.Heap.{count}
-use Rattle.view.specs.View.{owners}
-use Rattle.storage_tests.specs.Tests.{_and_, every}
-use Rattle.storage_tests.specs.Blocks.{arrayStarts}
+use Rattle.segment.specs.View.{owners}
+use Rattle.acceptance_storage.specs.Tests.{_and_, every}
+use Rattle.acceptance_storage.specs.Blocks.{arrayStarts}
 
 -- The count of the array at `a` is not zero and is the number of cells that hold its word.
 unfoldable pub countTest : List ℕ → List ℕ → ℕ → Bool

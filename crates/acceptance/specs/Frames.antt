@@ -10,7 +10,7 @@ use lib.Dec.{leb, ltb, eqb}
 use Rattle.segment.specs.State.{ltop, lbase}
 use Rattle.segment.specs.Stack.{lastLbaseAt, codeWordAt, alternate, functionNumber}
 use Rattle.procedure.specs.Directory.{selected, hasFunction, nargsOf, nlocalsOf}
-use Rattle.storage_tests.specs.Tests.{_and_}
+use Rattle.acceptance_storage.specs.Tests.{_and_}
 
 -- The procedure segment of the function that a frame's second word names.
 abbrev pub segmentOf : List ℕ → List ℕ → ℕ → List ℕ

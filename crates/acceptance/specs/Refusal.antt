@@ -6,10 +6,10 @@ use mathlib.Core.List.{List}
 use lib.ListN.{length}
 use lib.Dec.{leb, eqb}
 use Rattle.procedure.specs.Refusal.{procedureRefusal}
-use Rattle.storage_tests.specs.Tests.{_and_}
-use Rattle.storage_tests.specs.Head.{headTest}
-use Rattle.storage_tests.specs.Blocks.{blocksTest}
-use Rattle.storage_tests.specs.Ring.{ringTest}
+use Rattle.acceptance_storage.specs.Tests.{_and_}
+use Rattle.acceptance_storage.specs.Head.{headTest}
+use Rattle.acceptance_storage.specs.Blocks.{blocksTest}
+use Rattle.acceptance_storage.specs.Ring.{ringTest}
 use Rattle.acceptance.specs.Frames.{framesTest}
 use Rattle.acceptance.specs.Cells.{cellsTest}
 use Rattle.acceptance.specs.Counts.{countsTest}

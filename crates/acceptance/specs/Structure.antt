@@ -14,8 +14,8 @@ use Rattle.segment.specs.State.{ltop, lbase, blockptr}
 use Rattle.segment.specs.Stack.{stackAt, lastLbaseAt, codeWordAt}
 use Rattle.procedure.specs.Refusal.{procedureRefusal}
 use Rattle.storage.specs.Owned.{ArrayIn, Owned}
-use Rattle.view.specs.View.{owners}
-use Rattle.storage_tests.specs.Head.{Head}
+use Rattle.segment.specs.View.{owners}
+use Rattle.acceptance_storage.specs.Head.{Head}
 use Rattle.acceptance.specs.Frames.{known, arguments, variables}
 use Rattle.acceptance.specs.Cells.{isIndirect}
 use Rattle.acceptance.specs.Refusal.{refusal}

@@ -7,9 +7,9 @@ use lib.ListN.{getD, set}
 use lib.Dec.{leb}
 use Rattle.descriptor.specs.Fields.{isArray, address, arrayWord}
 use Rattle.storage.specs.Heap.{count}
-use Rattle.view.specs.View.{owners}
-use Rattle.storage_tests.specs.Tests.{_and_}
-use Rattle.storage_tests.specs.Blocks.{arrayStarts}
+use Rattle.segment.specs.View.{owners}
+use Rattle.acceptance_storage.specs.Tests.{_and_}
+use Rattle.acceptance_storage.specs.Blocks.{arrayStarts}
 
 -- A table to which the members of a list were added.
 pub record Gains (before after l : List ℕ) : Type 0 where

@@ -9,12 +9,12 @@ ghost use lib.Dec.{leb};
 ghost use Rattle.segment.specs.State as state;
 ghost use Rattle.segment.specs.Blocks.{part};
 ghost use Rattle.storage.specs.Heap.{count};
-ghost use Rattle.view.specs.Machine.{cellsOfFrames};
-ghost use Rattle.view.specs.View as view;
-ghost use Rattle.storage_tests.specs.Tests.{every};
-ghost use Rattle.storage_tests.specs.Head.{Head};
-ghost use Rattle.storage_tests.specs.Blocks.{arrayStarts};
-ghost use Rattle.storage_tests.specs.Marks.{Tally};
+ghost use Rattle.segment.specs.Machine.{cellsOfFrames};
+ghost use Rattle.segment.specs.View as view;
+ghost use Rattle.acceptance_storage.specs.Tests.{every};
+ghost use Rattle.acceptance_storage.specs.Head.{Head};
+ghost use Rattle.acceptance_storage.specs.Blocks.{arrayStarts};
+ghost use Rattle.acceptance_storage.specs.Marks.{Tally};
 ghost use Rattle.acceptance.specs.Frames.{known, arguments, variables, framesFrom, framesTest};
 ghost use Rattle.acceptance.specs.Cells.{inTable, isIndirect, direct, pointing, plainCell, freeCell, range, variablesFrom, frameCells, cellsFrom, cellsTest};
 ghost use Rattle.acceptance.specs.Tables.{Gains, lacking, meet, Met};
@@ -30,7 +30,7 @@ use segment::state::blockptr;
 use segment::state::lbase;
 use segment::state::ltop;
 use segment::state::sbase;
-use storage_tests::marks::mark_at;
+use acceptance_storage::marks::mark_at;
 
 // Test 17, where `arrays` has a mark at each array and `marks` is clear.
 pub fn cells_test(

@@ -6,9 +6,9 @@ ghost use lib.ListN.{getD, length};
 ghost use Rattle.descriptor.specs.Fields.{arrayWord};
 ghost use Rattle.segment.specs.Blocks.{freeAt};
 ghost use Rattle.storage.specs.Heap.{count};
-ghost use Rattle.view.specs.View.{owners};
-ghost use Rattle.storage_tests.specs.Tests.{every};
-ghost use Rattle.storage_tests.specs.Blocks.{startsFrom};
+ghost use Rattle.segment.specs.View.{owners};
+ghost use Rattle.acceptance_storage.specs.Tests.{every};
+ghost use Rattle.acceptance_storage.specs.Blocks.{startsFrom};
 ghost use Rattle.acceptance.specs.Counts.{countTest, countsTest};
 ghost use Rattle.acceptance.specs.Tables.{Tallied};
 use descriptor::address::SegmentAddress;
@@ -17,7 +17,7 @@ use segment::blocks::dummy;
 use segment::blocks::free_at;
 use segment::blocks::span_at;
 use segment::state::blockptr;
-use storage_tests::marks::mark_at;
+use acceptance_storage::marks::mark_at;
 
 // Test 18, where the table has at each array one mark, and one more for each cell that points to it.
 pub fn counts_test(seg: &[u32], table: &[u16]) -> bool

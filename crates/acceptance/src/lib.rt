@@ -3,9 +3,9 @@ ghost use mathlib.Core.Path.{_≡_};
 ghost use mathlib.Core.Bool.{true};
 ghost use Prim.Native.Nat.{_≤_};
 ghost use lib.ListN.{length};
-ghost use Rattle.storage_tests.specs.Head.{headTest};
-ghost use Rattle.storage_tests.specs.Blocks.{freeStarts, blocksTest};
-ghost use Rattle.storage_tests.specs.Marks.{Clear, Marked};
+ghost use Rattle.acceptance_storage.specs.Head.{headTest};
+ghost use Rattle.acceptance_storage.specs.Blocks.{freeStarts, blocksTest};
+ghost use Rattle.acceptance_storage.specs.Marks.{Clear, Marked};
 ghost use Rattle.acceptance.specs.Refusal.{dataRefusal, refusal};
 ghost use Rattle.acceptance.specs.Answer.{testNumber, judgementNumber};
 
@@ -18,10 +18,10 @@ use cells::cells_test;
 use counts::counts_test;
 use frames::frames_test;
 use procedure::refusal::Refusal;
-use storage_tests::blocks::Blocks;
-use storage_tests::blocks::blocks_test;
-use storage_tests::head::head_test;
-use storage_tests::ring::ring_test;
+use acceptance_storage::blocks::Blocks;
+use acceptance_storage::blocks::blocks_test;
+use acceptance_storage::head::head_test;
+use acceptance_storage::ring::ring_test;
 
 // The tests of the table, each by what it looks at.
 pub enum Test {

@@ -3,15 +3,15 @@ ghost use mathlib.Core.List.{[]};
 ghost use Prim.Native.Nat.{ℕ, _-_, _≤_, _<_};
 ghost use lib.ListN.{getD, length};
 ghost use Rattle.storage.specs.Heap.{count};
-ghost use Rattle.storage_tests.specs.Marks.{Tally};
+ghost use Rattle.acceptance_storage.specs.Marks.{Tally};
 ghost use Rattle.acceptance.specs.Frames.{variables};
 ghost use Rattle.acceptance.specs.Cells.{range, variablesFrom};
 ghost use Rattle.acceptance.specs.Tables.{Gains};
 use super::frames::frame_at;
 use descriptor::address::StackAddress;
 use segment::minus;
-use storage_tests::marks::lower;
-use storage_tests::marks::raise;
+use acceptance_storage::marks::lower;
+use acceptance_storage::marks::raise;
 
 // The variables of the frames from the one at `from` down are marked.
 pub fn mark_variables(

@@ -10,29 +10,29 @@ use lib.ListN.{length}
 use borrow.Author.Tests.{ne-eqb}
 use Rattle.segment.specs.State.{sbase, stepFlag, fcnctrc, fcnrtrc, flags}
 use Rattle.segment.specs.Cells.{Cell}
-use Rattle.view.specs.View.{view}
-use Rattle.heap.proofs.Theorems.{heap-theorems}
-use Rattle.storage_tests.proofs.Tests.{by-eq}
+use Rattle.segment.specs.View.{view}
+use Rattle.storage_theorems.proofs.HeapTheorems.{heap-theorems}
+use Rattle.acceptance_storage.proofs.Tests.{by-eq}
 use Rattle.acceptance.specs.Structure.{Accepted}
 use Rattle.acceptance.proofs.Structure.{structure}
 use Rattle.manual.specs.OrTrap.{gives, trap}
 use Rattle.manual.specs.Effects.{Effect}
 use Rattle.manual.specs.Traps.{listed}
 use Rattle.effects_theorems.proofs.Tests.{never}
-use Rattle.perform.specs.declared.Outcome.{Outcome as Turn}
-use Rattle.perform.specs.declared.Outcome.the-variants as T
-use Rattle.perform.specs.Carried.{outcomeOf}
+use Rattle.effects.specs.declared.Outcome.{Outcome as Turn}
+use Rattle.effects.specs.declared.Outcome.the-variants as T
+use Rattle.effects.specs.Carried.{outcomeOf}
 use Rattle.procedure.specs.declared.header.Header.{Header}
-use Rattle.stepping.specs.Step.{stepOf}
-use Rattle.steps.specs.Planned.{planned, headerIn}
-use Rattle.steps.proofs.Planned.{plan-listed}
-use Rattle.layout.specs.LayOut.{layOutRefusal, laidOut}
+use Rattle.effects.specs.Step.{stepOf}
+use Rattle.step_theorems.specs.Planned.{planned, headerIn}
+use Rattle.step_theorems.proofs.Planned.{plan-listed}
+use Rattle.fresh_segment.specs.LayOut.{layOutRefusal, laidOut}
 use Rattle.operations.specs.Load.{loadRefusal, loaded}
 use Rattle.operations.specs.Look.{looked}
 use Rattle.operations.specs.Run.{ran as ranOf}
 use Rattle.operations.specs.Answers as operations
-use Rattle.plans.specs.Fitting.{Words}
-use Rattle.bounded.specs.Lent.{Lent}
+use Rattle.plan_theorems.specs.Fitting.{Words}
+use Rattle.plan_theorems.specs.Lent.{Lent}
 use Rattle.audit.specs.Calls.{Procedures, Call, layOut, run, load, look, Answer, refused, done, ran, trapped, scalar, array, answerOf, runAnswer, lookAnswer, firstFailed, segmentTests, tests, held, LentCall}
 use Rattle.audit.specs.Steps as step
 use Rattle.audit.specs.Steps.{Step, traps, full, does, Done, inVain, dueAfter}

@@ -23,11 +23,11 @@ use Rattle.storage.specs.Heap.{hit}
 use Rattle.storage.specs.Ring.{setNext, setLast, clearPrevFree, unlink}
 use Rattle.storage.specs.Request as request
 use Rattle.storage.specs.Arrays as arrays
-use Rattle.view.specs.View as view
-use Rattle.storage_tests.specs.Tests as tests
-use Rattle.storage_tests.specs.Head.{headTest}
-use Rattle.storage_tests.specs.Blocks.{freeSpan, blockSpan, walkFrom, walkTest, startsFrom, freeStarts, arrayStarts, blocksTest, arraySpan, arrayTest}
-use Rattle.storage_tests.specs.Ring.{linked, roundFrom, ringTest}
+use Rattle.segment.specs.View as view
+use Rattle.acceptance_storage.specs.Tests as tests
+use Rattle.acceptance_storage.specs.Head.{headTest}
+use Rattle.acceptance_storage.specs.Blocks.{freeSpan, blockSpan, walkFrom, walkTest, startsFrom, freeStarts, arrayStarts, blocksTest, arraySpan, arrayTest}
+use Rattle.acceptance_storage.specs.Ring.{linked, roundFrom, ringTest}
 use Rattle.acceptance.specs.Frames.{known, arguments, variables, framesFrom, framesTest}
 use Rattle.acceptance.specs.Cells.{direct, frameCells, cellsFrom, cellsTest}
 use Rattle.acceptance.specs.Counts.{countsTest, countTest}
@@ -39,9 +39,9 @@ use Rattle.manual.specs.Memory as memory
 use Rattle.manual.specs.Instructions.{planOf, planAt}
 use Rattle.effects.specs.Perform.{finish, replace, discard, storeAt, store, unshare, writeElement, storeElement}
 use Rattle.effects.specs.Seen.{read, seen, whole}
-use Rattle.stepping.specs.Step.{stepIn, stepOf}
-use Rattle.stepping.specs.Run.{stepsFrom, runOf}
-use Rattle.layout.specs.LayOut.{functionTest, partsTest, layOutRefusal, freshStorage, freshFrame, freshHead, fresh, laidOut}
+use Rattle.effects.specs.Step.{stepIn, stepOf}
+use Rattle.effects.specs.Run.{stepsFrom, runOf}
+use Rattle.fresh_segment.specs.LayOut.{functionTest, partsTest, layOutRefusal, freshStorage, freshFrame, freshHead, fresh, laidOut}
 use Rattle.operations.specs.Run.{ran}
 use Rattle.operations.specs.Load.{isGlobal, isValue, isFull, loadRefusal, loaded}
 use Rattle.operations.specs.Look.{looked}

@@ -7,11 +7,11 @@ use mathlib.Core.Logic.{_↔_, _≢_, inl, ⊎-elim}
 use native.Mathlib.Omega.{arith}
 use lib.Dec.{ltb}
 use borrow.Author.Tests.{lt-ltb, le-ltb}
-use Rattle.heap.specs.Words.{HasRoom}
+use Rattle.storage_theorems.specs.Words.{HasRoom}
 use Rattle.storage.specs.Heap.{Block}
-use Rattle.storage_tests.specs.Room.{longEnough}
-use Rattle.storage_tests.proofs.Tests.{never, fails, by-eq}
-use Rattle.storage_tests.proofs.Room.{room-told}
+use Rattle.acceptance_storage.specs.Room.{longEnough}
+use Rattle.acceptance_storage.proofs.Tests.{never, fails, by-eq}
+use Rattle.acceptance_storage.proofs.Room.{room-told}
 use Rattle.acceptance.specs.Structure.{Accepted}
 use Rattle.manual.specs.Effects.{Effect}
 use Rattle.effects.specs.Requests.{FirstFits, OneRequest}
@@ -19,7 +19,7 @@ use Rattle.effects.specs.Perform.{wanted, anyFull}
 use Rattle.effects_theorems.specs.Theorems.{AsksInVain}
 use Rattle.effects_theorems.proofs.Lists.{none-in-vain}
 use Rattle.effects_theorems.proofs.Theorems.{effects-theorems}
-use Rattle.steps.proofs.Again.{sound-of}
+use Rattle.step_theorems.proofs.Again.{sound-of}
 use Rattle.audit.specs.Steps.{inVain}
 
 none-passes : (b : Bool) → (b && false) ≡ true → ⊥

@@ -7,16 +7,16 @@ use native.Mathlib.Omega.{arith}
 use lib.ListN.{length, set, replicate}
 use lib.Seq.{sets}
 use borrow.Author.Tests.{eq-eqb, ne-eqb}
-use Rattle.storage_tests.proofs.Tests.{by-eq}
+use Rattle.acceptance_storage.proofs.Tests.{by-eq}
 use Rattle.descriptor.specs.Fields.{undefinedWord}
-use Rattle.plans.specs.Fitting.{Words}
-use Rattle.plans.proofs.Lists.{all-replicate}
-use Rattle.bounded.proofs.Words.{words-all, words-set, words-sets}
-use Rattle.layout.specs.LayOut.{Layout, startOf, baseOf, localsOf, freshHead, freshStorage, freshFrame, fresh, layOutRefusal, laidOut}
-use Rattle.layout.proofs.Words.{Room}
-use Rattle.layout.proofs.Passed.{wordOf, passed, laid-out, word-made}
-use Rattle.layout.proofs.Fresh.{fresh-theorem}
-use Rattle.layout.proofs.FreshWords.{fresh-said}
+use Rattle.plan_theorems.specs.Fitting.{Words}
+use Rattle.plan_theorems.proofs.Lists.{all-replicate}
+use Rattle.plan_theorems.proofs.BoundedWords.{words-all, words-set, words-sets}
+use Rattle.fresh_segment.specs.LayOut.{Layout, startOf, baseOf, localsOf, freshHead, freshStorage, freshFrame, fresh, layOutRefusal, laidOut}
+use Rattle.fresh_segment.proofs.Words.{Room}
+use Rattle.fresh_segment.proofs.Passed.{wordOf, passed, laid-out, word-made}
+use Rattle.fresh_segment.proofs.Fresh.{fresh-theorem}
+use Rattle.fresh_segment.proofs.FreshWords.{fresh-said}
 use Rattle.operations.specs.Answers as operations
 use Rattle.audit.specs.Calls.{Procedures, answerOf, layOut}
 use Rattle.audit.specs.Did.{LaidOut, Did, isRefused, isLaidOut}

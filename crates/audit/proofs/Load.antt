@@ -14,11 +14,11 @@ use Rattle.descriptor.specs.Kinds.{segment, isScalar}
 use Rattle.segment.specs.Blocks.{product, need}
 use Rattle.segment.specs.Cells.{Cell, value}
 use Rattle.storage.specs.Heap.{Block, count}
-use Rattle.view.specs.View.{view}
-use Rattle.heap.specs.Words.{HasRoom}
-use Rattle.heap.proofs.Counts.{hit-cases, hit-same}
-use Rattle.storage_tests.specs.Room.{longEnough}
-use Rattle.storage_tests.proofs.Tests.{fails, by-eq, both}
+use Rattle.segment.specs.View.{view}
+use Rattle.storage_theorems.specs.Words.{HasRoom}
+use Rattle.storage_theorems.proofs.Counts.{hit-cases, hit-same}
+use Rattle.acceptance_storage.specs.Room.{longEnough}
+use Rattle.acceptance_storage.proofs.Tests.{fails, by-eq, both}
 use Rattle.acceptance.specs.Refusal.{refusal}
 use Rattle.acceptance.specs.Structure.{Accepted}
 use Rattle.acceptance.proofs.Structure.{line, structure}
@@ -32,13 +32,13 @@ use Rattle.effects_theorems.specs.Theorems.{Performed, AsksInVain}
 use Rattle.effects_theorems.proofs.Tests.{never, none-holds, one-holds, first-holds}
 use Rattle.effects_theorems.proofs.Variables.{in-view}
 use Rattle.effects_theorems.proofs.Theorems.{effects-theorems}
-use Rattle.plans.specs.Fitting.{Words}
-use Rattle.bounded.specs.Bounded.{SmallSource}
-use Rattle.bounded.proofs.Theorems.{bounded-theorems}
-use Rattle.legal_accepted.proofs.Cells.{globals-length}
-use Rattle.legal_accepted.proofs.Theorem.{legal-theorems}
-use Rattle.legal_steps.proofs.Effects.{put-kept}
-use Rattle.steps.proofs.Again.{sound-of, accepted-again}
+use Rattle.plan_theorems.specs.Fitting.{Words}
+use Rattle.plan_theorems.specs.Bounded.{SmallSource}
+use Rattle.plan_theorems.proofs.Bounded.{bounded-theorems}
+use Rattle.legality.proofs.Cells.{globals-length}
+use Rattle.legality.proofs.Accepted.{legal-theorems}
+use Rattle.legality.proofs.Effects.{put-kept}
+use Rattle.step_theorems.proofs.Again.{sound-of, accepted-again}
 use Rattle.operations.specs.Answers as operations
 use Rattle.operations.specs.Load.{isGlobal, isValue, sourceOf, isFull, loadRefusal, loaded}
 use Rattle.audit.specs.Calls.{Procedures, answerOf, load, test, firstFailed, tests, hasRoom}

@@ -16,7 +16,7 @@ use Rattle.segment.specs.Blocks.{sizeAt, rankAt, product, shapeAt, elementsAt}
 use Rattle.segment.specs.Parts.{shapePart, elementsPart}
 use Rattle.segment.specs.Cells.{value, invalid, cellOfKind, cell}
 use Rattle.segment.proofs.Parts.{shape-part, elements-part}
-use Rattle.storage_tests.proofs.Tests.{by-eq, both}
+use Rattle.acceptance_storage.proofs.Tests.{by-eq, both}
 use Rattle.acceptance.specs.Refusal.{refusal}
 use Rattle.acceptance.specs.Structure.{Accepted}
 use Rattle.acceptance.proofs.Structure.{structure}
@@ -24,12 +24,12 @@ use Rattle.manual.specs.Loads.{isUndefined}
 use Rattle.effects.specs.Seen.{whole, readKind, read}
 use Rattle.effects_theorems.proofs.Tests.{never}
 use Rattle.effects_theorems.proofs.Reading.{read-cell}
-use Rattle.plans.proofs.Given.{and-true}
-use Rattle.legal.specs.Legal.{Direct}
-use Rattle.legal_accepted.proofs.Cells.{globals-length, global-word}
-use Rattle.legal_accepted.proofs.Owners.{global-owns}
-use Rattle.legal_accepted.proofs.Theorem.{legal-theorems}
-use Rattle.steps.proofs.Again.{sound-of}
+use Rattle.plan_theorems.proofs.Given.{and-true}
+use Rattle.legality.specs.Legal.{Direct}
+use Rattle.legality.proofs.Cells.{globals-length, global-word}
+use Rattle.legality.proofs.Owners.{global-owns}
+use Rattle.legality.proofs.Accepted.{legal-theorems}
+use Rattle.step_theorems.proofs.Again.{sound-of}
 use Rattle.operations.specs.declared.Looked.{Looked}
 use Rattle.operations.specs.declared.Looked.the-variants.{Refused}
 use Rattle.operations.specs.Load.{isGlobal}

@@ -11,8 +11,8 @@ use Rattle.descriptor.specs.declared.Target.{Target}
 use Rattle.descriptor.specs.declared.Target.the-variants.{Local, Global}
 use Rattle.descriptor.specs.Kinds.{segment}
 use Rattle.segment.specs.Cells.{Cell, undefined}
-use Rattle.view.specs.Machine.{Machine}
-use Rattle.view.specs.View.{view}
+use Rattle.segment.specs.Machine.{Machine}
+use Rattle.segment.specs.View.{view}
 use Rattle.acceptance.specs.Structure.{Accepted}
 use Rattle.manual.specs.OrTrap.{gives}
 use Rattle.manual.specs.Effects.{Effect, replaces, discards, swaps, stores, storesElement, enters, leaves, jumps, setsOrigin, look, put, meant, withElement, performOn, performAll}
@@ -20,9 +20,9 @@ use Rattle.effects.specs.Fits.{IsVariable}
 use Rattle.effects_theorems.specs.Theorems.{NoneStoresTo}
 use Rattle.effects_theorems.proofs.State.{trap-view}
 use Rattle.effects_theorems.proofs.Variables.{in-view}
-use Rattle.legal_accepted.proofs.Cells.{globals-length}
-use Rattle.steps.specs.Planned.{planned}
-use Rattle.steps.proofs.Again.{sound-of}
+use Rattle.legality.proofs.Cells.{globals-length}
+use Rattle.step_theorems.specs.Planned.{planned}
+use Rattle.step_theorems.proofs.Again.{sound-of}
 use Rattle.operations.specs.Load.{isGlobal}
 use Rattle.audit.specs.Calls.{Procedures, held}
 use Rattle.audit.specs.Steps as step

@@ -8,13 +8,13 @@ use lib.ListN.{length, set}
 use lib.Seq.{getD-set-same}
 use borrow.Author.Tests.{eq-eqb, ne-eqb}
 use Rattle.segment.specs.State.{trapWord}
-use Rattle.storage_tests.proofs.Tests.{by-eq}
+use Rattle.acceptance_storage.proofs.Tests.{by-eq}
 use Rattle.acceptance.specs.Refusal.{refusal}
 use Rattle.acceptance.proofs.Structure.{structure}
-use Rattle.stepping.specs.declared.Ran.{Ran as Answered}
-use Rattle.stepping.specs.declared.Ran.the-variants as machine
-use Rattle.stepping.specs.Run.{runOf}
-use Rattle.plans.specs.Fitting.{Words}
+use Rattle.effects.specs.declared.Ran.{Ran as Answered}
+use Rattle.effects.specs.declared.Ran.the-variants as machine
+use Rattle.effects.specs.Run.{runOf}
+use Rattle.plan_theorems.specs.Fitting.{Words}
 use Rattle.operations.specs.declared.Run.the-variants as answers
 use Rattle.operations.specs.Run as operations
 use Rattle.operations.specs.Run.{Ended, ended, ran}

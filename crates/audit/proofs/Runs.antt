@@ -11,23 +11,23 @@ use lib.Seq.{getD-set-same}
 use borrow.Author.Tests.{ne-eqb}
 use Rattle.segment.specs.State as state
 use Rattle.segment.specs.State.{sbase, trapWord}
-use Rattle.view.specs.View.{view}
+use Rattle.segment.specs.View.{view}
 use Rattle.acceptance.specs.Structure.{Accepted}
 use Rattle.manual.specs.Traps.{listed}
 use Rattle.manual.proofs.Traps.{traps-listed}
-use Rattle.stepping.specs.declared.Stepped.{Stepped}
-use Rattle.stepping.specs.declared.Stepped.the-variants as S
-use Rattle.stepping.specs.declared.Ran.{Ran}
-use Rattle.stepping.specs.declared.Ran.the-variants as R
-use Rattle.stepping.specs.Step.{stepOf}
-use Rattle.stepping.specs.Run as stepping
-use Rattle.stepping.specs.Run.{following, stepsFrom, runOf}
+use Rattle.effects.specs.declared.Stepped.{Stepped}
+use Rattle.effects.specs.declared.Stepped.the-variants as S
+use Rattle.effects.specs.declared.Ran.{Ran}
+use Rattle.effects.specs.declared.Ran.the-variants as R
+use Rattle.effects.specs.Step.{stepOf}
+use Rattle.effects.specs.Run as stepping
+use Rattle.effects.specs.Run.{following, stepsFrom, runOf}
 use Rattle.effects_theorems.proofs.Tests.{never}
-use Rattle.plans.specs.Fitting.{Words}
-use Rattle.bounded.specs.Lent.{Lent}
-use Rattle.bounded.proofs.Words.{words-set}
-use Rattle.steps.proofs.Again.{trap-accepted}
-use Rattle.steps.proofs.Planned.{plan-listed}
+use Rattle.plan_theorems.specs.Fitting.{Words}
+use Rattle.plan_theorems.specs.Lent.{Lent}
+use Rattle.plan_theorems.proofs.BoundedWords.{words-set}
+use Rattle.step_theorems.proofs.Again.{trap-accepted}
+use Rattle.step_theorems.proofs.Planned.{plan-listed}
 use Rattle.audit.specs.Calls.{Procedures, Answer, refused, done, ran, trapped, scalar, array}
 use Rattle.audit.specs.Steps as step
 use Rattle.audit.specs.Steps.{Step, traps, full, does, Done, inVain}

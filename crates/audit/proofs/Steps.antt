@@ -14,9 +14,9 @@ use Rattle.descriptor.specs.declared.Target.the-variants.{Local, Global}
 use Rattle.procedure.specs.declared.header.Header.{Header}
 use Rattle.segment.specs.State.{sbase, flags, fcnctrc, fcnrtrc, stepFlag, trapWord, trap as trapOf, blockptr, setTrap}
 use Rattle.segment.specs.Cells.{Cell, undefined}
-use Rattle.view.specs.Machine.{Machine}
-use Rattle.view.specs.View.{words, view}
-use Rattle.storage_tests.proofs.Tests.{fails}
+use Rattle.segment.specs.Machine.{Machine}
+use Rattle.segment.specs.View.{words, view}
+use Rattle.acceptance_storage.proofs.Tests.{fails}
 use Rattle.acceptance.specs.Structure.{Accepted}
 use Rattle.manual.specs.OrTrap.{gives, trap}
 use Rattle.manual.specs.Effects.{Effect, replaces, discards, swaps, stores, storesElement, enters, leaves, jumps, setsOrigin, Plan, look, performOn, performAll}
@@ -29,23 +29,23 @@ use Rattle.effects_theorems.specs.Theorems.{NoneStoresTo, StateKept, PerformedA
 use Rattle.effects_theorems.proofs.State.{trap-sound, trap-words, trap-view}
 use Rattle.effects_theorems.proofs.Tests.{never}
 use Rattle.effects_theorems.proofs.Theorems.{effects-theorems}
-use Rattle.plans.specs.Fitting.{Words}
-use Rattle.bounded.specs.Lent.{Lent}
-use Rattle.bounded.specs.Bounded.{Small, AllSmall}
-use Rattle.bounded.proofs.Words.{words-set}
-use Rattle.bounded.proofs.Theorems.{bounded-theorems}
-use Rattle.perform.specs.declared.Outcome.{Outcome as Turn}
-use Rattle.perform.specs.declared.Outcome.the-variants as T
-use Rattle.perform.specs.Carried.{outcomeOf, carry}
-use Rattle.stepping.specs.declared.Stepped.{Stepped}
-use Rattle.stepping.specs.declared.Stepped.the-variants as S
-use Rattle.stepping.specs.Step as stepping
-use Rattle.stepping.specs.Step.{Result, finished, due, settle, stepOf, currentHeader}
-use Rattle.steps.specs.Planned.{planned, headerIn}
-use Rattle.steps.proofs.Current.{running, step-is, header-seen, header-running}
-use Rattle.steps.proofs.Planned.{Known, plan-known, plan-listed}
-use Rattle.steps.proofs.Again.{sound-of, trap-accepted, effects-accepted}
-use Rattle.steps.proofs.Settled.{settled-effects, due-small, finished-keeps}
+use Rattle.plan_theorems.specs.Fitting.{Words}
+use Rattle.plan_theorems.specs.Lent.{Lent}
+use Rattle.plan_theorems.specs.Bounded.{Small, AllSmall}
+use Rattle.plan_theorems.proofs.BoundedWords.{words-set}
+use Rattle.plan_theorems.proofs.Bounded.{bounded-theorems}
+use Rattle.effects.specs.declared.Outcome.{Outcome as Turn}
+use Rattle.effects.specs.declared.Outcome.the-variants as T
+use Rattle.effects.specs.Carried.{outcomeOf, carry}
+use Rattle.effects.specs.declared.Stepped.{Stepped}
+use Rattle.effects.specs.declared.Stepped.the-variants as S
+use Rattle.effects.specs.Step as stepping
+use Rattle.effects.specs.Step.{Result, finished, due, settle, stepOf, currentHeader}
+use Rattle.step_theorems.specs.Planned.{planned, headerIn}
+use Rattle.step_theorems.proofs.Current.{running, step-is, header-seen, header-running}
+use Rattle.step_theorems.proofs.Planned.{Known, plan-known, plan-listed}
+use Rattle.step_theorems.proofs.Again.{sound-of, trap-accepted, effects-accepted}
+use Rattle.step_theorems.proofs.Settled.{settled-effects, due-small, finished-keeps}
 use Rattle.audit.specs.Calls.{Procedures}
 use Rattle.audit.specs.Steps.{Outcome, trapped, done, inVain, dueAfter, Done, Step, traps, full, does}
 use Rattle.audit.proofs.Full.{vain-full}

@@ -9,7 +9,7 @@ use lib.Dec.{eqb}
 use borrow.Author.Tests.{ne-eqb}
 use Rattle.procedure.specs.Refusal.{lengthRefused, contentsFault, refuses, procedureRefusal}
 use Rattle.acceptance.specs.Refusal.{lengthTest, dataRefusal, refusal}
-use Rattle.layout.specs.LayOut.{Layout, functionTest, partsTest, layOutRefusal}
+use Rattle.fresh_segment.specs.LayOut.{Layout, functionTest, partsTest, layOutRefusal}
 use Rattle.audit.specs.Calls.{Procedures, layOut, Test, firstFailed, segmentTests, tests}
 
 -- ---- tests one after the other

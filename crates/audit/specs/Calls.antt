@@ -10,20 +10,20 @@ use Rattle.descriptor.specs.Kinds.{segment}
 use Rattle.procedure.specs.Refusal.{lengthRefused, contentsFault, refuses}
 use Rattle.segment.specs.Blocks.{need}
 use Rattle.segment.specs.Cells.{Cell, undefined}
-use Rattle.view.specs.View.{view}
-use Rattle.storage_tests.specs.Head.{headTest}
-use Rattle.storage_tests.specs.Blocks.{blocksTest}
-use Rattle.storage_tests.specs.Ring.{ringTest}
-use Rattle.storage_tests.specs.Room.{longEnough}
+use Rattle.segment.specs.View.{view}
+use Rattle.acceptance_storage.specs.Head.{headTest}
+use Rattle.acceptance_storage.specs.Blocks.{blocksTest}
+use Rattle.acceptance_storage.specs.Ring.{ringTest}
+use Rattle.acceptance_storage.specs.Room.{longEnough}
 use Rattle.acceptance.specs.Frames.{framesTest}
 use Rattle.acceptance.specs.Cells.{cellsTest}
 use Rattle.acceptance.specs.Counts.{countsTest}
 use Rattle.acceptance.specs.Refusal.{lengthTest}
 use Rattle.manual.specs.Effects as manual
 use Rattle.manual.specs.Loads.{isUndefined}
-use Rattle.plans.specs.Fitting.{Words}
-use Rattle.bounded.specs.Lent.{Bytes}
-use Rattle.layout.specs.LayOut.{Layout, functionTest, partsTest}
+use Rattle.plan_theorems.specs.Fitting.{Words}
+use Rattle.plan_theorems.specs.Lent.{Bytes}
+use Rattle.fresh_segment.specs.LayOut.{Layout, functionTest, partsTest}
 use Rattle.operations.specs.declared.Answer as operations
 use Rattle.operations.specs.declared.Answer.the-variants as A
 use Rattle.operations.specs.declared.Run.{Run}

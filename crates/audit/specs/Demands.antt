@@ -10,10 +10,10 @@ use Rattle.acceptance.specs.Structure.{Accepted}
 use Rattle.manual.specs.OrTrap.{gives, trap}
 use Rattle.manual.specs.Effects.{Effect}
 use Rattle.manual.specs.Traps.{listed}
-use Rattle.layout.specs.LayOut.{Layout}
-use Rattle.plans.specs.Fitting.{Words}
-use Rattle.bounded.specs.Lent.{Lent}
-use Rattle.steps.specs.Planned.{planned}
+use Rattle.fresh_segment.specs.LayOut.{Layout}
+use Rattle.plan_theorems.specs.Fitting.{Words}
+use Rattle.plan_theorems.specs.Lent.{Lent}
+use Rattle.step_theorems.specs.Planned.{planned}
 use Rattle.audit.specs.Calls.{Procedures, Call, layOut, run, load, look, Answer, firstFailed, segmentTests, tests, held, LentCall}
 use Rattle.audit.specs.Steps as step
 use Rattle.audit.specs.Steps.{Outcome, Step, Done, inVain}

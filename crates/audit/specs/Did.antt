@@ -12,15 +12,15 @@ use Rattle.descriptor.specs.Kinds.{segment}
 use Rattle.segment.specs.State.{sbase, flags, trapWord, blockptr}
 use Rattle.segment.specs.Parts.{shapePart, elementsPart}
 use Rattle.segment.specs.Cells.{Cell, undefined, value}
-use Rattle.view.specs.View.{view}
+use Rattle.segment.specs.View.{view}
 use Rattle.acceptance.specs.Structure.{Accepted}
 use Rattle.manual.specs.Control.{frameWord}
 use Rattle.manual.specs.Effects as manual
 use Rattle.effects.specs.Fits.{IsVariable}
-use Rattle.plans.specs.Fitting.{Words}
-use Rattle.layout.specs.LayOut.{Layout, localsOf}
-use Rattle.layout.specs.Fresh.{freshView}
-use Rattle.layout.specs.FreshWords.{FreshWords}
+use Rattle.plan_theorems.specs.Fitting.{Words}
+use Rattle.fresh_segment.specs.LayOut.{Layout, localsOf}
+use Rattle.fresh_segment.specs.Fresh.{freshView}
+use Rattle.fresh_segment.specs.FreshWords.{FreshWords}
 use Rattle.audit.specs.Calls.{Procedures, Call, layOut, run, load, look, Answer, refused, done, ran, trapped, scalar, array, firstFailed, tests, held, LentCall}
 use Rattle.audit.specs.Runs.{Runs, SomeRequestInVain, ReportsFull}
 

@@ -11,9 +11,9 @@ use Rattle.segment.specs.State.{blockptr}
 use Rattle.segment.specs.Blocks.{countAt, need}
 use Rattle.storage.specs.Heap.{Block, count, Heap}
 use Rattle.storage.specs.Owned.{ArrayIn}
-use Rattle.storage_tests.specs.Room.{longEnough}
-use Rattle.view.specs.View.{owners}
-use Rattle.heap.specs.Tiling.{Tiling}
+use Rattle.acceptance_storage.specs.Room.{longEnough}
+use Rattle.segment.specs.View.{owners}
+use Rattle.storage_theorems.specs.Tiling.{Tiling}
 use Rattle.acceptance.specs.Structure.{Accepted}
 use Rattle.operations.specs.Load.{isGlobal, isValue}
 use Rattle.audit.specs.Calls.{Procedures, Call, layOut, run, load, look, Answer, refused, done, ran, trapped, scalar, array, LentCall}

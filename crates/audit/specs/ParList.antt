@@ -8,14 +8,14 @@ use Rattle.descriptor.specs.declared.Target.{Target}
 use Rattle.descriptor.specs.declared.Target.the-variants.{Global}
 use Rattle.descriptor.specs.Kinds.{segment}
 use Rattle.segment.specs.Cells.{undefined}
-use Rattle.view.specs.View.{view}
+use Rattle.segment.specs.View.{view}
 use Rattle.acceptance.specs.Structure.{Accepted}
 use Rattle.manual.specs.OrTrap.{gives}
 use Rattle.manual.specs.Effects.{Effect, look}
 use Rattle.effects.specs.Fits.{IsVariable}
 use Rattle.effects_theorems.specs.Theorems.{NoneStoresTo}
 use Rattle.operations.specs.Load.{isGlobal}
-use Rattle.steps.specs.Planned.{planned}
+use Rattle.step_theorems.specs.Planned.{planned}
 use Rattle.audit.specs.Calls.{Procedures, held}
 use Rattle.audit.specs.Steps.{Outcome, Step}
 

@@ -9,7 +9,7 @@ use Rattle.segment.specs.State as state
 use Rattle.acceptance.specs.Structure.{Accepted}
 use Rattle.manual.specs.OrTrap.{gives}
 use Rattle.manual.specs.Effects.{Effect}
-use Rattle.steps.specs.Planned.{planned}
+use Rattle.step_theorems.specs.Planned.{planned}
 use Rattle.audit.specs.Calls.{Procedures, Answer, ran, trapped}
 use Rattle.audit.specs.Steps as step
 use Rattle.audit.specs.Steps.{Step, inVain}

@@ -11,17 +11,17 @@ use Rattle.descriptor.specs.declared.Target.{Target}
 use Rattle.procedure.specs.declared.header.Header.{Header}
 use Rattle.segment.specs.State.{sbase, flags, fcnctrc, fcnrtrc, stepFlag, trapWord, trap as trapOf, blockptr}
 use Rattle.segment.specs.Cells.{undefined}
-use Rattle.view.specs.View.{view}
-use Rattle.storage_tests.specs.Room.{longEnough}
+use Rattle.segment.specs.View.{view}
+use Rattle.acceptance_storage.specs.Room.{longEnough}
 use Rattle.manual.specs.OrTrap.{gives, trap}
 use Rattle.manual.specs.Effects.{Effect, look, performAll}
 use Rattle.effects.specs.Fits.{IsVariable}
 use Rattle.effects.specs.Perform.{wanted}
 use Rattle.effects_theorems.specs.Theorems.{NoneStoresTo}
-use Rattle.perform.specs.declared.Outcome.{Outcome as Turn}
-use Rattle.perform.specs.declared.Outcome.the-variants as T
-use Rattle.perform.specs.Carried.{outcomeOf}
-use Rattle.steps.specs.Planned.{planned, headerIn}
+use Rattle.effects.specs.declared.Outcome.{Outcome as Turn}
+use Rattle.effects.specs.declared.Outcome.the-variants as T
+use Rattle.effects.specs.Carried.{outcomeOf}
+use Rattle.step_theorems.specs.Planned.{planned, headerIn}
 use Rattle.audit.specs.Calls.{Procedures}
 
 -- A trap by class and number; or done, with the number of the class 2 trap that is due after it, 0 for none.

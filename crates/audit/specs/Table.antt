@@ -6,7 +6,7 @@ use mathlib.Core.List.{List, [], _∷_, _++_}
 use lib.ListN.{getD, length, replicate}
 use Rattle.segment.specs.State.{sbase, ltop, rover, trapWord}
 use Rattle.scalar.specs.Value.{units}
-use Rattle.layout.specs.LayOut.{laidOut}
+use Rattle.fresh_segment.specs.LayOut.{laidOut}
 use Rattle.operations.specs.declared.Run.the-variants.{Done, Trapped}
 use Rattle.operations.specs.Run.{Ended, ran}
 

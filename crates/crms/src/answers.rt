@@ -1,18 +1,18 @@
 // Answers on standard output, a line each.
 use crate::session::first_bytes;
 use libc::STDOUT_FILENO;
-use script::explain::Last;
-use script::explain::put_last;
-use script::fault::Fault;
-use script::fault::put_fault;
-use script::fault::put_token;
-use script::number::Base;
-use script::tokens::Token;
-use script::tokens::text;
-use script::tokens::token_at;
-use script::writing::put;
-use script::writing::put_decimal;
-use script::writing::put_hex;
+use line_tool::explain::Last;
+use line_tool::explain::put_last;
+use line_tool::fault::Fault;
+use line_tool::fault::put_fault;
+use line_tool::fault::put_token;
+use line_tool::number::Base;
+use line_tool::tokens::Token;
+use line_tool::tokens::text;
+use line_tool::tokens::token_at;
+use line_tool::writing::put;
+use line_tool::writing::put_decimal;
+use line_tool::writing::put_hex;
 
 pub fn error(out: &mut [u8], fault: Fault, line: &[u8], token: Token) {
     let a = put(out, 0, b"error ");

@@ -1,13 +1,13 @@
 // What stands after a command's word. What is wrong with it is answered here.
 use crate::answers::error;
-use script::command::is;
-use script::fault::Fault;
-use script::list::Listed;
-use script::list::numbers_at;
-use script::number::Base;
-use script::tokens::Token;
-use script::tokens::text;
-use script::tokens::token_at;
+use line_tool::command::is;
+use line_tool::fault::Fault;
+use line_tool::list::Listed;
+use line_tool::list::numbers_at;
+use line_tool::number::Base;
+use line_tool::tokens::Token;
+use line_tool::tokens::text;
+use line_tool::tokens::token_at;
 
 pub enum Place {
     After(usize),

@@ -11,10 +11,10 @@ use crate::session::words_from;
 use operations::Answer;
 use operations::Looked;
 use operations::Run;
-use script::explain::Last;
-use script::list::Listed;
-use script::list::numbers_at;
-use script::number::Base;
+use line_tool::explain::Last;
+use line_tool::list::Listed;
+use line_tool::list::numbers_at;
+use line_tool::number::Base;
 use segment::word;
 
 pub fn lay_out(

@@ -12,13 +12,13 @@ use crate::session::least;
 use crate::sets::set_procedure;
 use crate::sets::set_segment;
 use crate::sets::set_words;
-use script::command::Command;
-use script::command::command_of;
-use script::explain::Last;
-use script::fault::Fault;
-use script::hash::hash_of;
-use script::tokens::text;
-use script::tokens::token_at;
+use line_tool::command::Command;
+use line_tool::command::command_of;
+use line_tool::explain::Last;
+use line_tool::fault::Fault;
+use line_tool::hash::hash_of;
+use line_tool::tokens::text;
+use line_tool::tokens::token_at;
 
 pub fn obey(
     m: Session,

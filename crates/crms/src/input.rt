@@ -4,11 +4,11 @@ use crate::answers::error;
 use crate::commands::obey;
 use crate::session::Session;
 use crate::session::first_bytes;
-use script::fault::Fault;
-use script::tokens::is_passed_over;
-use script::tokens::line_end;
-use script::tokens::token_at;
-use script::writing::put;
+use line_tool::fault::Fault;
+use line_tool::tokens::is_passed_over;
+use line_tool::tokens::line_end;
+use line_tool::tokens::token_at;
+use line_tool::writing::put;
 
 // All lines of a file, in a session of their own. The last may lack its line feed.
 pub fn obey_all(

@@ -1,6 +1,6 @@
 // What the tool holds besides its buffers: how much of each is in use, and what was answered last.
 ghost use Prim.Native.Nat.{_≤_};
-use script::explain::Last;
+use line_tool::explain::Last;
 
 pub struct Session {
     // Bytes of the line that is being read, and whether it has more than there is room for.

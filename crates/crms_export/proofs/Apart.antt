@@ -20,17 +20,17 @@ use Rattle.segment.specs.Blocks.{part, sizeAt, rankAt, product, shapeAt, elemen
 use Rattle.segment.specs.Parts.{shapePart, elementsPart}
 use Rattle.segment.proofs.Parts.{shape-part, elements-part}
 use Rattle.storage.specs.Owned.{ArrayIn, Inside}
-use Rattle.owners.proofs.Cells.{array-of}
-use Rattle.owners.proofs.Owners.{array-place}
-use Rattle.storage_tests.proofs.Tests.{never, both, by-eq}
-use Rattle.storage_tests.proofs.Tiling.{array-counted}
+use Rattle.storage_theorems.proofs.Cells.{array-of}
+use Rattle.storage_theorems.proofs.Owners.{array-place}
+use Rattle.acceptance_storage.proofs.Tests.{never, both, by-eq}
+use Rattle.acceptance_storage.proofs.Tiling.{array-counted}
 use Rattle.acceptance.specs.Refusal.{refusal}
 use Rattle.acceptance.specs.Structure.{Direct, Accepted}
 use Rattle.acceptance.proofs.Structure.{structure}
-use Rattle.stepping.specs.declared.Stepped.{Stepped}
-use Rattle.stepping.specs.declared.Stepped.the-variants as stepped
-use Rattle.stepping.specs.Step.{stepOf}
-use Rattle.stepping.specs.Run.{Outcome, following, stepsFrom, runOf}
+use Rattle.effects.specs.declared.Stepped.{Stepped}
+use Rattle.effects.specs.declared.Stepped.the-variants as stepped
+use Rattle.effects.specs.Step.{stepOf}
+use Rattle.effects.specs.Run.{Outcome, following, stepsFrom, runOf}
 use Rattle.operations.specs.declared.Looked.the-variants.{Scalar, Array, Refused}
 use Rattle.operations.specs.declared.Run.{Run}
 use Rattle.operations.specs.Answers.{stepsOf}

@@ -3,7 +3,7 @@ ghost use mathlib.Core.Path.{_≡_};
 ghost use Prim.Native.Nat.{_<_, _^_};
 ghost use lib.ListN.{length};
 ghost use Rattle.segment.specs.Parts.{shapePart, elementsPart};
-ghost use Rattle.layout.specs.LayOut as layout;
+ghost use Rattle.fresh_segment.specs.LayOut as layout;
 ghost use Rattle.operations.specs.Answers.{statusOf};
 ghost use Rattle.operations.specs.Load as loading;
 ghost use Rattle.operations.specs.Look.{looked};

@@ -7,7 +7,7 @@ use mathlib.Core.List.{List}
 use lib.ListN.{length}
 use Rattle.descriptor.specs.declared.Target.{Target}
 use Rattle.segment.specs.Cells.{indirect, cell}
-use Rattle.view.specs.View.{words}
+use Rattle.segment.specs.View.{words}
 use Rattle.manual.specs.Effects.{currentCells}
 use Rattle.manual.specs.Seen.{Seen, Variable}
 use Rattle.effects.specs.Sources.{heldAt}

@@ -15,8 +15,8 @@ use Rattle.segment.specs.State.{sbase, ltop, lbase}
 use Rattle.segment.specs.Stack.{lastLbaseAt}
 use Rattle.segment.specs.Blocks.{product, shapeAt}
 use Rattle.storage.specs.Owned.{Proper}
-use Rattle.view.specs.Machine.{Frame, Machine, depthOfFrames}
-use Rattle.view.specs.View.{words}
+use Rattle.segment.specs.Machine.{Frame, Machine, depthOfFrames}
+use Rattle.segment.specs.View.{words}
 use Rattle.manual.specs.Effects.{Source, variable, operand, word, undefinedValue, reference, made, Effect, replaces, discards, swaps, stores, storesElement, enters, leaves, jumps, setsOrigin}
 use Rattle.effects.specs.Sources.{addressOf, heldAt}
 use Rattle.effects.specs.Perform.{bottomOf, blockOf}

@@ -8,7 +8,7 @@ use lib.ListN.{length}
 use Rattle.segment.specs.State.{sbase, ltop, lbase}
 use Rattle.segment.specs.Stack.{lastLbaseAt}
 use Rattle.storage.specs.Owned.{Owned}
-use Rattle.view.specs.View.{owners}
+use Rattle.segment.specs.View.{owners}
 
 -- Test 16: last LBASE falls down to the bottom frame, which names itself and starts at 0; every other frame starts above the
 -- older one's two words.

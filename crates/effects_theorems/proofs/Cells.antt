@@ -15,8 +15,8 @@ use Rattle.descriptor.specs.Kinds.{segment, kindOf, scalarKind, isScalar}
 use Rattle.descriptor.specs.Inverse.{targetWord, TargetFits}
 use Rattle.descriptor.proofs.Inverse.{inverse}
 use Rattle.segment.specs.Cells.{undefined, indirect, value, cell, cellOfKind}
-use Rattle.heap.proofs.Ways.{decide}
-use Rattle.owners.proofs.Cells.{array-of}
+use Rattle.storage_theorems.proofs.Ways.{decide}
+use Rattle.storage_theorems.proofs.Cells.{array-of}
 use Rattle.effects.specs.Sources.{referenceWord}
 
 -- a scalar's word

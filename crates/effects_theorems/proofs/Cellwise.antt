@@ -11,9 +11,9 @@ use Rattle.descriptor.specs.declared.Target.{Target}
 use Rattle.descriptor.specs.declared.Target.the-variants.{Local, Global}
 use Rattle.descriptor.specs.Kinds.{segment, stack}
 use Rattle.storage.specs.Heap.{hit, count}
-use Rattle.view.specs.Machine.{Frame, Machine, mapFrames, mapMachine, cellsOfFrames, allCells, depthOfFrames}
+use Rattle.segment.specs.Machine.{Frame, Machine, mapFrames, mapMachine, cellsOfFrames, allCells, depthOfFrames}
 use Rattle.manual.specs.Effects.{indexIn, lookFrames, look, putFrames, put}
-use Rattle.heap.proofs.Counts.{order, count-append}
+use Rattle.storage_theorems.proofs.Counts.{order, count-append}
 use Rattle.effects.specs.Fits.{InFrames, InMachine}
 use Rattle.effects_theorems.proofs.Machines.{cells-count, count-set, map-set, depth-map}
 

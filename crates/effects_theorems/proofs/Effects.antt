@@ -15,12 +15,12 @@ use Rattle.segment.specs.Blocks.{countAt, shapeAt, elementsAt, need}
 use Rattle.segment.specs.Cells.{Cell, undefined, value, cell}
 use Rattle.storage.specs.Request.{requestAt}
 use Rattle.storage.specs.Arrays.{placeAt}
-use Rattle.view.specs.Machine.{Machine}
-use Rattle.view.specs.View.{words, view}
+use Rattle.segment.specs.Machine.{Machine}
+use Rattle.segment.specs.View.{words, view}
 use Rattle.manual.specs.Effects as manual
 use Rattle.manual.specs.Effects.{Source, variable, operand, word, undefinedValue, reference, made, Effect, replaces, discards, swaps, stores, storesElement, enters, leaves, jumps, setsOrigin}
-use Rattle.heap.proofs.Counts.{order}
-use Rattle.owners.proofs.Cells.{array-of, cell-array}
+use Rattle.storage_theorems.proofs.Counts.{order}
+use Rattle.storage_theorems.proofs.Cells.{array-of, cell-array}
 use Rattle.effects.specs.Sources.{addressOf, heldAt, wordOf, placed}
 use Rattle.effects.specs.Perform.{blockOf, replace, storeAt, store, perform, sourceNeed, noneFor, isFull}
 use Rattle.effects.specs.Sound.{Sound}

@@ -18,17 +18,17 @@ use Rattle.segment.specs.Cells.{Cell, undefined, value, cell}
 use Rattle.storage.specs.Arrays.{placeAt}
 use Rattle.storage.specs.Heap.{hit, count}
 use Rattle.storage.specs.Owned.{ArrayIn, Inside, Proper}
-use Rattle.view.specs.Machine.{Machine, mapMachine, allCells}
-use Rattle.view.specs.View.{words, owners, view}
+use Rattle.segment.specs.Machine.{Machine, mapMachine, allCells}
+use Rattle.segment.specs.View.{words, owners, view}
 use Rattle.manual.specs.Effects as manual
-use Rattle.heap.proofs.Counts.{hit-eq, hit-same, hit-cases}
-use Rattle.owners.specs.Element.{setElement, Element}
-use Rattle.owners.specs.Place.{NewArray}
-use Rattle.owners.proofs.Cells.{cell-array, cell-other}
-use Rattle.heap.specs.Request.{Served}
-use Rattle.heap.proofs.Request.{request-theorem}
-use Rattle.owners.proofs.Place.{fresh-place, place-theorem}
-use Rattle.owners.proofs.Element.{element-theorem}
+use Rattle.storage_theorems.proofs.Counts.{hit-eq, hit-same, hit-cases}
+use Rattle.storage_theorems.specs.Element.{setElement, Element}
+use Rattle.storage_theorems.specs.Place.{NewArray}
+use Rattle.storage_theorems.proofs.Cells.{cell-array, cell-other}
+use Rattle.storage_theorems.specs.Request.{Served}
+use Rattle.storage_theorems.proofs.Request.{request-theorem}
+use Rattle.storage_theorems.proofs.Place.{fresh-place, place-theorem}
+use Rattle.storage_theorems.proofs.Element.{element-theorem}
 use Rattle.effects.specs.Sources.{addressOf, heldAt, placed}
 use Rattle.effects.specs.Perform.{replace, storeAt, unshare, writeElement, storeElement}
 use Rattle.effects.specs.Sound.{Sound}

@@ -10,12 +10,12 @@ use Rattle.segment.specs.State.{sbase, ltop, lbase, blockptr}
 use Rattle.segment.specs.Blocks.{part}
 use Rattle.segment.specs.Stack.{lastLbaseAt, codeWordAt, downward}
 use Rattle.storage.specs.Owned.{Kept}
-use Rattle.view.specs.Machine.{Frame, cellsOfFrames, depthOfFrames}
-use Rattle.view.specs.View.{framesFrom, words}
-use Rattle.heap.proofs.Counts.{order}
-use Rattle.heap.proofs.Walks.{Same}
-use Rattle.owners.proofs.Cells.{part-same}
-use Rattle.owners.proofs.Steps.{downward-same}
+use Rattle.segment.specs.Machine.{Frame, cellsOfFrames, depthOfFrames}
+use Rattle.segment.specs.View.{framesFrom, words}
+use Rattle.storage_theorems.proofs.Counts.{order}
+use Rattle.storage_theorems.proofs.Walks.{Same}
+use Rattle.storage_theorems.proofs.Cells.{part-same}
+use Rattle.storage_theorems.proofs.Steps.{downward-same}
 use Rattle.effects.specs.Sound.{Chain, bottom, upon}
 
 pub downward-length : (s : List ℕ) (a n : ℕ) → length (downward s a n) ≡ n

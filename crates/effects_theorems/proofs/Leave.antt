@@ -15,15 +15,15 @@ use Rattle.segment.specs.Cells.{Cell, undefined, cell}
 use Rattle.storage.specs.Arrays.{share, drops}
 use Rattle.storage.specs.Heap.{count}
 use Rattle.storage.specs.Owned.{Owned, Kept, Step}
-use Rattle.view.specs.Machine.{Machine, mapMachine, cellsOfFrames, allCells}
-use Rattle.view.specs.View.{framesFrom, words, owners, view}
+use Rattle.segment.specs.Machine.{Machine, mapMachine, cellsOfFrames, allCells}
+use Rattle.segment.specs.View.{framesFrom, words, owners, view}
 use Rattle.manual.specs.Effects as manual
-use Rattle.heap.proofs.Counts.{count-append}
-use Rattle.owners.specs.Elsewhere.{Elsewhere}
-use Rattle.owners.proofs.Cells.{part-same}
-use Rattle.owners.proofs.Owners.{reown}
-use Rattle.owners.proofs.Steps.{kept-on, step-none, downward-same, downward-split, drops-own}
-use Rattle.owners.proofs.Elsewhere.{own-elsewhere, cell-elsewhere}
+use Rattle.storage_theorems.proofs.Counts.{count-append}
+use Rattle.storage_theorems.specs.Elsewhere.{Elsewhere}
+use Rattle.storage_theorems.proofs.Cells.{part-same}
+use Rattle.storage_theorems.proofs.Owners.{reown}
+use Rattle.storage_theorems.proofs.Steps.{kept-on, step-none, downward-same, downward-split, drops-own}
+use Rattle.storage_theorems.proofs.Elsewhere.{own-elsewhere, cell-elsewhere}
 use Rattle.effects.specs.Perform.{startOf, leaveWith, leaveWithout}
 use Rattle.effects.specs.Sound.{Chain, bottom, upon, Sound}
 use Rattle.effects.specs.Fits.{CanLeave}

@@ -11,12 +11,12 @@ use Rattle.segment.specs.State.{blockptr}
 use Rattle.segment.specs.Blocks.{countAt}
 use Rattle.storage.specs.Request.{requestAt}
 use Rattle.storage.specs.Heap.{Block, free, array, over}
-use Rattle.heap.specs.Words.{HasRoom}
+use Rattle.storage_theorems.specs.Words.{HasRoom}
 use Rattle.manual.specs.Effects.{Source, variable, operand, word, undefinedValue, reference, made, Effect, replaces, discards, swaps, stores, storesElement, enters, leaves, jumps, setsOrigin, performAll}
-use Rattle.heap.proofs.Counts.{order}
-use Rattle.heap.proofs.Walks.{over-le}
-use Rattle.heap.proofs.Ways.{decide}
-use Rattle.heap.proofs.Request.{request-theorem}
+use Rattle.storage_theorems.proofs.Counts.{order}
+use Rattle.storage_theorems.proofs.Walks.{over-le}
+use Rattle.storage_theorems.proofs.Ways.{decide}
+use Rattle.storage_theorems.proofs.Request.{request-theorem}
 use Rattle.effects.specs.Sources.{addressOf}
 use Rattle.effects.specs.Perform.{blockOf, perform, performs, sourceNeed, wanted, noneFor, isFull, anyFull}
 use Rattle.effects.specs.Sound.{Sound}

@@ -5,9 +5,9 @@ use mathlib.Core.List.{List, [], _∷_, _++_, map}
 use native.Mathlib.Omega.{arith}
 use lib.ListN.{getD, set, length, drop, replicate, length-map}
 use Rattle.storage.specs.Heap.{hit, count}
-use Rattle.view.specs.Machine.{Frame, Machine, mapFrames, mapMachine, cellsOfFrames, allCells, depthOfFrames}
+use Rattle.segment.specs.Machine.{Frame, Machine, mapFrames, mapMachine, cellsOfFrames, allCells, depthOfFrames}
 use Rattle.manual.specs.Effects.{swapped, currentCells, older, jumpFrames}
-use Rattle.heap.proofs.Counts.{hit-same, count-append}
+use Rattle.storage_theorems.proofs.Counts.{hit-same, count-append}
 
 -- functions that agree on all cells
 pub map-agree : {A : Type 0} (f g : ℕ → A) (l : List ℕ) → ((w : ℕ) → 0 < count w l → f w ≡ g w) → map f l ≡ map g l

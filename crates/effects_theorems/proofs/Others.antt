@@ -7,8 +7,8 @@ use lib.ListN.{replicate}
 use Rattle.descriptor.specs.declared.Target.{Target}
 use Rattle.descriptor.specs.declared.Target.the-variants.{Local, Global}
 use Rattle.segment.specs.Cells.{Cell, undefined}
-use Rattle.view.specs.Machine.{Frame, Machine}
-use Rattle.view.specs.View.{view}
+use Rattle.segment.specs.Machine.{Frame, Machine}
+use Rattle.segment.specs.View.{view}
 use Rattle.manual.specs.Effects as manual
 use Rattle.manual.specs.Effects.{Effect, replaces, discards, swaps, stores, storesElement, enters, leaves, jumps, setsOrigin, look, performOn}
 use Rattle.effects.specs.Perform.{perform, performs, isFull, anyFull}

@@ -23,7 +23,7 @@ use Rattle.instruction.specs.declared.Decoded.the-variants as D
 use Rattle.instruction.specs.Decoding.{decodeIn}
 use Rattle.segment.specs.State.{sbase}
 use Rattle.segment.specs.Cells.{Cell}
-use Rattle.view.specs.View.{view}
+use Rattle.segment.specs.View.{view}
 use Rattle.manual.specs.Seen.{Seen, variablesOf, seenOf}
 use Rattle.manual.specs.Loads.{load, referTo, testDefined, pushUndefined, getOrigin, shortConstant, constantScalar, constantVector}
 use Rattle.manual.specs.Scalars.{operands, monadic, dyadic, shape, ravel, reshape, catenate, indexGenerator, setOrigin, index}

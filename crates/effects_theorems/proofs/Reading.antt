@@ -17,11 +17,11 @@ use Rattle.segment.specs.Blocks.{sizeAt, rankAt, shapeAt, product}
 use Rattle.segment.specs.Cells.{cell, cellOfKind}
 use Rattle.storage.specs.Heap.{Block, free, array, Walk, over, count}
 use Rattle.storage.specs.Owned.{ArrayIn, Owned}
-use Rattle.view.specs.View.{owners}
-use Rattle.heap.proofs.Ways.{decide}
-use Rattle.heap.proofs.Walks.{over-le}
-use Rattle.heap.proofs.Arrays.{array-within, array-fields}
-use Rattle.owners.proofs.Cells.{array-of, cell-array}
+use Rattle.segment.specs.View.{owners}
+use Rattle.storage_theorems.proofs.Ways.{decide}
+use Rattle.storage_theorems.proofs.Walks.{over-le}
+use Rattle.storage_theorems.proofs.Arrays.{array-within, array-fields}
+use Rattle.storage_theorems.proofs.Cells.{array-of, cell-array}
 use Rattle.effects.specs.Seen.{whole, readKind, read}
 use Rattle.effects.specs.Sound.{Sound}
 use Rattle.effects_theorems.proofs.Tests.{never}

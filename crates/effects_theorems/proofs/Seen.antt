@@ -14,12 +14,12 @@ use Rattle.descriptor.specs.Kinds.{segment, stack}
 use Rattle.segment.specs.State.{sbase, ltop, lbase, flags, iorg, blockptr}
 use Rattle.segment.specs.Stack.{lastLbaseAt, codeWordAt}
 use Rattle.segment.specs.Cells.{Cell, undefined, indirect, value, invalid, cell}
-use Rattle.view.specs.Machine.{Frame, mapFrames, depthOfFrames, depth}
-use Rattle.view.specs.View.{framesFrom, words, view}
+use Rattle.segment.specs.Machine.{Frame, mapFrames, depthOfFrames, depth}
+use Rattle.segment.specs.View.{framesFrom, words, view}
 use Rattle.manual.specs.OrTrap.{OrTrap, gives, trap, stopIf}
 use Rattle.manual.specs.Effects.{currentCells, lookFrames, look, indexIn}
 use Rattle.manual.specs.Seen.{Variable, at, followed, follow, localAt, globalAt, noOlder, seenOf}
-use Rattle.heap.proofs.Counts.{order}
+use Rattle.storage_theorems.proofs.Counts.{order}
 use Rattle.effects.specs.Sources.{heldAt, operandAt}
 use Rattle.effects.specs.Seen.{read, temporaries, seen}
 use Rattle.effects.specs.Sound.{Chain, bottom, upon, Sound}

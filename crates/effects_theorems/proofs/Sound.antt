@@ -8,10 +8,10 @@ use lib.ListN.{getD, set, length, length-set, length-append}
 use lib.Seq.{getD-set-other}
 use Rattle.segment.specs.State.{sbase, ltop, lbase, blockptr}
 use Rattle.storage.specs.Owned.{Kept}
-use Rattle.view.specs.Machine.{cellsOfFrames, depth}
-use Rattle.view.specs.View.{words, owners}
-use Rattle.heap.proofs.Walks.{over-le}
-use Rattle.owners.specs.Elsewhere.{Elsewhere}
+use Rattle.segment.specs.Machine.{cellsOfFrames, depth}
+use Rattle.segment.specs.View.{words, owners}
+use Rattle.storage_theorems.proofs.Walks.{over-le}
+use Rattle.storage_theorems.specs.Elsewhere.{Elsewhere}
 use Rattle.effects.specs.Sound.{Sound}
 use Rattle.effects_theorems.proofs.Frames.{downward-length, part-length, frames-length, depth-is}
 

@@ -11,11 +11,11 @@ use Rattle.segment.specs.Cells.{Cell, undefined, cell}
 use Rattle.storage.specs.Arrays.{placeAt, share}
 use Rattle.storage.specs.Heap.{count}
 use Rattle.storage.specs.Owned.{Owned, Step}
-use Rattle.view.specs.View.{owners, view}
+use Rattle.segment.specs.View.{owners, view}
 use Rattle.manual.specs.Effects.{Source, variable, operand, word, undefinedValue, reference, made, meant}
-use Rattle.heap.proofs.Counts.{hit-same}
-use Rattle.owners.proofs.Steps.{step-none, plain, share-own}
-use Rattle.owners.proofs.Place.{place-theorem}
+use Rattle.storage_theorems.proofs.Counts.{hit-same}
+use Rattle.storage_theorems.proofs.Steps.{step-none, plain, share-own}
+use Rattle.storage_theorems.proofs.Place.{place-theorem}
 use Rattle.effects.specs.Sources.{heldAt, operandAt, referenceWord, wordOf, placed}
 use Rattle.effects.specs.Sound.{Sound}
 use Rattle.effects.specs.Fits.{Available}

@@ -9,11 +9,11 @@ use lib.ListN.{length}
 use Rattle.descriptor.specs.declared.Target.{Target}
 use Rattle.descriptor.specs.declared.Target.the-variants.{Local, Global}
 use Rattle.segment.specs.Cells.{Cell, undefined}
-use Rattle.view.specs.Machine.{Frame, Machine}
-use Rattle.view.specs.View.{view}
+use Rattle.segment.specs.Machine.{Frame, Machine}
+use Rattle.segment.specs.View.{view}
 use Rattle.manual.specs.Effects as manual
 use Rattle.manual.specs.Effects.{Effect, replaces, discards, swaps, stores, storesElement, enters, leaves, jumps, setsOrigin, performOn}
-use Rattle.heap.proofs.Ways.{decide}
+use Rattle.storage_theorems.proofs.Ways.{decide}
 use Rattle.effects.specs.Perform.{perform, performs, isFull, anyFull}
 use Rattle.effects.specs.Sound.{Sound}
 use Rattle.effects.specs.Fits.{InFrames, InMachine, IsVariable, Fits}

@@ -10,14 +10,14 @@ use Rattle.segment.specs.State.{sbase, ltop, lbase, flags, blockptr, setIorg}
 use Rattle.segment.specs.Blocks.{part}
 use Rattle.segment.specs.Stack.{lastLbaseAt, codeWordAt, downward, setPctr}
 use Rattle.segment.specs.Cells.{cell}
-use Rattle.view.specs.Machine.{Machine, mapMachine}
-use Rattle.view.specs.View.{framesFrom, words, view}
+use Rattle.segment.specs.Machine.{Machine, mapMachine}
+use Rattle.segment.specs.View.{framesFrom, words, view}
 use Rattle.manual.specs.Effects as manual
-use Rattle.heap.proofs.Counts.{order}
-use Rattle.owners.specs.Elsewhere.{Elsewhere}
-use Rattle.owners.proofs.Cells.{part-same}
-use Rattle.owners.proofs.Steps.{downward-same}
-use Rattle.owners.proofs.Elsewhere.{own-elsewhere, cell-elsewhere}
+use Rattle.storage_theorems.proofs.Counts.{order}
+use Rattle.storage_theorems.specs.Elsewhere.{Elsewhere}
+use Rattle.storage_theorems.proofs.Cells.{part-same}
+use Rattle.storage_theorems.proofs.Steps.{downward-same}
+use Rattle.storage_theorems.proofs.Elsewhere.{own-elsewhere, cell-elsewhere}
 use Rattle.effects.specs.Sound.{Sound}
 use Rattle.effects_theorems.specs.Theorems.{StateKept}
 use Rattle.effects_theorems.proofs.StateWords.{state-set}

@@ -13,14 +13,14 @@ use Rattle.segment.specs.Cells.{Cell, cell}
 use Rattle.storage.specs.Arrays.{drop}
 use Rattle.storage.specs.Heap.{hit, count}
 use Rattle.storage.specs.Owned.{Owned, Kept, Step}
-use Rattle.view.specs.Machine.{Machine, mapMachine, allCells}
-use Rattle.view.specs.View.{words, owners, view}
+use Rattle.segment.specs.Machine.{Machine, mapMachine, allCells}
+use Rattle.segment.specs.View.{words, owners, view}
 use Rattle.manual.specs.Effects.{put}
-use Rattle.heap.proofs.Counts.{hit-same, hit-cases}
-use Rattle.owners.specs.Elsewhere.{Elsewhere}
-use Rattle.owners.proofs.Owners.{reown}
-use Rattle.owners.proofs.Steps.{kept-on, drop-own}
-use Rattle.owners.proofs.Elsewhere.{own-elsewhere, cell-elsewhere}
+use Rattle.storage_theorems.proofs.Counts.{hit-same, hit-cases}
+use Rattle.storage_theorems.specs.Elsewhere.{Elsewhere}
+use Rattle.storage_theorems.proofs.Owners.{reown}
+use Rattle.storage_theorems.proofs.Steps.{kept-on, drop-own}
+use Rattle.storage_theorems.proofs.Elsewhere.{own-elsewhere, cell-elsewhere}
 use Rattle.effects.specs.Sources.{addressOf, heldAt}
 use Rattle.effects.specs.Sound.{Sound}
 use Rattle.effects.specs.Fits.{IsVariable}

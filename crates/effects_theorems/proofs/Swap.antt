@@ -12,14 +12,14 @@ use Rattle.segment.specs.Blocks.{part}
 use Rattle.segment.specs.Stack.{downward}
 use Rattle.segment.specs.Cells.{cell}
 use Rattle.storage.specs.Heap.{count}
-use Rattle.view.specs.Machine.{mapMachine, allCells}
-use Rattle.view.specs.View.{framesFrom, words, owners, view}
+use Rattle.segment.specs.Machine.{mapMachine, allCells}
+use Rattle.segment.specs.View.{framesFrom, words, owners, view}
 use Rattle.manual.specs.Effects as manual
-use Rattle.owners.specs.Elsewhere.{Elsewhere}
-use Rattle.owners.proofs.Cells.{part-same}
-use Rattle.owners.proofs.Owners.{reown}
-use Rattle.owners.proofs.Steps.{downward-same}
-use Rattle.owners.proofs.Elsewhere.{own-elsewhere, cell-elsewhere}
+use Rattle.storage_theorems.specs.Elsewhere.{Elsewhere}
+use Rattle.storage_theorems.proofs.Cells.{part-same}
+use Rattle.storage_theorems.proofs.Owners.{reown}
+use Rattle.storage_theorems.proofs.Steps.{downward-same}
+use Rattle.storage_theorems.proofs.Elsewhere.{own-elsewhere, cell-elsewhere}
 use Rattle.effects.specs.Sources.{operandAt}
 use Rattle.effects.specs.Perform.{swap}
 use Rattle.effects.specs.Seen.{temporaries}

@@ -14,13 +14,13 @@ use Rattle.segment.specs.Blocks.{part}
 use Rattle.segment.specs.Stack.{lastLbaseAt, codeWordAt, downward}
 use Rattle.segment.specs.Cells.{Cell, undefined, cell}
 use Rattle.storage.specs.Heap.{count}
-use Rattle.view.specs.Machine.{Machine, mapMachine, allCells, depthOfFrames}
-use Rattle.view.specs.View.{framesFrom, words, owners, view}
+use Rattle.segment.specs.Machine.{Machine, mapMachine, allCells, depthOfFrames}
+use Rattle.segment.specs.View.{framesFrom, words, owners, view}
 use Rattle.manual.specs.Effects.{indexIn, look, putFrames, put}
-use Rattle.heap.proofs.Counts.{order, hit-same, hit-cases}
-use Rattle.owners.proofs.Cells.{part-same}
-use Rattle.owners.proofs.Steps.{downward-same}
-use Rattle.owners.proofs.Element.{part-set}
+use Rattle.storage_theorems.proofs.Counts.{order, hit-same, hit-cases}
+use Rattle.storage_theorems.proofs.Cells.{part-same}
+use Rattle.storage_theorems.proofs.Steps.{downward-same}
+use Rattle.storage_theorems.proofs.Element.{part-set}
 use Rattle.effects.specs.Sources.{addressOf, heldAt, operandAt}
 use Rattle.effects.specs.Seen.{temporaries}
 use Rattle.effects.specs.Sound.{Chain, bottom, upon, Sound}

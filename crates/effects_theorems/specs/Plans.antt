@@ -6,7 +6,7 @@ use mathlib.Core.List.{List}
 use lib.ListN.{length}
 use Rattle.instruction.specs.declared.Instruction.{Instruction}
 use Rattle.segment.specs.State.{sbase}
-use Rattle.view.specs.View.{view}
+use Rattle.segment.specs.View.{view}
 use Rattle.manual.specs.Seen.{variablesOf, seenOf}
 use Rattle.manual.specs.Instructions.{Running, headerOf, planOf, planAt}
 use Rattle.effects.specs.Seen.{seen}

@@ -11,8 +11,8 @@ use Rattle.descriptor.specs.declared.Target.{Target}
 use Rattle.segment.specs.State.{sbase, flags}
 use Rattle.segment.specs.Cells.{undefined}
 use Rattle.storage.specs.Heap.{Block}
-use Rattle.view.specs.View.{view}
-use Rattle.heap.specs.Words.{HasRoom}
+use Rattle.segment.specs.View.{view}
+use Rattle.storage_theorems.specs.Words.{HasRoom}
 use Rattle.manual.specs.Effects.{Effect, replaces, discards, swaps, stores, storesElement, enters, leaves, jumps, setsOrigin, look, performOn, performAll}
 use Rattle.manual.specs.OrTrap.{gives}
 use Rattle.manual.specs.Seen.{Variable, seenOf}

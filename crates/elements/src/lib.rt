@@ -4,7 +4,7 @@ pub mod dyadic;
 mod integers;
 pub mod kinds;
 pub mod monadic;
-mod operands;
+mod extension;
 pub mod shapes;
 pub mod subscripts;
 mod words;

@@ -14,10 +14,10 @@ use Rattle.procedure.specs.Headers.{blockAt}
 use Rattle.procedure.specs.Directory.{hasFunction, startOf, functionOf}
 use Rattle.procedure.specs.Refusal.{procedureRefusal}
 use Rattle.manual.specs.Control.{frameWord}
-use Rattle.storage_tests.specs.Tests.{_and_}
+use Rattle.acceptance_storage.specs.Tests.{_and_}
 use Rattle.acceptance.specs.Refusal.{lengthTest}
-use Rattle.layout.specs.LayOut.{Layout, chosen, localsOf, functionTest, baseOf, partsTest, layOutRefusal, fresh, laidOut}
-use Rattle.layout.proofs.Passed.{passed as passes}
+use Rattle.fresh_segment.specs.LayOut.{Layout, chosen, localsOf, functionTest, baseOf, partsTest, layOutRefusal, fresh, laidOut}
+use Rattle.fresh_segment.proofs.Passed.{passed as passes}
 use Rattle.operations.specs.declared.Answer.{Answer}
 use Rattle.operations.specs.declared.Answer.the-variants.{Done, Refused}
 use Rattle.operations.specs.Answers.{answerOf}

@@ -15,12 +15,12 @@ use Rattle.storage.specs.Arrays.{share}
 use Rattle.manual.specs.Values.{any, first}
 use Rattle.manual.specs.Effects.{Effect, made, stores}
 use Rattle.effects.specs.Perform.{storeAt, store, isFull}
-use Rattle.storage_tests.proofs.Tests.{both, never}
+use Rattle.acceptance_storage.proofs.Tests.{both, never}
 use Rattle.acceptance.specs.Refusal.{refusal}
 use Rattle.effects_theorems.proofs.Cells.{scalar-array}
-use Rattle.perform.specs.declared.Done.the-variants as D
-use Rattle.perform.specs.Done.{storeShared, answer, attempt}
-use Rattle.perform.proofs.Placing.{full-by-need}
+use Rattle.effects_code.specs.declared.Done.the-variants as D
+use Rattle.effects_code.specs.Done.{storeShared, answer, attempt}
+use Rattle.effects_code.proofs.Placing.{full-by-need}
 use Rattle.operations.specs.declared.Answer.{Answer}
 use Rattle.operations.specs.declared.Answer.the-variants.{Done, Refused}
 use Rattle.operations.specs.Answers.{answerOf}

@@ -5,8 +5,8 @@ use mathlib.Core.List.{List}
 use lib.ListN.{set}
 use borrow.Author.Tests.{ne-eqb}
 use Rattle.acceptance.specs.Refusal.{refusal}
-use Rattle.stepping.specs.declared.Ran.{Ran}
-use Rattle.stepping.specs.Run as machine
+use Rattle.effects.specs.declared.Ran.{Ran}
+use Rattle.effects.specs.Run as machine
 use Rattle.operations.specs.declared.Run.{Run}
 use Rattle.operations.specs.declared.Run.the-variants.{Refused}
 use Rattle.operations.specs.Run.{Ended, ended, answerOf, accepted, ran}

@@ -1,7 +1,7 @@
 // Lay out: a fresh data segment.
 ghost use mathlib.Core.Path.{_≡_};
 ghost use Rattle.operations.specs.Answers.{answerOf};
-ghost use Rattle.layout.specs.LayOut as meaning;
+ghost use Rattle.fresh_segment.specs.LayOut as meaning;
 ghost use Rattle.audit.specs.Calls as call;
 ghost use Rattle.audit.specs.Did.{Promised};
 use operation_parts::fresh::write_fresh;

@@ -10,9 +10,9 @@ use operation_parts::tests::is_global;
 use operation_parts::tests::is_value;
 use operation_parts::tests::refusal_of;
 use operations::Answer;
-use perform::Done;
-use perform::storing::store_array;
-use perform::storing::store_share;
+use effects_code::Done;
+use effects_code::storing::store_array;
+use effects_code::storing::store_share;
 
 pub fn load(
     seg: &mut [u32],

@@ -6,7 +6,7 @@ ghost use Rattle.audit.specs.Did.{Promised};
 use operation_parts::tests::refusal_of;
 use operations::Run;
 use segment::put;
-use stepping::Ran;
+use effects::Ran;
 
 pub fn run(seg: &mut [u32], regular: &[u8], alternate: &[u8], budget: u32) -> Run
     ensures { λ r. ⌜ ended r (now (seg .exit)) ≡ ran (now (seg .entry)) (now (regular .entry)) (now (alternate .entry)) budget ⌝ }

@@ -4,12 +4,12 @@ use native.Mathlib.Omega.{arith}
 use mathlib.Core.Path.{_≡_, refl}
 use mathlib.Core.List.{List}
 use Rattle.segment.specs.State.{setTrap}
-use Rattle.stepping.specs.declared.Stepped.{Stepped}
-use Rattle.stepping.specs.declared.Stepped.the-variants as answers
-use Rattle.stepping.specs.declared.Ran.{Ran}
-use Rattle.stepping.specs.declared.Ran.the-variants.{Done, Trapped}
-use Rattle.stepping.specs.Step.{after, trapped, stepOf}
-use Rattle.stepping.specs.Run.{Outcome, ended, stepsFrom}
+use Rattle.effects.specs.declared.Stepped.{Stepped}
+use Rattle.effects.specs.declared.Stepped.the-variants as answers
+use Rattle.effects.specs.declared.Ran.{Ran}
+use Rattle.effects.specs.declared.Ran.the-variants.{Done, Trapped}
+use Rattle.effects.specs.Step.{after, trapped, stepOf}
+use Rattle.effects.specs.Run.{Outcome, ended, stepsFrom}
 use Rattle.machine.specs.Stretches.{resumed, Advanced}
 
 -- a stretch by what it answers

@@ -29,12 +29,12 @@ use Rattle.manual.specs.Seen.{Seen, variablesOf}
 use Rattle.manual.specs.Control.{go, goIf}
 use Rattle.manual.specs.Instructions.{Running, headerOf, resolve, jumpPlan, planOf, planDecoded}
 use Rattle.effects.specs.Seen.{seen}
-use Rattle.perform.specs.Carried.{carry}
-use Rattle.control.specs.Answers.{callIn}
-use Rattle.access.specs.declared.variables.Resolved.{Resolved}
-use Rattle.access.specs.Variables.{resolved, variableSeen}
+use Rattle.effects.specs.Carried.{carry}
+use Rattle.instructions_control.specs.Answers.{callIn}
+use Rattle.operands.specs.declared.variables.Resolved.{Resolved}
+use Rattle.operands.specs.Variables.{resolved, variableSeen}
 use Rattle.machine.specs.Obeying.{obeyed}
-use Rattle.access.proofs.Resolving.{resolved-seen}
+use Rattle.operands.proofs.Resolving.{resolved-seen}
 
 module _ (f : Running) {h : Header} (is : headerOf f ≡ h) (s : List ℕ) where
   pub variable-seen : (a : Address) {variables : ℕ} {r : Resolved} → variables ≡ variablesOf h → r ≡ resolved s variables a → variableSeen s r ≡ resolve (seen s) (headerOf f) a

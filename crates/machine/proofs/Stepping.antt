@@ -16,10 +16,10 @@ use Rattle.segment.specs.State.{lbase, flags, stepFlag, setTrap}
 use Rattle.segment.specs.Stack.{codeWordAt, alternate, functionNumber, pctr}
 use Rattle.manual.specs.Instructions.{Running, segmentOf, headerOf, planDecoded, planAt}
 use Rattle.effects.specs.Seen.{seen}
-use Rattle.perform.specs.declared.Outcome.{Outcome}
-use Rattle.perform.specs.Carried.{did, carry}
-use Rattle.stepping.specs.declared.Stepped.the-variants.{Finished, Traced, Trapped}
-use Rattle.stepping.specs.Step.{after, selectorOf, numberOf, trapped, finished, settled, settle, stepIn, stepFound, stepOf}
+use Rattle.effects.specs.declared.Outcome.{Outcome}
+use Rattle.effects.specs.Carried.{did, carry}
+use Rattle.effects.specs.declared.Stepped.the-variants.{Finished, Traced, Trapped}
+use Rattle.effects.specs.Step.{after, selectorOf, numberOf, trapped, finished, settled, settle, stepIn, stepFound, stepOf}
 
 -- a class and a number of eight bits are themselves
 eight-bits : (n : ℕ) → n < 256 → n % 2 ^ 8 ≡ n

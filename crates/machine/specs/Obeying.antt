@@ -6,7 +6,7 @@ use Rattle.instruction.specs.declared.Decoded.{Decoded}
 use Rattle.instruction.specs.Decoding.{callChecked}
 use Rattle.manual.specs.Instructions.{Running, planDecoded}
 use Rattle.effects.specs.Seen.{seen}
-use Rattle.perform.specs.Carried.{Carried, carry}
+use Rattle.effects.specs.Carried.{Carried, carry}
 
 -- Read in the function `f`; a CALL's function must be in its directory.
 abbrev pub obeyed : Running → List ℕ → Decoded → Carried

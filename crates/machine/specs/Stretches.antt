@@ -2,9 +2,9 @@
 -- that of `run` does not, so a reader need not believe it. Assumes nothing.
 use Prim.Native.Nat.{ℕ, _-_, _<_, _≤_}
 use mathlib.Core.List.{List}
-use Rattle.stepping.specs.declared.Ran.{Ran}
-use Rattle.stepping.specs.declared.Ran.the-variants.{Done, Trapped}
-use Rattle.stepping.specs.Run.{Outcome, ended, stepsFrom}
+use Rattle.effects.specs.declared.Ran.{Ran}
+use Rattle.effects.specs.declared.Ran.the-variants.{Done, Trapped}
+use Rattle.effects.specs.Run.{Outcome, ended, stepsFrom}
 
 -- What the whole run comes to, of `budget` instructions, when a stretch of it has answered so.
 abbrev pub resumed : Ran → ℕ → List ℕ → List ℕ → List ℕ → Outcome

@@ -7,9 +7,9 @@ ghost use Rattle.procedure.specs.Headers.{codeOf};
 ghost use Rattle.procedure.specs.Directory.{selected, functionOf};
 ghost use Rattle.segment.specs.State as state;
 ghost use Rattle.segment.specs.Stack as stack;
-ghost use Rattle.stepping.specs.Step.{selectorOf, numberOf};
-ghost use Rattle.stepping.specs.Run.{ended, stepsFrom};
-ghost use Rattle.stepping.specs.declared.Ran.the-variants as R;
+ghost use Rattle.effects.specs.Step.{selectorOf, numberOf};
+ghost use Rattle.effects.specs.Run.{ended, stepsFrom};
+ghost use Rattle.effects.specs.declared.Ran.the-variants as R;
 ghost use Rattle.machine.specs.Stretches.{resumed, Advanced};
 use super::step::step_in;
 use procedure::directory::Function;
@@ -22,8 +22,8 @@ use segment::state::lbase;
 use segment::state::sbase;
 use segment::state::set_trap;
 use segment::word;
-use stepping::Ran;
-use stepping::Stepped;
+use effects::Ran;
+use effects::Stepped;
 
 // At most `budget` instructions.
 pub fn run(seg: &mut [u32], regular: &[u8], other: &[u8], budget: u32) -> Ran

@@ -8,7 +8,7 @@ use lib.Dec.{ltb, eqb}
 use lib.ListN.{length}
 use borrow.Author.Tests.{ltb-true, eqb-true}
 use Rattle.segment.specs.Cells.{Cell, undefined}
-use Rattle.view.specs.Machine.{Machine, depthOfFrames}
+use Rattle.segment.specs.Machine.{Machine, depthOfFrames}
 use Rattle.procedure.specs.Headers.{codeOf}
 use Rattle.instruction.specs.declared.Address.{Address}
 use Rattle.instruction.specs.declared.Address.the-variants as A

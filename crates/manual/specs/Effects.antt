@@ -9,7 +9,7 @@ use lib.ListN.{getD, set, length, drop, replicate}
 use Rattle.descriptor.specs.declared.Target.{Target}
 use Rattle.descriptor.specs.declared.Target.the-variants.{Local, Global}
 use Rattle.segment.specs.Cells.{Cell, undefined, indirect, value, invalid}
-use Rattle.view.specs.Machine.{Frame, Machine, depthOfFrames}
+use Rattle.segment.specs.Machine.{Frame, Machine, depthOfFrames}
 use Rattle.manual.specs.OrTrap.{OrTrap}
 
 -- Where a result comes from: a share of a variable or of the i-th operand from the top (from 0), a scalar, the undefined value,

@@ -29,7 +29,7 @@ use Rattle.instruction.specs.declared.Instruction.{Instruction}
 use Rattle.instruction.specs.declared.Instruction.the-variants as I
 use Rattle.instruction.specs.Reading.{codeAddress}
 use Rattle.segment.specs.Cells.{Cell, undefined, indirect, value, invalid}
-use Rattle.view.specs.Machine.{Frame, Machine}
+use Rattle.segment.specs.Machine.{Frame, Machine}
 use Rattle.manual.specs.OrTrap.{OrTrap, gives, trap}
 use Rattle.manual.specs.Values as values
 use Rattle.manual.specs.Effects.{Source, variable, operand, word, undefinedValue, reference, made, Effect, replaces, discards, swaps, stores, storesElement, enters, leaves, jumps, setsOrigin, Plan, performAll}

@@ -12,7 +12,7 @@ use Rattle.descriptor.specs.Kinds.{segment, stack}
 use Rattle.procedure.specs.declared.header.Header.{Header}
 use Rattle.segment.specs.State.{iorg}
 use Rattle.segment.specs.Cells.{Cell, undefined, indirect, value, invalid}
-use Rattle.view.specs.Machine.{Frame, Machine, depthOfFrames, depth}
+use Rattle.segment.specs.Machine.{Frame, Machine, depthOfFrames, depth}
 use Rattle.manual.specs.OrTrap.{OrTrap, gives, trap, andThen, stopIf}
 use Rattle.manual.specs.Effects.{look, currentCells, older}
 

@@ -9,7 +9,7 @@ use mathlib.Core.List.{List, [], _∷_}
 use lib.Dec.{eqb}
 use Rattle.descriptor.specs.declared.Target.{Target}
 use Rattle.segment.specs.Cells.{Cell}
-use Rattle.view.specs.Machine.{Machine}
+use Rattle.segment.specs.Machine.{Machine}
 use Rattle.instruction.specs.declared.Instruction.{Instruction}
 use Rattle.manual.specs.OrTrap.{OrTrap, trap}
 use Rattle.manual.specs.Values.{any}

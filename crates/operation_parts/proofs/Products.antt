@@ -11,7 +11,7 @@ use lib.Seq.{drop-cons, drop-length}
 use lib.Dec.{eqb}
 use borrow.Author.Tests.{eqb-false, eq-eqb, ne-eqb}
 use Rattle.segment.specs.Blocks.{product}
-use Rattle.storage_tests.proofs.Tests.{by-eq, never}
+use Rattle.acceptance_storage.proofs.Tests.{by-eq, never}
 use Rattle.manual.specs.Values.{any}
 
 abbrev pub isZero : ℕ → Bool

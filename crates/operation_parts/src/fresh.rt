@@ -6,7 +6,7 @@ ghost use lib.ListN.{length, replicate};
 ghost use lib.Seq.{sets};
 ghost use Rattle.descriptor.specs.Fields.{undefinedWord};
 ghost use Rattle.manual.specs.Control.{frameWord};
-ghost use Rattle.layout.specs.LayOut as meaning;
+ghost use Rattle.fresh_segment.specs.LayOut as meaning;
 use descriptor::Descriptor;
 use elements::copies::fill;
 use segment::put;

@@ -8,7 +8,7 @@ ghost use Rattle.procedure.specs.declared.directory.Function.the-variants as fo
 ghost use Rattle.procedure.specs.Directory.{selected, functionOf};
 ghost use Rattle.procedure.specs.Refusal.{procedureRefusal};
 ghost use Rattle.segment.specs.Blocks as layout;
-ghost use Rattle.storage_tests.specs.Tests.{_and_};
+ghost use Rattle.acceptance_storage.specs.Tests.{_and_};
 ghost use Rattle.acceptance.specs.Refusal.{lengthTest, refusal};
 ghost use Rattle.manual.specs.Values as values;
 ghost use Rattle.operations.specs.Load as meaning;

@@ -8,7 +8,7 @@ use lib.ListN.{length}
 use Rattle.descriptor.specs.Kinds.{isScalar}
 use Rattle.segment.specs.State.{blockptr}
 use Rattle.segment.specs.Blocks.{product, need}
-use Rattle.storage_tests.specs.Tests.{_and_}
+use Rattle.acceptance_storage.specs.Tests.{_and_}
 use Rattle.acceptance.specs.Refusal.{refusal}
 use Rattle.manual.specs.Values.{any, first}
 use Rattle.manual.specs.Effects.{Source, word, made}

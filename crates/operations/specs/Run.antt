@@ -5,9 +5,9 @@ use mathlib.Core.Bool.{cond}
 use mathlib.Core.List.{List}
 use lib.Dec.{eqb}
 use Rattle.acceptance.specs.Refusal.{refusal}
-use Rattle.stepping.specs.declared.Ran.{Ran}
-use Rattle.stepping.specs.declared.Ran.the-variants as machine
-use Rattle.stepping.specs.Run.{Outcome, runOf}
+use Rattle.effects.specs.declared.Ran.{Ran}
+use Rattle.effects.specs.declared.Ran.the-variants as machine
+use Rattle.effects.specs.Run.{Outcome, runOf}
 use Rattle.operations.specs.declared.Run.{Run}
 use Rattle.operations.specs.declared.Run.the-variants.{Done, Trapped, Refused}
 

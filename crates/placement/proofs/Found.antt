@@ -10,15 +10,15 @@ use Rattle.segment.specs.State.{rover, blockptr, setRover}
 use Rattle.segment.specs.Blocks.{sizeAt, nextAt}
 use Rattle.storage.specs.Request.{find, split, whole, give, given, request, requestAt}
 use Rattle.storage.specs.Heap.{Block, over, frees, hit, count, Links, Heap, free}
-use Rattle.heap.proofs.Ways.{given-split, given-whole, give-split, give-whole, requestAt-none, request-some, requestAt-some}
-use Rattle.heap.proofs.Walks.{over-le}
-use Rattle.heap.proofs.Counts.{order, hit-cases, hit-same, count-append, over-append, frees-count, free-split}
-use Rattle.heap.proofs.Fields.{setRover-other}
-use Rattle.heap.proofs.Search.{here, there, nowhere, ring-once, free-ring, find-is, find-cases, members-once}
-use Rattle.heap.proofs.Search as search
-use Rattle.heap.proofs.Split.{split-first, split-given, split-links, split-rover}
-use Rattle.heap.proofs.Whole.{whole-first, whole-links, whole-rover}
-use Rattle.heap.proofs.Request.{free-size}
+use Rattle.storage_theorems.proofs.Ways.{given-split, given-whole, give-split, give-whole, requestAt-none, request-some, requestAt-some}
+use Rattle.storage_theorems.proofs.Walks.{over-le}
+use Rattle.storage_theorems.proofs.Counts.{order, hit-cases, hit-same, count-append, over-append, frees-count, free-split}
+use Rattle.storage_theorems.proofs.Fields.{setRover-other}
+use Rattle.storage_theorems.proofs.Search.{here, there, nowhere, ring-once, free-ring, find-is, find-cases, members-once}
+use Rattle.storage_theorems.proofs.Search as search
+use Rattle.storage_theorems.proofs.Split.{split-first, split-given, split-links, split-rover}
+use Rattle.storage_theorems.proofs.Whole.{whole-first, whole-links, whole-rover}
+use Rattle.storage_theorems.proofs.Request.{free-size}
 use Rattle.placement.specs.Placement.{RingFrom, Found, HighEnd, Entire, Given, Turned}
 use Rattle.placement.proofs.Rings.{links-one, Round, round-turn, ring-starting, round-next}
 

@@ -12,11 +12,11 @@ use Rattle.segment.specs.Cells.{undefined}
 use Rattle.segment.specs.Stack.{lastLbaseAt, downward}
 use Rattle.storage.specs.Arrays.{share, drop, drops}
 use Rattle.storage.specs.Owned.{Owned}
-use Rattle.view.specs.View.{view}
+use Rattle.segment.specs.View.{view}
 use Rattle.manual.specs.Effects as manual
 use Rattle.manual.specs.Effects.{Source, variable, replaces, discards, stores, storesElement, leaves}
-use Rattle.heap.proofs.Walks.{over-le}
-use Rattle.owners.proofs.Steps.{downward-same, drop-own}
+use Rattle.storage_theorems.proofs.Walks.{over-le}
+use Rattle.storage_theorems.proofs.Steps.{downward-same, drop-own}
 use Rattle.effects.specs.Sources.{addressOf, wordOf, placed}
 use Rattle.effects.specs.Perform.{bottomOf, startOf, finish, blockOf, replace, discard, store, storeAt, storeElement, leaveWith, leaveWithout, perform, isFull}
 use Rattle.effects.specs.Seen.{temporaries}

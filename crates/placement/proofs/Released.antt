@@ -12,15 +12,15 @@ use Rattle.segment.specs.Blocks.{freeAt, prevFreeAt, slopAt, sizeAt, dummy}
 use Rattle.storage.specs.Release.{release, joinBoth, joinBefore, joinAfter, joinNone}
 use Rattle.storage.specs.Heap.{Block, Walk, over, frees, hit, count, Links, Heap, free, array}
 use Rattle.storage.specs.Owned.{ArrayIn}
-use Rattle.heap.proofs.Walks.{over-le, walk-at}
-use Rattle.heap.proofs.Counts.{hit-cases, hit-same, count-append, over-append, frees-count, free-split, member-split}
-use Rattle.heap.proofs.Search.{members-once}
-use Rattle.heap.proofs.JoinBoth.{both-links, both-moves}
-use Rattle.heap.proofs.JoinBefore.{before-links, before-rover}
-use Rattle.heap.proofs.JoinAfter.{after-links, after-moves, after-apart}
-use Rattle.heap.proofs.JoinNone.{none-links, none-rover, none-apart}
-use Rattle.heap.proofs.Request.{free-size}
-use Rattle.heap.proofs.Release.{Way, both, before, after, none, way}
+use Rattle.storage_theorems.proofs.Walks.{over-le, walk-at}
+use Rattle.storage_theorems.proofs.Counts.{hit-cases, hit-same, count-append, over-append, frees-count, free-split, member-split}
+use Rattle.storage_theorems.proofs.Search.{members-once}
+use Rattle.storage_theorems.proofs.JoinBoth.{both-links, both-moves}
+use Rattle.storage_theorems.proofs.JoinBefore.{before-links, before-rover}
+use Rattle.storage_theorems.proofs.JoinAfter.{after-links, after-moves, after-apart}
+use Rattle.storage_theorems.proofs.JoinNone.{none-links, none-rover, none-apart}
+use Rattle.storage_theorems.proofs.Request.{free-size}
+use Rattle.storage_theorems.proofs.Release.{Way, both, before, after, none, way}
 use Rattle.placement.specs.Placement.{RingFrom, IsFree, FreeBefore, behind, InPlaceOf, Released, joinsBoth, joinsEarlier, joinsLater, joinsNone}
 use Rattle.placement.proofs.Rings.{Round, round-turn, ring-from, ring-links, dummy-is, dummy-members}
 

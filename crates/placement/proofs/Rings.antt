@@ -6,9 +6,9 @@ use native.Mathlib.Omega.{arith}
 use Rattle.segment.specs.State.{rover, blockptr}
 use Rattle.segment.specs.Blocks.{nextAt, dummy}
 use Rattle.storage.specs.Heap.{Block, over, frees, count, Links, Heap}
-use Rattle.heap.proofs.Counts.{hit-same, hit-eq}
-use Rattle.heap.proofs.Ring.{rotate, ring-at}
-use Rattle.heap.proofs.Search.{ring-once}
+use Rattle.storage_theorems.proofs.Counts.{hit-same, hit-eq}
+use Rattle.storage_theorems.proofs.Ring.{rotate, ring-at}
+use Rattle.storage_theorems.proofs.Search.{ring-once}
 use Rattle.placement.specs.Placement.{RingFrom}
 
 -- links from one place to another lead through one list only

@@ -12,8 +12,8 @@ use Rattle.descriptor.specs.declared.address.CodeAddress.{CodeAddress}
 use Rattle.instruction.specs.declared.Decoded.{Decoded}
 use Rattle.instruction.specs.declared.Decoded.the-variants.{Instruction as Done, Trap}
 use Rattle.instruction.specs.Decoding.{instructionAt}
-use Rattle.encoding.specs.Theorems.{Next}
-use Rattle.encoding.proofs.Theorem.{decoding}
+use Rattle.instruction_theorems.specs.Theorems.{Next}
+use Rattle.instruction_theorems.proofs.Theorem.{decoding}
 use Rattle.reader.specs.Walking.{withEnd, placeAfter, foundBy, walkIn, walk}
 use Rattle.reader.specs.Theorems.{Walking}
 

@@ -2,7 +2,7 @@ use mathlib.Core.Path.{sym, _∙_}
 use native.Mathlib.Omega.{arith}
 use borrow.Author.Needs.{needs}
 use borrow.Author.Tests.{not-true, not-false}
-use Rattle.storage_tests.proofs.StateWords.{head-sound}
+use Rattle.acceptance_storage.proofs.StateWords.{head-sound}
 use Rattle.acceptance.proofs.Compared.{all-tallied}
 use Rattle.acceptance.proofs.Table.{table-15, table-16, table-17, table-18, table-0}
 use Rattle.acceptance.proofs.judge_marked.Statement.{statement}

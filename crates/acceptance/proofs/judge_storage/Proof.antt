@@ -1,6 +1,6 @@
 use native.Mathlib.Omega.{arith}
 use borrow.Author.Needs.{needs}
-use Rattle.storage_tests.proofs.StateWords.{head-sound}
+use Rattle.acceptance_storage.proofs.StateWords.{head-sound}
 use Rattle.acceptance.proofs.Table.{table-14, improper, proper}
 use Rattle.acceptance.proofs.judge_storage.Statement.{statement}
 use Rattle.acceptance.proofs.judge_storage.Tie as tie

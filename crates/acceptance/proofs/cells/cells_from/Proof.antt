@@ -5,7 +5,7 @@ use native.Mathlib.Omega.{arith}
 use borrow.Author.Needs.{needs}
 use borrow.Author.Tests.{not-true, not-false}
 use lib.ListN.{length}
-use Rattle.storage_tests.specs.Marks.{Tally}
+use Rattle.acceptance_storage.specs.Marks.{Tally}
 use Rattle.acceptance.specs.Frames.{known, arguments, variables, framesFrom}
 use Rattle.acceptance.specs.Cells.{inTable, variablesFrom, cellsFrom}
 use Rattle.acceptance.proofs.Chain.{few-arguments, low-enough, at-bottom, above}

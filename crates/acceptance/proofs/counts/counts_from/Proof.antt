@@ -5,9 +5,9 @@ use borrow.Author.Needs.{needs}
 use borrow.Author.Tests.{not-true, not-false}
 use lib.ListN.{length}
 use Rattle.storage.specs.Heap.{count}
-use Rattle.view.specs.View.{owners}
-use Rattle.storage_tests.specs.Tests.{every}
-use Rattle.storage_tests.specs.Blocks.{startsFrom}
+use Rattle.segment.specs.View.{owners}
+use Rattle.acceptance_storage.specs.Tests.{every}
+use Rattle.acceptance_storage.specs.Blocks.{startsFrom}
 use Rattle.acceptance.specs.Counts.{countTest}
 use Rattle.acceptance.proofs.Compared.{arrays-none, arrays-end, array-passes, array-fails, array-among, later-among}
 use Rattle.acceptance.proofs.counts.counts_from.Statement.{statement}

@@ -1,6 +1,6 @@
 use mathlib.Core.Path.{_∙_}
 use borrow.Author.Needs.{needs}
-use Rattle.storage_tests.specs.Blocks.{arrayStarts}
+use Rattle.acceptance_storage.specs.Blocks.{arrayStarts}
 use Rattle.acceptance.proofs.Compared.{counts-are}
 use Rattle.acceptance.proofs.counts.counts_test.Statement.{statement}
 use Rattle.acceptance.proofs.counts.counts_test.Tie as tie

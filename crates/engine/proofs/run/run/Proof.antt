@@ -1,7 +1,7 @@
 use mathlib.Core.Path.{ap, _∙_}
 use native.Mathlib.Omega.{arith}
 use lib.ListN.{length, length-set}
-use Rattle.stepping.specs.declared.Ran.the-variants.{Done, Trapped}
+use Rattle.effects.specs.declared.Ran.the-variants.{Done, Trapped}
 use Rattle.acceptance.proofs.Structure.{table-sound}
 use Rattle.engine.proofs.Running.{unaccepted, has-ended}
 use borrow.Author.Needs.{needs}

@@ -5,7 +5,7 @@ use mathlib.Core.Path.{_≡_, refl, _∙_}
 use lib.ListN.{length}
 use Rattle.segment.specs.State.{lbase}
 use Rattle.segment.specs.Stack.{codeWordAt}
-use Rattle.stepping.specs.Run.{stepsFrom}
+use Rattle.effects.specs.Run.{stepsFrom}
 use Rattle.machine.proofs.Budget.{left-later, run-goes, run-traced, run-trapped}
 use Rattle.machine.proofs.Stepping.{bit-small, number-small, function-in, step-here}
 use Rattle.machine.proofs.run.steps_in.Statement.{statement}

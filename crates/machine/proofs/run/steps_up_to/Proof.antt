@@ -3,7 +3,7 @@ use Prim.Native.Nat.{_≤_, _-_}
 use native.Mathlib.Omega.{arith}
 use mathlib.Core.Path.{_≡_, refl, _∙_}
 use lib.ListN.{length}
-use Rattle.stepping.specs.Run.{stepsFrom}
+use Rattle.effects.specs.Run.{stepsFrom}
 use Rattle.machine.proofs.Budget.{goes-on, stops, advances, run-ends}
 use Rattle.machine.proofs.run.steps_up_to.Statement.{statement}
 use Rattle.machine.proofs.run.steps_up_to.Tie as tie

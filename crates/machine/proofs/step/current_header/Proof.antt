@@ -1,4 +1,4 @@
-use Rattle.stepping.specs.Step.{currentHeader}
+use Rattle.effects.specs.Step.{currentHeader}
 use borrow.Author.Needs.{needs}
 use Rattle.machine.proofs.step.current_header.Statement.{statement}
 use Rattle.machine.proofs.step.current_header.Tie as tie

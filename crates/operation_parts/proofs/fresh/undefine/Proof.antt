@@ -1,6 +1,6 @@
 use mathlib.Core.Path.{refl}
 use native.Mathlib.Omega.{arith}
-use Rattle.perform.proofs.FrameWords.{filled-with}
+use Rattle.effects_code.proofs.FrameWords.{filled-with}
 use borrow.Author.Needs.{needs}
 use Rattle.operation_parts.proofs.fresh.undefine.Statement.{statement}
 use Rattle.operation_parts.proofs.fresh.undefine.Tie as tie

@@ -1,4 +1,4 @@
-use Rattle.layout.specs.LayOut.{freshFrame}
+use Rattle.fresh_segment.specs.LayOut.{freshFrame}
 use borrow.Author.Needs.{needs}
 use Rattle.operation_parts.proofs.fresh.write_frame.Statement.{statement}
 use Rattle.operation_parts.proofs.fresh.write_frame.Tie as tie

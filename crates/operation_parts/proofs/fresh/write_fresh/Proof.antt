@@ -1,6 +1,6 @@
 use native.Mathlib.Omega.{arith}
-use Rattle.layout.proofs.Passed.{word-made}
-use Rattle.layout.specs.LayOut.{fresh}
+use Rattle.fresh_segment.proofs.Passed.{word-made}
+use Rattle.fresh_segment.specs.LayOut.{fresh}
 use borrow.Author.Needs.{needs}
 use Rattle.operation_parts.proofs.fresh.write_fresh.Statement.{statement}
 use Rattle.operation_parts.proofs.fresh.write_fresh.Tie as tie

@@ -1,4 +1,4 @@
-use Rattle.layout.specs.LayOut.{freshHead}
+use Rattle.fresh_segment.specs.LayOut.{freshHead}
 use borrow.Author.Needs.{needs}
 use Rattle.operation_parts.proofs.fresh.write_head.Statement.{statement}
 use Rattle.operation_parts.proofs.fresh.write_head.Tie as tie

@@ -1,4 +1,4 @@
-use Rattle.layout.specs.LayOut.{freshStorage}
+use Rattle.fresh_segment.specs.LayOut.{freshStorage}
 use borrow.Author.Needs.{needs}
 use Rattle.operation_parts.proofs.fresh.write_storage.Statement.{statement}
 use Rattle.operation_parts.proofs.fresh.write_storage.Tie as tie

@@ -1,0 +1,60 @@
+use Prim.Native.Nat.{_-_}
+use mathlib.Core.Path.{_∙_}
+use native.Mathlib.Omega.{arith}
+use Rattle.acceptance_storage.proofs.Walk.{improper, dummy-bad}
+use borrow.Author.Needs.{needs}
+use Rattle.acceptance_storage.proofs.blocks.blocks_test.Statement.{statement}
+use Rattle.acceptance_storage.proofs.blocks.blocks_test.Tie as tie
+
+blockptr-requires : tie.Need-blockptr-requires
+blockptr-requires c κs = search needs
+
+index-requires : tie.Need-index-requires
+index-requires c κs = search needs
+
+sbase-requires : tie.Need-sbase-requires
+sbase-requires c κs = search needs
+
+index-requires-2 : tie.Need-index-requires-2
+index-requires-2 c κs = search needs
+
+sub-end : tie.Need-sub-end
+sub-end c = search needs
+
+add-word : tie.Need-add-word
+add-word c = search needs
+
+word-requires : tie.Need-word-requires
+word-requires c κs = search needs
+
+returns : tie.Need-returns
+returns c = improper (c .before .before .before .before .before .before .before .before .before .args .seg .now) _ _ (dummy-bad (c .before .before .before .before .before .before .before .before .before .args .seg .now) (c .before .before .index2 .result - 3) (omega arith) (λ z. c .if1 .taken (c .before .word .ensures ∙ z)))
+
+walk-requires : tie.Need-walk-requires
+walk-requires c κs = search needs
+
+same-length : tie.Need-same-length
+same-length c = search needs
+
+same-length-2 : tie.Need-same-length-2
+same-length-2 c = search needs
+
+returns-2 : tie.Need-returns-2
+returns-2 c = search needs
+
+pub blocks-test-spec : {M : Type 1} → statement M
+blocks-test-spec =
+    tie.close
+    (tie.spec
+    blockptr-requires
+    index-requires
+    sbase-requires
+    index-requires-2
+    sub-end
+    add-word
+    word-requires
+    returns
+    walk-requires
+    same-length
+    same-length-2
+    returns-2)

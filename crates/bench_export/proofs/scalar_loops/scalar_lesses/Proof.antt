@@ -1,0 +1,71 @@
+use Prim.Native.Nat.{_≤_, _-_}
+use mathlib.Core.Path.{_≡_}
+use lib.ListN.{length}
+use borrow.Author.Needs.{needs}
+use Rattle.bench_export.proofs.scalar_loops.scalar_lesses.Statement.{statement}
+use Rattle.bench_export.proofs.scalar_loops.scalar_lesses.Tie as tie
+
+abbrev Inv-loop : tie.InvT-loop
+Inv-loop a b out₀ traps₀ i₀ out traps i = (i ≤ length a) × (traps ≤ i) × (length out ≡ length a) × (length b ≡ length a)
+
+abbrev μ-loop : tie.MeasureT-loop
+μ-loop a b out₀ traps₀ i₀ out traps i = length a - i
+
+loop-holds : tie.Need-loop-holds Inv-loop μ-loop
+loop-holds c = search needs
+
+mul-less : tie.Need-mul-less Inv-loop μ-loop
+mul-less c = search needs
+
+shared-slice-read-less : tie.Need-shared-slice-read-less Inv-loop μ-loop
+shared-slice-read-less c = search needs
+
+mul-less-2 : tie.Need-mul-less-2 Inv-loop μ-loop
+mul-less-2 c = search needs
+
+shared-slice-read-less-2 : tie.Need-shared-slice-read-less-2 Inv-loop μ-loop
+shared-slice-read-less-2 c = search needs
+
+less-requires : tie.Need-less-requires Inv-loop μ-loop
+less-requires c κs = search needs
+
+put-requires : tie.Need-put-requires Inv-loop μ-loop
+put-requires c κs = search needs
+
+add-traps : tie.Need-add-traps Inv-loop μ-loop
+add-traps c = search needs
+
+add-i : tie.Need-add-i Inv-loop μ-loop
+add-i c = search needs
+
+loop-less : tie.Need-loop-less Inv-loop μ-loop
+loop-less c = search needs
+
+loop-again : tie.Need-loop-again Inv-loop μ-loop
+loop-again c = search needs
+
+same-length : tie.Need-same-length Inv-loop μ-loop
+same-length c = search needs
+
+returns : tie.Need-returns Inv-loop μ-loop
+returns c = search needs
+
+pub scalar-lesses-spec : {M : Type 1} → statement M
+scalar-lesses-spec =
+    tie.close
+    (tie.spec
+    Inv-loop
+    μ-loop
+    loop-holds
+    mul-less
+    shared-slice-read-less
+    mul-less-2
+    shared-slice-read-less-2
+    less-requires
+    put-requires
+    add-traps
+    add-i
+    loop-less
+    loop-again
+    same-length
+    returns)

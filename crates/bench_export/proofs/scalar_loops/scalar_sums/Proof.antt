@@ -1,0 +1,71 @@
+use Prim.Native.Nat.{_≤_, _-_}
+use mathlib.Core.Path.{_≡_}
+use lib.ListN.{length}
+use borrow.Author.Needs.{needs}
+use Rattle.bench_export.proofs.scalar_loops.scalar_sums.Statement.{statement}
+use Rattle.bench_export.proofs.scalar_loops.scalar_sums.Tie as tie
+
+abbrev Inv-loop : tie.InvT-loop
+Inv-loop a b out₀ traps₀ i₀ out traps i = (i ≤ length a) × (traps ≤ i) × (length out ≡ length a) × (length b ≡ length a)
+
+abbrev μ-loop : tie.MeasureT-loop
+μ-loop a b out₀ traps₀ i₀ out traps i = length a - i
+
+loop-holds : tie.Need-loop-holds Inv-loop μ-loop
+loop-holds c = search needs
+
+mul-sum : tie.Need-mul-sum Inv-loop μ-loop
+mul-sum c = search needs
+
+shared-slice-read-sum : tie.Need-shared-slice-read-sum Inv-loop μ-loop
+shared-slice-read-sum c = search needs
+
+mul-sum-2 : tie.Need-mul-sum-2 Inv-loop μ-loop
+mul-sum-2 c = search needs
+
+shared-slice-read-sum-2 : tie.Need-shared-slice-read-sum-2 Inv-loop μ-loop
+shared-slice-read-sum-2 c = search needs
+
+sum-requires : tie.Need-sum-requires Inv-loop μ-loop
+sum-requires c κs = search needs
+
+put-requires : tie.Need-put-requires Inv-loop μ-loop
+put-requires c κs = search needs
+
+add-traps : tie.Need-add-traps Inv-loop μ-loop
+add-traps c = search needs
+
+add-i : tie.Need-add-i Inv-loop μ-loop
+add-i c = search needs
+
+loop-less : tie.Need-loop-less Inv-loop μ-loop
+loop-less c = search needs
+
+loop-again : tie.Need-loop-again Inv-loop μ-loop
+loop-again c = search needs
+
+same-length : tie.Need-same-length Inv-loop μ-loop
+same-length c = search needs
+
+returns : tie.Need-returns Inv-loop μ-loop
+returns c = search needs
+
+pub scalar-sums-spec : {M : Type 1} → statement M
+scalar-sums-spec =
+    tie.close
+    (tie.spec
+    Inv-loop
+    μ-loop
+    loop-holds
+    mul-sum
+    shared-slice-read-sum
+    mul-sum-2
+    shared-slice-read-sum-2
+    sum-requires
+    put-requires
+    add-traps
+    add-i
+    loop-less
+    loop-again
+    same-length
+    returns)

@@ -1,3 +1,0 @@
--- Words of 32 bits.
-pub mod Lent
-pub mod Bounded

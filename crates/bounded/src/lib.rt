@@ -1,1 +1,0 @@
-// Words of 32 bits stay words of 32 bits.

@@ -1,0 +1,33 @@
+-- At most a given number of instructions. Document 01's table: 2 and the steps where the number asked was done, 3 and the steps
+-- at a trap. Steps count finished instructions, the one before a step or trace trap among them. Assumes nothing.
+use Prim.Native.Nat.{ℕ, zero, suc, _+_}
+use mathlib.Core.List.{List}
+use lib.ListN.{set}
+use Rattle.effects.specs.declared.Stepped.{Stepped}
+use Rattle.effects.specs.declared.Stepped.the-variants.{Finished, Traced, Trapped}
+use Rattle.effects.specs.declared.Ran.{Ran}
+use Rattle.effects.specs.declared.Ran.the-variants as R
+use Rattle.effects.specs.Step.{Result, stepOf}
+
+pub record Outcome : Type 0 where
+  pub answer : Ran
+  pub words : List ℕ
+
+abbrev pub ended : Ran → List ℕ → Outcome
+ended answer s = record { answer = answer; words = s }
+
+-- What follows a step that answered so, `steps` instructions having finished before it.
+abbrev pub following : ℕ → Stepped → List ℕ → (List ℕ → Outcome) → Outcome
+following steps Finished s more = more s
+following steps (Traced class number) s more = ended (R.Trapped (steps + 1)) s
+following steps (Trapped class number) s more = ended (R.Trapped steps) s
+
+unfoldable pub stepsFrom : ℕ → ℕ → List ℕ → List ℕ → List ℕ → Outcome
+stepsFrom zero steps regular other s = ended (R.Done steps) s
+stepsFrom (suc budget) steps regular other s =
+    let r = stepOf regular other s in
+    following steps (r .answer) (r .words) (λ t. stepsFrom budget (steps + 1) regular other t)
+
+-- "A run sets word 3 to zero first."
+unfoldable pub runOf : List ℕ → List ℕ → List ℕ → ℕ → Outcome
+runOf regular other s budget = stepsFrom budget 0 regular other (set s 3 0)

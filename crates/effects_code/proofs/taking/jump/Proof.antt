@@ -1,0 +1,18 @@
+use borrow.Author.Needs.{needs}
+use Rattle.effects_code.proofs.taking.jump.Statement.{statement}
+use Rattle.effects_code.proofs.taking.jump.Tie as tie
+
+of-requires : tie.Need-of-requires
+of-requires c κs = search needs
+
+set-pctr-requires : tie.Need-set-pctr-requires
+set-pctr-requires c κs = search needs
+
+same-length : tie.Need-same-length
+same-length c = search needs
+
+returns : tie.Need-returns
+returns c = cc
+
+pub jump-spec : {M : Type 1} → statement M
+jump-spec = tie.close (tie.spec of-requires set-pctr-requires same-length returns)

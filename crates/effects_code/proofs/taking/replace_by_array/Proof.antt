@@ -1,0 +1,77 @@
+use mathlib.Core.Path.{refl, _∙_}
+use native.Mathlib.Omega.{arith}
+use Rattle.manual.specs.Effects.{made, replaces}
+use Rattle.effects_code.proofs.Placing.{long-kept, none-kept, found-done, replace-block, block-below}
+use borrow.Author.Needs.{needs}
+use Rattle.effects_code.proofs.taking.replace_by_array.Statement.{statement}
+use Rattle.effects_code.proofs.taking.replace_by_array.Tie as tie
+
+add-if1 : tie.Need-add-if1
+add-if1 c = search needs
+
+add-if1-2 : tie.Need-add-if1-2
+add-if1-2 c = search needs
+
+returns : tie.Need-returns
+returns c = let a = c .before .before .before .before .args in long-kept (a .seg .now) (a .shape .now) (a .ravel .now) _ refl (omega arith)
+
+bottom-requires : tie.Need-bottom-requires
+bottom-requires c κs = search needs
+
+place-requires : tie.Need-place-requires
+place-requires c κs = search needs
+
+enum-told : tie.Need-enum-told
+enum-told c = search needs
+
+enum-known-block : tie.Need-enum-known-block
+enum-known-block c = search needs
+
+array-requires : tie.Need-array-requires
+array-requires c κs =
+    let a = c .before .before .before .before .before .before .before .before .before .before .before .before .before .before .args in
+    block-below (a .seg .now) (c .before .before .before .before .before .before .before .before .before .before .before .before .before .slice-known .given) (a .shape .now) (a .ravel .now) (c .before .before .block .given .0 .0) (cc)
+
+word-requires : tie.Need-word-requires
+word-requires c κs = search needs
+
+take-requires : tie.Need-take-requires
+take-requires c κs = search needs
+
+same-length : tie.Need-same-length
+same-length c = search needs
+
+returns-2 : tie.Need-returns-2
+returns-2 c =
+    let a = c .before .before .before .before .before .before .before .before .before .before .before .before .args in
+    let kept = none-kept (a .seg .now) (a .shape .now) (a .ravel .now) (replaces (a .n) (made (a .shape .now) (a .ravel .now))) refl (cc) in
+    (kept .0, (cc) ∙ kept .1)
+
+same-length-2 : tie.Need-same-length-2
+same-length-2 c = search needs
+
+returns-3 : tie.Need-returns-3
+returns-3 c =
+    let a = c .before .before .before .before .before .before .before .before .before .before .before .before .before .before .before .before .before .before .before .args in
+    let block = c .before .before .before .before .before .before .before .block .given .0 .0 in
+    let done = found-done (a .seg .now) (a .shape .now) (a .ravel .now) (replaces (a .n) (made (a .shape .now) (a .ravel .now))) refl block (omega arith) (cc) in
+    (done .0, (cc) ∙ replace-block _ _ _ block (cc) _ ∙ done .1)
+
+pub replace-by-array-spec : {M : Type 1} → statement M
+replace-by-array-spec =
+    tie.close
+    (tie.spec
+    add-if1
+    add-if1-2
+    returns
+    bottom-requires
+    place-requires
+    enum-told
+    enum-known-block
+    array-requires
+    word-requires
+    take-requires
+    same-length
+    returns-2
+    same-length-2
+    returns-3)

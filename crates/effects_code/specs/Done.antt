@@ -1,0 +1,41 @@
+-- Effects as the code does them: a result that is there already, by its word; and an effect that asks for a block, done, or full
+-- and nothing changed. proofs/Carrying has the laws that instructions go by. Assumes nothing.
+use Prim.Native.Nat.{ℕ}
+use mathlib.Core.Path.{_≡_}
+use mathlib.Core.Bool.{true, cond}
+use mathlib.Core.List.{List}
+use lib.ListN.{set}
+use Rattle.descriptor.specs.declared.Target.{Target}
+use Rattle.storage.specs.Arrays.{share, drop, drops}
+use Rattle.manual.specs.Effects.{Effect, storesElement}
+use Rattle.effects.specs.Sources.{addressOf, heldAt}
+use Rattle.effects.specs.Perform.{bottomOf, finish, blockOf, unshare, perform, isFull}
+use Rattle.effects.specs.Seen.{whole}
+use Rattle.effects_code.specs.declared.Done.{Done}
+use Rattle.effects_code.specs.declared.Done.the-variants as D
+
+-- `w` is held by one cell more: the operand in the place of n others, or the variable in the place of its old word.
+unfoldable pub replaceShared : List ℕ → ℕ → ℕ → List ℕ
+replaceShared s n w = finish (drops n (share s w) (bottomOf s n)) (bottomOf s n) w
+
+unfoldable pub storeShared : List ℕ → Target → ℕ → List ℕ
+storeShared s t w = drop (set (share s w) (addressOf s t) w) (heldAt s t)
+
+-- An effect that may ask for a block: the answer, and the words after it.
+unfoldable pub answer : List ℕ → Effect → Done
+answer s e = cond (isFull s e) D.Full D.Done
+
+unfoldable pub attempt : List ℕ → Effect → List ℕ
+attempt s e = cond (isFull s e) s (perform s e)
+
+-- The block is that of the array that the variable holds, and it can be read.
+pub record Held (s : List ℕ) (t : Target) (block : ℕ) : Type 0 where
+  pub there : block ≡ blockOf s (addressOf s t)
+  pub readable : whole s (blockOf s (addressOf s t)) ≡ true
+
+-- The first half of storing an element: its array is copied where another cell holds it too. Which element does not matter.
+abbrev pub writing : Target → Effect
+writing t = storesElement t 0 0 0
+
+unfoldable pub copied : List ℕ → Target → List ℕ
+copied s t = cond (isFull s (writing t)) s (unshare s (addressOf s t))

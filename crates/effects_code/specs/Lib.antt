@@ -1,0 +1,2 @@
+-- What effects come to on words.
+pub mod Done

@@ -1,0 +1,104 @@
+use Rattle.fast_path.proofs.Answers.{left-by}
+use Rattle.fast_path.proofs.Decoding.{etc-by, stack-by, constant-in}
+use Rattle.fast_path.proofs.Answers.{left-by}
+use Rattle.fast_path.proofs.Decoding.{etc-by, stack-by, constant-in}
+use borrow.Author.Needs.{needs}
+use Rattle.fast_path.proofs.etc.Statement.{statement}
+use Rattle.fast_path.proofs.etc.Tie as tie
+
+enum-known-sub : tie.Need-enum-known-sub
+enum-known-sub c = search needs
+
+jump-to-requires : tie.Need-jump-to-requires
+jump-to-requires c κs = search needs
+
+enum-known-sub-2 : tie.Need-enum-known-sub-2
+enum-known-sub-2 c = search needs
+
+after-requires : tie.Need-after-requires
+after-requires c κs = search needs
+
+stack-operation-requires : tie.Need-stack-operation-requires
+stack-operation-requires c κs = search needs
+
+enum-told : tie.Need-enum-told
+enum-told c = search needs
+
+constant-scalar-requires : tie.Need-constant-scalar-requires
+constant-scalar-requires c κs = search needs
+
+enum-told-2 : tie.Need-enum-told-2
+enum-told-2 c = search needs
+
+enum-told-3 : tie.Need-enum-told-3
+enum-told-3 c = search needs
+
+enum-told-4 : tie.Need-enum-told-4
+enum-told-4 c = search needs
+
+enum-told-5 : tie.Need-enum-told-5
+enum-told-5 c = search needs
+
+enum-told-6 : tie.Need-enum-told-6
+enum-told-6 c = search needs
+
+same-length : tie.Need-same-length
+same-length c = search needs
+
+returns : tie.Need-returns
+returns c = etc-by _ _ _ _ (c .before .before .before .before .before .sub .given .1) (c .before .before .jump-to .ensures)
+
+same-length-2 : tie.Need-same-length-2
+same-length-2 c = search needs
+
+returns-2 : tie.Need-returns-2
+returns-2 c = stack-by _ _ _ _ (c .before .before .before .before .before .before .sub2 .given .1) (c .before .before .before .after .ensures) (c .before .before .stack-operation .ensures)
+
+same-length-3 : tie.Need-same-length-3
+same-length-3 c = search needs
+
+returns-3 : tie.Need-returns-3
+returns-3 c = constant-in _ _ _ _ (c .before .before .before .before .enum-told .given .1) (c .before .before .constant-scalar .ensures _)
+
+returns-4 : tie.Need-returns-4
+returns-4 c = left-by
+
+returns-5 : tie.Need-returns-5
+returns-5 c = left-by
+
+returns-6 : tie.Need-returns-6
+returns-6 c = left-by
+
+returns-7 : tie.Need-returns-7
+returns-7 c = left-by
+
+returns-8 : tie.Need-returns-8
+returns-8 c = left-by
+
+pub etc-spec : {M : Type 1} → statement M
+etc-spec =
+    tie.close
+    (tie.spec
+    enum-known-sub
+    jump-to-requires
+    enum-known-sub-2
+    after-requires
+    stack-operation-requires
+    enum-told
+    constant-scalar-requires
+    enum-told-2
+    enum-told-3
+    enum-told-4
+    enum-told-5
+    enum-told-6
+    same-length
+    returns
+    same-length-2
+    returns-2
+    same-length-3
+    returns-3
+    returns-4
+    returns-5
+    returns-6
+    returns-7
+    returns-8)

@@ -1,0 +1,122 @@
+use mathlib.Core.Path.{refl}
+use mathlib.Core.Bool.{true, false}
+use native.Mathlib.Omega.{arith}
+use Rattle.fast_path.proofs.Going.{is-inside, gone}
+use Rattle.fast_path.proofs.Decoding.{go-by, go-true-by, go-false-by}
+use Rattle.fast_path.proofs.Answers.{left-by, went}
+use borrow.Author.Needs.{needs}
+use Rattle.fast_path.proofs.jump_to.Statement.{statement}
+use Rattle.fast_path.proofs.jump_to.Tie as tie
+
+add-at : tie.Need-add-at
+add-at c = search needs
+
+add-if1 : tie.Need-add-if1
+add-if1 c = search needs
+
+returns : tie.Need-returns
+returns c = left-by
+
+shared-slice-read-half : tie.Need-shared-slice-read-half
+shared-slice-read-half c = search needs
+
+add-half : tie.Need-add-half
+add-half c = search needs
+
+shared-slice-read-half-2 : tie.Need-shared-slice-read-half-2
+shared-slice-read-half-2 c = search needs
+
+half-requires : tie.Need-half-requires
+half-requires c κs = search needs
+
+cast-to : tie.Need-cast-to
+cast-to c = search needs
+
+returns-2 : tie.Need-returns-2
+returns-2 c = left-by
+
+cast-if3 : tie.Need-cast-if3
+cast-if3 c = search needs
+
+mul-if3 : tie.Need-mul-if3
+mul-if3 c = search needs
+
+add-if3 : tie.Need-add-if3
+add-if3 c = search needs
+
+returns-3 : tie.Need-returns-3
+returns-3 c = left-by
+
+enum-told : tie.Need-enum-told
+enum-told c = search needs
+
+go-requires : tie.Need-go-requires
+go-requires c κs = search needs
+
+enum-told-2 : tie.Need-enum-told-2
+enum-told-2 c = search needs
+
+after-requires : tie.Need-after-requires
+after-requires c κs = search needs
+
+go-if-requires : tie.Need-go-if-requires
+go-if-requires c κs = search needs
+
+enum-told-3 : tie.Need-enum-told-3
+enum-told-3 c = search needs
+
+after-requires-2 : tie.Need-after-requires-2
+after-requires-2 c κs = search needs
+
+go-if-requires-2 : tie.Need-go-if-requires-2
+go-if-requires-2 c κs = search needs
+
+same-length : tie.Need-same-length
+same-length c = search needs
+
+returns-4 : tie.Need-returns-4
+returns-4 c = let k = c .before .before .before .before .before .before .before .before in let h = k .before .before .before .before .before .before .before .args .h in go-by _ h _ _ (omega arith) refl refl (k .before .half .ensures) refl (c .before .before .before .before .enum-told .given .1) (went (c .before .before .go .ensures .0) (gone h _ _ (is-inside h _ (k .if2 .left) (c .before .before .before .before .before .before .if3 .left)) (c .before .before .go .ensures .1)))
+
+same-length-2 : tie.Need-same-length-2
+same-length-2 c = search needs
+
+returns-5 : tie.Need-returns-5
+returns-5 c = let k = c .before .before .before .before .before .before .before .before .before in let h = k .before .before .before .before .before .before .before .args .h in go-true-by _ h _ _ (omega arith) refl refl (k .before .half .ensures) (c .before .before .before .after .ensures) (c .before .before .before .before .before .enum-told2 .given .1) (c .before .before .go-if .ensures h true refl (is-inside h _ (k .if2 .left) (c .before .before .before .before .before .before .before .if3 .left)))
+
+same-length-3 : tie.Need-same-length-3
+same-length-3 c = search needs
+
+returns-6 : tie.Need-returns-6
+returns-6 c = let k = c .before .before .before .before .before .before .before .before .before in let h = k .before .before .before .before .before .before .before .args .h in go-false-by _ h _ _ (omega arith) refl refl (k .before .half .ensures) (c .before .before .before .after2 .ensures) (c .before .before .before .before .before .enum-told3 .given .1) (c .before .before .go-if2 .ensures h false refl (is-inside h _ (k .if2 .left) (c .before .before .before .before .before .before .before .if3 .left)))
+
+pub jump-to-spec : {M : Type 1} → statement M
+jump-to-spec =
+    tie.close
+    (tie.spec
+    add-at
+    add-if1
+    returns
+    shared-slice-read-half
+    add-half
+    shared-slice-read-half-2
+    half-requires
+    cast-to
+    returns-2
+    cast-if3
+    mul-if3
+    add-if3
+    returns-3
+    enum-told
+    go-requires
+    enum-told-2
+    after-requires
+    go-if-requires
+    enum-told-3
+    after-requires-2
+    go-if-requires-2
+    same-length
+    returns-4
+    same-length-2
+    returns-5
+    same-length-3
+    returns-6)

@@ -1,0 +1,188 @@
+use mathlib.Core.Path.{refl, sym}
+use native.Mathlib.Omega.{arith}
+use Rattle.fast_path.proofs.Answers.{left-at}
+use Rattle.fast_path.proofs.Decoding.{short-local-at, constant-at, scalar-at, memory-at, etc-at, long-local-at, long-global-at}
+use borrow.Author.Needs.{needs}
+use Rattle.fast_path.proofs.quick.Statement.{statement}
+use Rattle.fast_path.proofs.quick.Tie as tie
+
+returns : tie.Need-returns
+returns c = left-at
+
+returns-2 : tie.Need-returns-2
+returns-2 c = left-at
+
+shared-slice-read-first : tie.Need-shared-slice-read-first
+shared-slice-read-first c = search needs
+
+family-of-requires : tie.Need-family-of-requires
+family-of-requires c κs = search needs
+
+enum-told : tie.Need-enum-told
+enum-told c = search needs
+
+variables-requires : tie.Need-variables-requires
+variables-requires c κs = search needs
+
+after-requires : tie.Need-after-requires
+after-requires c κs = search needs
+
+load-local-requires : tie.Need-load-local-requires
+load-local-requires c κs = search needs
+
+enum-told-2 : tie.Need-enum-told-2
+enum-told-2 c = search needs
+
+short-constant-requires : tie.Need-short-constant-requires
+short-constant-requires c κs = search needs
+
+enum-told-3 : tie.Need-enum-told-3
+enum-told-3 c = search needs
+
+operator-of-requires : tie.Need-operator-of-requires
+operator-of-requires c κs = search needs
+
+scalar-operation-requires : tie.Need-scalar-operation-requires
+scalar-operation-requires c κs = search needs
+
+enum-told-4 : tie.Need-enum-told-4
+enum-told-4 c = search needs
+
+variables-requires-2 : tie.Need-variables-requires-2
+variables-requires-2 c κs = search needs
+
+memory-of-requires : tie.Need-memory-of-requires
+memory-of-requires c κs = search needs
+
+memory-requires : tie.Need-memory-requires
+memory-requires c κs = search needs
+
+enum-told-5 : tie.Need-enum-told-5
+enum-told-5 c = search needs
+
+etc-of-requires : tie.Need-etc-of-requires
+etc-of-requires c κs = search needs
+
+etc-requires : tie.Need-etc-requires
+etc-requires c κs = search needs
+
+enum-told-6 : tie.Need-enum-told-6
+enum-told-6 c = search needs
+
+variables-requires-3 : tie.Need-variables-requires-3
+variables-requires-3 c κs = search needs
+
+load-long-requires : tie.Need-load-long-requires
+load-long-requires c κs = search needs
+
+enum-told-7 : tie.Need-enum-told-7
+enum-told-7 c = search needs
+
+variables-requires-4 : tie.Need-variables-requires-4
+variables-requires-4 c κs = search needs
+
+load-long-requires-2 : tie.Need-load-long-requires-2
+load-long-requires-2 c κs = search needs
+
+enum-told-8 : tie.Need-enum-told-8
+enum-told-8 c = search needs
+
+enum-told-9 : tie.Need-enum-told-9
+enum-told-9 c = search needs
+
+same-length : tie.Need-same-length
+same-length c = search needs
+
+returns-3 : tie.Need-returns-3
+returns-3 c = short-local-at _ _ _ _ (omega arith) (omega arith) refl (c .before .before .before .before .before .before .before .before .family-of .ensures) (c .before .before .before .before .before .before .enum-told .given .1) (c .before .before .before .before .variables .ensures) (c .before .before .before .after .ensures) (c .before .before .load-local .ensures)
+
+same-length-2 : tie.Need-same-length-2
+same-length-2 c = search needs
+
+returns-4 : tie.Need-returns-4
+returns-4 c = constant-at _ _ _ _ (omega arith) (omega arith) refl (c .before .before .before .before .before .before .family-of .ensures) (c .before .before .before .before .enum-told2 .given .1) (c .before .before .short-constant .ensures _)
+
+same-length-3 : tie.Need-same-length-3
+same-length-3 c = search needs
+
+returns-5 : tie.Need-returns-5
+returns-5 c = scalar-at _ _ _ _ (omega arith) (omega arith) refl (c .before .before .before .before .before .before .before .family-of .ensures) (c .before .before .before .before .before .enum-told3 .given .1) (c .before .before .before .operator-of .ensures) (c .before .before .scalar-operation .ensures _)
+
+same-length-4 : tie.Need-same-length-4
+same-length-4 c = search needs
+
+returns-6 : tie.Need-returns-6
+returns-6 c = memory-at _ _ _ _ (omega arith) (omega arith) refl (c .before .before .before .before .before .before .before .before .family-of .ensures) (c .before .before .before .before .before .before .enum-told4 .given .1) (c .before .before .before .memory-of .ensures) (c .before .before .memory .ensures _ (sym (c .before .before .before .before .variables2 .ensures)))
+
+same-length-5 : tie.Need-same-length-5
+same-length-5 c = search needs
+
+returns-7 : tie.Need-returns-7
+returns-7 c = etc-at _ _ _ _ (omega arith) (omega arith) refl (c .before .before .before .before .before .before .before .family-of .ensures) (c .before .before .before .before .before .enum-told5 .given .1) (c .before .before .before .etc-of .ensures) (c .before .before .etc .ensures)
+
+same-length-6 : tie.Need-same-length-6
+same-length-6 c = search needs
+
+returns-8 : tie.Need-returns-8
+returns-8 c = long-local-at _ _ _ _ (omega arith) (omega arith) refl (c .before .before .before .before .before .before .before .family-of .ensures) (c .before .before .before .before .before .enum-told6 .given .1) (c .before .before .load-long .ensures _ (sym (c .before .before .before .variables3 .ensures)))
+
+same-length-7 : tie.Need-same-length-7
+same-length-7 c = search needs
+
+returns-9 : tie.Need-returns-9
+returns-9 c = long-global-at _ _ _ _ (omega arith) (omega arith) refl (c .before .before .before .before .before .before .before .family-of .ensures) (c .before .before .before .before .before .enum-told7 .given .1) (c .before .before .load-long2 .ensures _ (sym (c .before .before .before .variables4 .ensures)))
+
+returns-10 : tie.Need-returns-10
+returns-10 c = left-at
+
+returns-11 : tie.Need-returns-11
+returns-11 c = left-at
+
+pub quick-spec : {M : Type 1} → statement M
+quick-spec =
+    tie.close
+    (tie.spec
+    returns
+    returns-2
+    shared-slice-read-first
+    family-of-requires
+    enum-told
+    variables-requires
+    after-requires
+    load-local-requires
+    enum-told-2
+    short-constant-requires
+    enum-told-3
+    operator-of-requires
+    scalar-operation-requires
+    enum-told-4
+    variables-requires-2
+    memory-of-requires
+    memory-requires
+    enum-told-5
+    etc-of-requires
+    etc-requires
+    enum-told-6
+    variables-requires-3
+    load-long-requires
+    enum-told-7
+    variables-requires-4
+    load-long-requires-2
+    enum-told-8
+    enum-told-9
+    same-length
+    returns-3
+    same-length-2
+    returns-4
+    same-length-3
+    returns-5
+    same-length-4
+    returns-6
+    same-length-5
+    returns-7
+    same-length-6
+    returns-8
+    same-length-7
+    returns-9
+    returns-10
+    returns-11)

@@ -1,0 +1,249 @@
+// A short way for the instructions that run most, where nothing traps: scalars made, moved and combined, variables loaded and
+// assigned by any form of address, jumps. `false`: no word has changed, and the instruction is still to be done.
+ghost use mathlib.Core.Path.{_≡_};
+ghost use Prim.Native.Nat.{_+_, _-_, _*_, _%_, _^_, _≤_};
+ghost use lib.ListN.{length};
+ghost use Rattle.instruction.specs.Reading.{cursorAt};
+ghost use Rattle.instruction.specs.Decoding as decoding;
+ghost use Rattle.manual.specs.Seen.{variablesOf};
+ghost use Rattle.manual.specs.Loads as loads;
+ghost use Rattle.manual.specs.Instructions as plan;
+ghost use Rattle.effects.specs.Seen.{seen};
+ghost use Rattle.fast_path.specs.Went.{Went, WentBy, WentAt};
+ghost use Rattle.fast_path.specs.Naming.{assignment};
+
+mod doing;
+mod naming;
+
+use descriptor::Descriptor;
+use doing::dyadic;
+use doing::eat;
+use doing::go;
+use doing::go_if;
+use doing::is_scalar;
+use doing::load_from;
+use doing::monadic;
+use doing::push;
+use doing::store;
+use instruction::Jump;
+use instruction::MemoryOperation;
+use instruction::StackOperation;
+use instruction::family::Family;
+use instruction::family::family_of;
+use instruction::table::EtcSuboperation;
+use instruction::table::MemorySuboperation;
+use instruction::table::etc_of;
+use instruction::table::memory_of;
+use naming::local;
+use naming::long;
+use naming::variables;
+use operator::Operator;
+use operator::Suboperation;
+use operator::operator_of;
+use procedure::header::Header;
+use segment::word;
+
+// The instruction at a place of the code of a function with that header.
+pub fn quick(seg: &mut [u32], h: Header, code: &[u8], place: u32) -> bool
+    requires { ⌜ length (now seg) ≤ 16384 ⌝ }
+    ensures { λ r. ⌜ WentAt (now (seg .entry)) h (now (code .entry)) place r (now (seg .exit)) ⌝ }
+{
+    if place < 8 {
+        return false;
+    }
+    let at = place as usize;
+    if code.len() <= at {
+        return false;
+    }
+    let first = code[at];
+    match family_of(first) {
+        Family::ShortLocal => load_local(seg, variables(h), first, after(place, 1)),
+        Family::ShortConst => short_constant(seg, code, first, place),
+        Family::GenScalar => scalar_operation(seg, operator_of(first % 32), place),
+        Family::MemRef => memory(seg, variables(h), code, memory_of(first % 32), place),
+        Family::Etc => etc(seg, h, code, etc_of(first % 32), place),
+        Family::LongLocal => load_long(seg, variables(h), code, first, Family::LongLocal, place),
+        Family::LongGlobal => load_long(seg, variables(h), code, first, Family::LongGlobal, place),
+        Family::Index => false,
+        Family::Unassigned => false,
+    }
+}
+
+// A local next to the frame, by its address of one byte. It mostly holds a scalar, which is pushed here, with no further call.
+fn load_local(seg: &mut [u32], variables: u32, first: u8, next: u32) -> bool
+    requires { ⌜ length (now seg) ≤ 16384 ⌝ }
+    ensures { λ r. ⌜ Went (now (seg .entry)) (loads.load (seen (now (seg .entry))) next (seen (now (seg .entry)) .local variables (64 - first % 2 ^ 6))) r (now (seg .exit)) ⌝ }
+{
+    let v = 64 - first as u32 % 64;
+    let i = local(seg, variables, v);
+    if i == 0 {
+        return false;
+    }
+    let w = word(seg, i);
+    if is_scalar(w) {
+        return push(seg, w, next);
+    }
+    load_from(seg, i, next)
+}
+
+// A variable by its address of two bytes.
+fn load_long(
+    seg: &mut [u32],
+    variables: u32,
+    code: &[u8],
+    first: u8,
+    family: Family,
+    place: u32,
+) -> bool
+    requires { ⌜ length (now seg) ≤ 16384 ⌝ }
+    ensures { λ r. ⌜ ((h : Header) → variablesOf h ≡ variables → WentBy (now (seg .entry)) h (decoding.loadAt (now (code .entry)) (cursorAt (place + 1)) first family) r (now (seg .exit))) ⌝ }
+{
+    let i = long(seg, variables, code, first, family, place as usize + 1);
+    if i == 0 {
+        return false;
+    }
+    load_from(seg, i, after(place, 2))
+}
+
+fn short_constant(seg: &mut [u32], code: &[u8], first: u8, place: u32) -> bool
+    requires { ⌜ length (now seg) ≤ 16384 ⌝ }
+    ensures { λ r. ⌜ ((h : Header) → WentBy (now (seg .entry)) h (decoding.shortConstantAt (now (code .entry)) (cursorAt (place + 1)) first) r (now (seg .exit))) ⌝ }
+{
+    let at = place as usize + 1;
+    if code.len() <= at {
+        return false;
+    }
+    let half = half(first, code[at]) as u32;
+    let w = Descriptor::integer(half / 0x1000 % 2 == 1, half % 0x1000).word();
+    push(seg, w, after(place, 2))
+}
+
+fn scalar_operation(seg: &mut [u32], sub: Suboperation, place: u32) -> bool
+    ensures { λ r. ⌜ ((h : Header) → WentBy (now (seg .entry)) h (decoding.scalarAt sub (cursorAt (place + 1))) r (now (seg .exit))) ⌝ }
+{
+    let Suboperation::Defined(operator) = sub else {
+        return false;
+    };
+    match operator {
+        Operator::Dyadic(op) => dyadic(seg, op, after(place, 1)),
+        Operator::Monadic(op) => monadic(seg, op, after(place, 1)),
+    }
+}
+
+fn memory(seg: &mut [u32], variables: u32, code: &[u8], sub: MemorySuboperation, place: u32) -> bool
+    ensures { λ r. ⌜ ((h : Header) → variablesOf h ≡ variables → WentBy (now (seg .entry)) h (decoding.memoryAt (now (code .entry)) (cursorAt (place + 1)) sub) r (now (seg .exit))) ⌝ }
+{
+    let MemorySuboperation::Defined(operation) = sub else {
+        return false;
+    };
+    match operation {
+        MemoryOperation::Assign => assign(seg, variables, code, true, place),
+        MemoryOperation::AssignNoResult => assign(seg, variables, code, false, place),
+        MemoryOperation::AssignIndexed(_) => false,
+        MemoryOperation::Reference => false,
+        MemoryOperation::TestDefined => false,
+    }
+}
+
+// ASSIGN keeps the value on the stack, ASSIGN_NORESULT does not.
+fn assign(seg: &mut [u32], variables: u32, code: &[u8], keep: bool, place: u32) -> bool
+    ensures { λ r. ⌜ ((h : Header) → variablesOf h ≡ variables → WentBy (now (seg .entry)) h (decoding.memoryAt (now (code .entry)) (cursorAt (place + 1)) (MemorySuboperation.Defined (assignment keep))) r (now (seg .exit))) ⌝ }
+{
+    let at = place as usize + 1;
+    if code.len() <= at {
+        return false;
+    }
+    let first = code[at];
+    if first < 0x40 {
+        let i = local(seg, variables, 64 - first as u32);
+        if i == 0 {
+            return false;
+        }
+        return store(seg, i, keep, after(place, 2));
+    }
+    let i = long(seg, variables, code, first, family_of(first), at + 1);
+    if i == 0 {
+        return false;
+    }
+    store(seg, i, keep, after(place, 3))
+}
+
+fn etc(seg: &mut [u32], h: Header, code: &[u8], sub: EtcSuboperation, place: u32) -> bool
+    requires { ⌜ length (now seg) ≤ 16384 ⌝ }
+    ensures { λ r. ⌜ WentBy (now (seg .entry)) h (decoding.etcAt (now (code .entry)) (cursorAt (place + 1)) sub) r (now (seg .exit)) ⌝ }
+{
+    match sub {
+        EtcSuboperation::Jump(kind) => jump_to(seg, h, code, kind, place),
+        EtcSuboperation::Stack(op) => stack_operation(seg, op, after(place, 1)),
+        EtcSuboperation::ConstantScalar => constant_scalar(seg, code, place),
+        EtcSuboperation::Array(_) => false,
+        EtcSuboperation::Control(_) => false,
+        EtcSuboperation::ConstantVector => false,
+        EtcSuboperation::Call => false,
+        EtcSuboperation::Undefined => false,
+    }
+}
+
+fn stack_operation(seg: &mut [u32], op: StackOperation, next: u32) -> bool
+    ensures { λ r. ⌜ Went (now (seg .entry)) (plan.stackPlan (seen (now (seg .entry))) next op) r (now (seg .exit)) ⌝ }
+{
+    match op {
+        StackOperation::Eat1 => eat(seg, next),
+        StackOperation::Undefined => false,
+        StackOperation::Interchange => false,
+        StackOperation::SetOrigin => false,
+        StackOperation::GetOrigin => false,
+    }
+}
+
+fn constant_scalar(seg: &mut [u32], code: &[u8], place: u32) -> bool
+    requires { ⌜ length (now seg) ≤ 16384 ⌝ }
+    ensures { λ r. ⌜ ((h : Header) → WentBy (now (seg .entry)) h (decoding.constantScalarAt (now (code .entry)) (cursorAt (place + 1))) r (now (seg .exit))) ⌝ }
+{
+    let at = place as usize + 1;
+    if code.len() <= at + 3 {
+        return false;
+    }
+    let high = half(code[at], code[at + 1]);
+    let low = half(code[at + 2], code[at + 3]);
+    let w = high as u32 * 0x1_0000 + low as u32;
+    if is_scalar(w) {
+        return push(seg, w, after(place, 5));
+    }
+    false
+}
+
+fn jump_to(seg: &mut [u32], h: Header, code: &[u8], kind: Jump, place: u32) -> bool
+    ensures { λ r. ⌜ WentBy (now (seg .entry)) h (decoding.jumpAt (now (code .entry)) (cursorAt (place + 1)) kind) r (now (seg .exit)) ⌝ }
+{
+    let at = place as usize + 1;
+    if code.len() <= at + 1 {
+        return false;
+    }
+    let to = half(code[at], code[at + 1]) as u32;
+    if to < 8 {
+        return false;
+    }
+    if 8 + 4 * h.ncode as u32 <= to {
+        return false;
+    }
+    match kind {
+        Jump::Go => go(seg, to),
+        Jump::GoTrue => go_if(seg, 1, to, after(place, 3)),
+        Jump::GoFalse => go_if(seg, 0, to, after(place, 3)),
+    }
+}
+
+// Two bytes of code, the high one first.
+fn half(high: u8, low: u8) -> u16
+    ensures { λ r. ⌜ r ≡ high * 2 ^ 8 + low ⌝ }
+{
+    high as u16 * 0x100 + low as u16
+}
+
+// The place so many bytes on in the code, as 32 bits.
+fn after(place: u32, bytes: u32) -> u32
+    ensures { λ r. ⌜ r ≡ (place + bytes) % 2 ^ 32 ⌝ }
+{
+    ((place as usize + bytes as usize) % 0x1_0000_0000) as u32
+}

@@ -1,0 +1,100 @@
+-- Lay out. Document 01's table: 10, 11, 12, then 20 ("function absent or with arguments") before 19 ("globals above 4,088, array
+-- words below 6, or the parts and bottom frame exceed the words lent"); decision 12. "Lay out makes cells undefined, PCTR 8,
+-- ROVER BLOCKPTR, other words zero." Assumes nothing.
+use Prim.Native.Nat.{ℕ, _+_, _-_, _*_, _^_}
+use mathlib.Core.Bool.{Bool, cond}
+use mathlib.Core.List.{List}
+use lib.Dec.{leb, eqb}
+use lib.ListN.{length, set, replicate}
+use lib.Seq.{sets}
+use Rattle.descriptor.specs.Fields.{undefinedWord}
+use Rattle.procedure.specs.Directory.{selected, hasFunction, nargsOf, nlocalsOf}
+use Rattle.procedure.specs.Refusal.{procedureRefusal}
+use Rattle.acceptance_storage.specs.Tests.{_and_}
+use Rattle.acceptance.specs.Refusal.{lengthTest}
+use Rattle.manual.specs.Control.{frameWord}
+
+-- What is asked for: the bottom function by its procedure segment, 0 or 1, and number; globals; array words, the dummy's 3 among them.
+pub record Layout : Type 0 where
+  pub selector : ℕ
+  pub function : ℕ
+  pub globals : ℕ
+  pub arrayWords : ℕ
+
+abbrev pub chosen : List ℕ → List ℕ → Layout → List ℕ
+chosen regular other l = selected (eqb (l .selector) 1) regular other
+
+abbrev pub localsOf : List ℕ → List ℕ → Layout → ℕ
+localsOf regular other l = nlocalsOf (chosen regular other l) (l .function)
+
+-- Test 20.
+unfoldable pub functionTest : List ℕ → List ℕ → Layout → Bool
+functionTest regular other l =
+    leb (l .selector) 1
+    and leb (l .function) 2047
+    and hasFunction (chosen regular other l) (l .function)
+    and eqb (nargsOf (chosen regular other l) (l .function)) 0
+
+-- Where array storage starts, and the stack after it.
+abbrev pub startOf : Layout → ℕ
+startOf l = 8 + l .globals
+
+abbrev pub baseOf : Layout → ℕ
+baseOf l = startOf l + l .arrayWords
+
+-- Test 19.
+unfoldable pub partsTest : List ℕ → List ℕ → List ℕ → Layout → Bool
+partsTest s regular other l =
+    leb (l .globals) 4088
+    and leb 6 (l .arrayWords)
+    and leb (baseOf l + localsOf regular other l + 2) (length s)
+
+unfoldable pub layOutRefusal : List ℕ → List ℕ → List ℕ → Layout → ℕ
+layOutRefusal s regular other l =
+    cond (lengthTest s)
+    (cond (eqb (procedureRefusal regular other) 0)
+    (cond (functionTest regular other l) (cond (partsTest s regular other l) 0 19) 20)
+    (procedureRefusal regular other))
+    10
+
+-- ---- the fresh segment
+
+-- Array storage of n words from `start`: one free block of all but three, and the dummy, each the other's neighbour in the ring.
+unfoldable pub freshStorage : List ℕ → ℕ → ℕ → List ℕ
+freshStorage s start n =
+    let dummy = start + n - 3 in
+    set
+    (set
+    (set
+    (set (set s start (2 ^ 31 + (n - 3))) (start + 1) (dummy * 2 ^ 16 + dummy))
+    (dummy - 1) (n - 3))
+    dummy (2 ^ 30))
+    (dummy + 1) (start * 2 ^ 16 + start)
+
+-- The bottom frame: undefined locals, last LBASE naming itself, the function's word.
+unfoldable pub freshFrame : List ℕ → ℕ → ℕ → ℕ → List ℕ
+freshFrame s base locals word =
+    set (set (sets s base (replicate locals undefinedWord)) (base + locals) locals) (base + locals + 1) word
+
+-- Words 0, 1 and 4: SBASE and LTOP, LBASE and ROVER, BLOCKPTR.
+unfoldable pub freshHead : List ℕ → ℕ → ℕ → ℕ → List ℕ
+freshHead s start base locals =
+    set (set (set s 0 (base * 2 ^ 16 + (locals + 1))) 1 (locals * 2 ^ 16 + start)) 4 start
+
+unfoldable pub fresh : ℕ → ℕ → ℕ → Layout → List ℕ
+fresh n locals word l =
+    freshFrame
+    (freshStorage
+    (sets (freshHead (replicate n 0) (startOf l) (baseOf l) locals) 8 (replicate (l .globals) undefinedWord))
+    (startOf l)
+    (l .arrayWords))
+    (baseOf l)
+    locals
+    word
+
+-- The segment after a lay out.
+unfoldable pub laidOut : List ℕ → List ℕ → List ℕ → Layout → List ℕ
+laidOut s regular other l =
+    cond (eqb (layOutRefusal s regular other l) 0)
+    (fresh (length s) (localsOf regular other l) (frameWord (eqb (l .selector) 1) (l .function)) l)
+    s

@@ -1,0 +1,41 @@
+use Rattle.instructions_memory.proofs.Variables.{variable-trapped}
+use mathlib.Core.Path.{_∙_}
+use Rattle.manual.specs.Loads as plan
+use Rattle.instructions_memory.proofs.Pushing.{tested}
+use borrow.Author.Needs.{needs}
+use Rattle.instructions_memory.proofs.loads.test_defined.Statement.{statement}
+use Rattle.instructions_memory.proofs.loads.test_defined.Tie as tie
+
+enum-known-variable : tie.Need-enum-known-variable
+enum-known-variable c = search needs
+
+enum-known-variable-2 : tie.Need-enum-known-variable-2
+enum-known-variable-2 c = search needs
+
+defined-requires : tie.Need-defined-requires
+defined-requires c κs = search needs
+
+push-word-requires : tie.Need-push-word-requires
+push-word-requires c κs = search needs
+
+returns : tie.Need-returns
+unfolding plan.testDefined
+returns c = variable-trapped _ _ _ _ _ (c .before .variable .given .1)
+
+same-length : tie.Need-same-length
+same-length c = search needs
+
+returns-2 : tie.Need-returns-2
+returns-2 c = (cc) ∙ tested _ _ _ _ _ (c .before .before .before .before .before .before .variable2 .given .1)
+
+pub test-defined-spec : {M : Type 1} → statement M
+test-defined-spec =
+    tie.close
+    (tie.spec
+    enum-known-variable
+    enum-known-variable-2
+    defined-requires
+    push-word-requires
+    returns
+    same-length
+    returns-2)

@@ -1,0 +1,187 @@
+// Instructions that push: loads, constants, REFERENCE, TEST_DEFINED, UNDEFINED, GETORIGIN.
+ghost use mathlib.Core.Path.{_≡_};
+ghost use mathlib.Core.Bool.{cond};
+ghost use Prim.Native.Nat.{_≤_, _<_, _%_, _^_};
+ghost use lib.ListN.{length};
+ghost use Rattle.descriptor.specs.declared.Target as targets;
+ghost use Rattle.descriptor.specs.Fields.{integerWord};
+ghost use Rattle.descriptor.specs.Kinds.{bit};
+ghost use Rattle.manual.specs.Effects as effect;
+ghost use Rattle.manual.specs.Instructions.{wordsFrom};
+ghost use Rattle.manual.specs.Loads as plan;
+ghost use Rattle.manual.specs.OrTrap.{gives};
+ghost use Rattle.manual.specs.Seen.{at};
+ghost use Rattle.effects.specs.Sources.{heldAt};
+ghost use Rattle.effects.specs.Seen.{read, seen};
+ghost use Rattle.operands.specs.Operands.{isUndefined};
+ghost use Rattle.operands.specs.Variables.{variableSeen, Sure};
+ghost use Rattle.effects.specs.Carried.{did, carry};
+use operands::reading::is_undefined;
+use operands::reading::room;
+use operands::variables::Resolved;
+use operands::variables::reference_word;
+use descriptor::Descriptor;
+use descriptor::address::CodeAddress;
+use elements::kinds::any_other;
+use effects_code::Done;
+use effects::Outcome;
+use effects_code::taking::jump;
+use effects_code::taking::replace_by_array;
+use effects_code::taking::replace_by_share;
+use effects_code::taking::replace_by_word;
+use procedure::bytes::word_at;
+use segment::state::iorg;
+
+// A word that names no array.
+pub fn push_word(seg: &mut [u32], w: u32, next: u32) -> Outcome
+    requires { ⌜ length (now seg) ≤ 16384 ⌝ }
+    ensures { λ r. ⌜ did r (now (seg .exit)) ≡ carry (now (seg .entry)) (plan.push (seen (now (seg .entry))) next (effect.word w)) ⌝ }
+{
+    if room(seg) < 1 {
+        return Outcome::Trapped(1, 1);
+    }
+    replace_by_word(seg, 0, w);
+    jump(seg, next);
+    Outcome::Finished
+}
+
+pub fn load(seg: &mut [u32], variable: Resolved, next: u32) -> Outcome
+    requires { ⌜ (length (now seg) ≤ 16384) × Sure (now seg) variable ⌝ }
+    ensures { λ r. ⌜ did r (now (seg .exit)) ≡ carry (now (seg .entry)) (plan.load (seen (now (seg .entry))) next (variableSeen (now (seg .entry)) variable)) ⌝ }
+{
+    match variable {
+        Resolved::Trap(class, number) => Outcome::Trapped(class, number),
+        Resolved::At(_, w) => load_word(seg, w, next),
+    }
+}
+
+// The word that the variable holds is pushed, and counted.
+fn load_word(seg: &mut [u32], w: u32, next: u32) -> Outcome
+    requires { ⌜ length (now seg) ≤ 16384 ⌝ }
+    ensures { λ r. ⌜ ((t : targets.Target) → w ≡ heldAt (now (seg .entry)) t → did r (now (seg .exit)) ≡ carry (now (seg .entry)) (plan.load (seen (now (seg .entry))) next (gives (at t (read (now (seg .entry)) w))))) ⌝ }
+{
+    if is_undefined(w) {
+        return Outcome::Trapped(10, 0);
+    }
+    if room(seg) < 1 {
+        return Outcome::Trapped(1, 1);
+    }
+    replace_by_share(seg, 0, w);
+    jump(seg, next);
+    Outcome::Finished
+}
+
+pub fn refer(seg: &mut [u32], variable: Resolved, next: u32) -> Outcome
+    requires { ⌜ length (now seg) ≤ 16384 ⌝ }
+    ensures { λ r. ⌜ did r (now (seg .exit)) ≡ carry (now (seg .entry)) (plan.referTo (seen (now (seg .entry))) next (variableSeen (now (seg .entry)) variable)) ⌝ }
+{
+    match variable {
+        Resolved::Trap(class, number) => Outcome::Trapped(class, number),
+        Resolved::At(t, _) => push_word(seg, reference_word(t), next),
+    }
+}
+
+pub fn test_defined(seg: &mut [u32], variable: Resolved, next: u32) -> Outcome
+    requires { ⌜ length (now seg) ≤ 16384 ⌝ }
+    ensures { λ r. ⌜ did r (now (seg .exit)) ≡ carry (now (seg .entry)) (plan.testDefined (seen (now (seg .entry))) next (variableSeen (now (seg .entry)) variable)) ⌝ }
+{
+    match variable {
+        Resolved::Trap(class, number) => Outcome::Trapped(class, number),
+        Resolved::At(_, w) => push_word(seg, defined(w), next),
+    }
+}
+
+fn defined(w: u32) -> u32
+    ensures { λ r. ⌜ r ≡ cond (isUndefined w) 0 1 ⌝ }
+{
+    if is_undefined(w) {
+        return 0;
+    }
+    1
+}
+
+pub fn push_undefined(seg: &mut [u32], next: u32) -> Outcome
+    requires { ⌜ length (now seg) ≤ 16384 ⌝ }
+    ensures { λ r. ⌜ did r (now (seg .exit)) ≡ carry (now (seg .entry)) (plan.pushUndefined (seen (now (seg .entry))) next) ⌝ }
+{
+    push_word(seg, Descriptor::UNDEFINED, next)
+}
+
+pub fn get_origin(seg: &mut [u32], next: u32) -> Outcome
+    requires { ⌜ length (now seg) ≤ 16384 ⌝ }
+    ensures { λ r. ⌜ did r (now (seg .exit)) ≡ carry (now (seg .entry)) (plan.getOrigin (seen (now (seg .entry))) next) ⌝ }
+{
+    let origin = iorg(seg);
+    push_word(seg, origin, next)
+}
+
+pub fn short_constant(seg: &mut [u32], negative: bool, magnitude: u32, next: u32) -> Outcome
+    requires { ⌜ length (now seg) ≤ 16384 ⌝ }
+    ensures { λ r. ⌜ did r (now (seg .exit)) ≡ carry (now (seg .entry)) (plan.shortConstant (seen (now (seg .entry))) next (integerWord (bit negative) (magnitude % 2 ^ 12))) ⌝ }
+{
+    push_word(
+        seg,
+        Descriptor::integer(negative, magnitude % 0x1000).word(),
+        next,
+    )
+}
+
+pub fn constant_scalar(seg: &mut [u32], w: u32, next: u32) -> Outcome
+    requires { ⌜ length (now seg) ≤ 16384 ⌝ }
+    ensures { λ r. ⌜ did r (now (seg .exit)) ≡ carry (now (seg .entry)) (plan.constantScalar (seen (now (seg .entry))) next w) ⌝ }
+{
+    if Descriptor::of(w).is_scalar() {
+        return push_word(seg, w, next);
+    }
+    Outcome::Trapped(3, 5)
+}
+
+// The words stand in the code from `first` on.
+pub fn constant_vector(
+    seg: &mut [u32],
+    code: &[u8],
+    count: u8,
+    first: CodeAddress,
+    next: u32,
+    scratch: &mut [u32],
+) -> Outcome
+    requires { ⌜ (length (now seg) ≤ 16384) × (length (now scratch) ≡ 16384) ⌝ }
+    ensures { λ r. ⌜ did r (now (seg .exit)) ≡ carry (now (seg .entry)) (plan.constantVector (seen (now (seg .entry))) next (wordsFrom (count % 2 ^ 8) (now (code .entry)) (first .0 % 2 ^ 16))) ⌝ }
+{
+    let n = count as usize;
+    read_words(code, first, &mut scratch[..n]);
+    push_vector(seg, &scratch[..n], next)
+}
+
+fn push_vector(seg: &mut [u32], words: &[u32], next: u32) -> Outcome
+    requires { ⌜ (length (now seg) ≤ 16384) × (length (now words) < 2 ^ 8) ⌝ }
+    ensures { λ r. ⌜ did r (now (seg .exit)) ≡ carry (now (seg .entry)) (plan.constantVector (seen (now (seg .entry))) next (now (words .entry))) ⌝ }
+{
+    if any_other(words) {
+        return Outcome::Trapped(3, 5);
+    }
+    if room(seg) < 1 {
+        return Outcome::Trapped(1, 1);
+    }
+    let lengths = [words.len() as u32];
+    match replace_by_array(seg, 0, &lengths, words) {
+        Done::Full => Outcome::Trapped(1, 2),
+        Done::Done => {
+            jump(seg, next);
+            Outcome::Finished
+        }
+    }
+}
+
+fn read_words(code: &[u8], first: CodeAddress, out: &mut [u32])
+    requires { ⌜ length (now out) < 2 ^ 8 ⌝ }
+    ensures { λ _. ⌜ now (out .exit) ≡ wordsFrom (length (now (out .entry))) (now (code .entry)) (first .0 % 2 ^ 16) ⌝ }
+{
+    let start = first.number() % 0x1_0000;
+    let n = out.len();
+    let mut i = 0;
+    while i < n {
+        out[i] = word_at(code, start + 4 * i as u32);
+        i += 1;
+    }
+}

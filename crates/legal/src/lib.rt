@@ -1,1 +1,0 @@
-// What the view of an accepted segment is, told by cells.

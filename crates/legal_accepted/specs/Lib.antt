@@ -1,2 +1,0 @@
--- What an accepted segment is, told by cells.
-pub mod Theorem

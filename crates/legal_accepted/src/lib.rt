@@ -1,1 +1,0 @@
-// An accepted segment is a sound one whose view is legal.

@@ -1,2 +1,0 @@
--- What an instruction leaves of a legal machine.
-pub mod Kept

@@ -1,1 +1,0 @@
-// What an instruction leaves of a legal machine is legal again.

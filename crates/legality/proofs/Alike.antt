@@ -1,0 +1,186 @@
+-- Frames that differ in PCTR and in cells that are direct now: they have the same variables, and what was legal stays legal.
+use Prim.Native.Nat.{ℕ, _-_, _*_, _^_, _≤_, _<_}
+use mathlib.Core.Path.{_≡_, refl, _∙_, ap}
+use mathlib.Core.Logic.{_⊎_, inl, inr, ⊎-elim}
+use mathlib.Core.List.{List, [], _∷_}
+use native.Mathlib.Omega.{arith}
+use lib.ListN.{getD, length}
+use borrow.Author.Tests.{le-leb, lt-leb}
+use Rattle.descriptor.specs.declared.Target.{Target}
+use Rattle.descriptor.specs.declared.Target.the-variants.{Local, Global}
+use Rattle.segment.specs.Cells.{Cell, undefined, indirect, value, invalid}
+use Rattle.segment.specs.Machine.{Frame, Machine, depthOfFrames}
+use Rattle.manual.specs.Effects.{indexIn, lookFrames, look}
+use Rattle.storage_theorems.proofs.Counts.{order}
+use Rattle.acceptance.specs.Frames.{known, arguments, variables}
+use Rattle.legality.specs.Legal.{functionWord, Direct, VariableOf, Names, Allowed, LegalFrame, LegalFrames, bottom, upon, Legal}
+
+-- a variable is looked at in the first frame or in an older one
+module _ (a : ℕ) (r : Frame Cell) (l : List (Frame Cell)) where
+  pub look-here : depthOfFrames l ≤ a → lookFrames undefined a (r ∷ l) ≡ getD (r .cells) (indexIn (r .cells) l a) undefined
+  look-here h = rw (le-leb (depthOfFrames l) a h)
+
+  pub look-below : a < depthOfFrames l → lookFrames undefined a (r ∷ l) ≡ lookFrames undefined a l
+  look-below h = rw (lt-leb (depthOfFrames l) a h)
+
+-- ---- alike
+
+pub record LikeCells (l k : List Cell) : Type 0 where
+  pub size : length k ≡ length l
+  pub each : (i : ℕ) → (getD k i undefined ≡ getD l i undefined) ⊎ Direct (getD k i undefined)
+
+pub record LikeFrame (r q : Frame Cell) : Type 0 where
+  pub function : q .function ≡ r .function
+  pub cells : LikeCells (r .cells) (q .cells)
+
+abbrev pub LikeFrames : List (Frame Cell) → List (Frame Cell) → Type 0
+LikeFrames [] [] = Unit {0}
+LikeFrames [] (q ∷ k) = ⊥
+LikeFrames (r ∷ l) [] = ⊥
+LikeFrames (r ∷ l) (q ∷ k) = LikeFrame r q × LikeFrames l k
+
+pub same-cells : (l : List Cell) → LikeCells l l
+same-cells l = record { size = refl; each = λ i. inl refl }
+
+pub same-frames : (l : List (Frame Cell)) → LikeFrames l l
+same-frames [] = tt
+same-frames (r ∷ l) = (record { function = refl; cells = same-cells (r .cells) }, same-frames l)
+
+direct-on : {l k : List Cell} → LikeCells l k → (i : ℕ) → Direct (getD l i undefined) → Direct (getD k i undefined)
+direct-on e i h = ⊎-elim (λ (p : _ ≡ _). rw p h) (λ d. d) (e .each i)
+
+pub depth-on : (l k : List (Frame Cell)) → LikeFrames l k → depthOfFrames k ≡ depthOfFrames l
+depth-on [] [] e = refl
+depth-on [] (q ∷ k) e = absurd e
+depth-on (r ∷ l) [] e = absurd e
+depth-on (r ∷ l) (q ∷ k) e = omega (arith, e .0 .cells .size, depth-on l k (e .1))
+
+look-on : (a : ℕ) (l k : List (Frame Cell)) → LikeFrames l k → Direct (lookFrames undefined a l) → Direct (lookFrames undefined a k)
+look-on a [] [] e h = tt
+look-on a [] (q ∷ k) e h = absurd e
+look-on a (r ∷ l) [] e h = absurd e
+look-on a (r ∷ l) (q ∷ k) e h = go (λ p. look-on a l k (e .1) p) (order (depthOfFrames l) a)
+  where
+    go : (Direct (lookFrames undefined a l) → Direct (lookFrames undefined a k)) → (depthOfFrames l ≤ a) ⊎ (a < depthOfFrames l)
+        → Direct (lookFrames undefined a (q ∷ k))
+    go more (inl p) =
+        let d = depth-on l k (e .1) in
+        let i : indexIn (q .cells) k a ≡ indexIn (r .cells) l a = omega (arith, e .0 .cells .size) in
+        rw (look-here a q k (omega arith), i) (direct-on (e .0 .cells) (indexIn (r .cells) l a) (rw (look-here a r l p) at h))
+    go more (inr p) =
+        let d = depth-on l k (e .1) in
+        rw (look-below a q k (omega arith)) (more (rw (look-below a r l p) at h))
+
+module _ (regular other : List ℕ) where
+  like-variables : {r q : Frame Cell} → LikeFrame r q → variables regular other (functionWord q) ≡ variables regular other (functionWord r)
+  like-variables e = ap (λ (f : ℕ). variables regular other (f * 2 ^ 16)) (e .function)
+
+  variable-on : (a : ℕ) (l k : List (Frame Cell)) → LikeFrames l k → VariableOf regular other l a → VariableOf regular other k a
+  variable-on a [] [] e h = h
+  variable-on a [] (q ∷ k) e h = absurd e
+  variable-on a (r ∷ l) [] e h = absurd e
+  variable-on a (r ∷ l) (q ∷ k) e (inl h) =
+      let d = depth-on l k (e .1) in
+      let n = e .0 .cells .size in
+      let v = like-variables (e .0) in
+      inl (omega (arith, h), omega (arith, h))
+  variable-on a (r ∷ l) (q ∷ k) e (inr h) = inr (variable-on a l k (e .1) h)
+
+  pub variable-low : (a : ℕ) (l : List (Frame Cell)) → VariableOf regular other l a → a < depthOfFrames l
+  variable-low a [] h = absurd h
+  variable-low a (r ∷ l) (inl h) = omega (arith, h)
+  variable-low a (r ∷ l) (inr h) = omega (arith, variable-low a l h)
+
+  -- more frames have more variables
+  names-more : (m : Machine Cell) (r : Frame Cell) (l : List (Frame Cell)) (t : Target) → Names regular other m l t → Names regular other m (r ∷ l) t
+  names-more m r l (Global g) h = h
+  names-more m r l (Local a) h = inr h
+
+  pub allowed-more : (m : Machine Cell) (r : Frame Cell) (l : List (Frame Cell)) (c : Cell) → Allowed regular other m l c
+      → Allowed regular other m (r ∷ l) c
+  allowed-more m r l undefined h = tt
+  allowed-more m r l (indirect t) h = record { names = names-more m r l t (h .names); direct = h .direct }
+  allowed-more m r l (value shape ravel) h = tt
+  allowed-more m r l invalid h = h
+
+  pub direct-allowed : (m : Machine Cell) (l : List (Frame Cell)) (c : Cell) → Direct c → Allowed regular other m l c
+  direct-allowed m l undefined h = tt
+  direct-allowed m l (indirect t) h = absurd h
+  direct-allowed m l (value shape ravel) h = tt
+  direct-allowed m l invalid h = absurd h
+
+  pub upon-on : {m : Machine Cell} {r : Frame Cell} {l : List (Frame Cell)} → LegalFrame regular other m r l → LegalFrames regular other m l
+      → LegalFrames regular other m (r ∷ l)
+  upon-on g (bottom h e) = upon g (bottom h e)
+  upon-on g (upon h rest) = upon g (upon h rest)
+
+  -- two machines that have as many globals, where what is named and direct in the one is direct in the other
+  module _ (m n : Machine Cell) (globals : length (n .globals) ≡ length (m .globals)) where
+    pub names-on : (l k : List (Frame Cell)) → LikeFrames l k → (t : Target) → Names regular other m l t → Names regular other n k t
+    names-on l k e (Global g) h = (h .0, omega (arith, h))
+    names-on l k e (Local a) h = variable-on (a .0) l k e h
+
+    abbrev pub StayDirect : List (Frame Cell) → Type 0
+    StayDirect l = (t : Target) → Names regular other m l t → Direct (look undefined t m) → Direct (look undefined t n)
+
+    pub allowed-on : (l k : List (Frame Cell)) → LikeFrames l k → StayDirect l → (c : Cell) → Allowed regular other m l c → Allowed regular other n k c
+    allowed-on l k e d undefined h = tt
+    allowed-on l k e d (indirect t) h = record { names = names-on l k e t (h .names); direct = d t (h .names) (h .direct) }
+    allowed-on l k e d (value shape ravel) h = tt
+    allowed-on l k e d invalid h = h
+
+    allowed-cells : (l k : List (Frame Cell)) → LikeFrames l k → StayDirect l → {x y : List Cell} → LikeCells x y
+        → ((i : ℕ) → i < length x → Allowed regular other m l (getD x i undefined)) → (i : ℕ) → i < length y → Allowed regular other n k (getD y i undefined)
+    allowed-cells l k e d {x} {y} c h i b =
+        ⊎-elim (λ (p : getD y i undefined ≡ getD x i undefined). rw p (allowed-on l k e d (getD x i undefined) (h i (omega (arith, c .size)))))
+        (λ p. direct-allowed n k (getD y i undefined) p)
+        (c .each i)
+
+    frame-on : {r q : Frame Cell} {l k : List (Frame Cell)} → LikeFrame r q → LikeFrames l k → StayDirect l
+        → LegalFrame regular other m r l → LegalFrame regular other n q k
+    frame-on {r} {q} {l} {k} e es d g =
+        let v = like-variables e in
+        let a : arguments regular other (functionWord q) ≡ arguments regular other (functionWord r) = ap (λ (f : ℕ). arguments regular other (f * 2 ^ 16)) (e .function) in
+        record {
+          function = ap (λ (f : ℕ). known regular other (f * 2 ^ 16)) (e .function) ∙ g .function;
+          cells = omega (arith, g .cells, e .cells .size);
+          locals = λ i h. direct-on (e .cells) i (g .locals i (omega arith));
+          others = allowed-cells l k es d (e .cells) (g .others);
+        }
+
+    pub frames-on : {l : List (Frame Cell)} → LegalFrames regular other m l → (k : List (Frame Cell)) → LikeFrames l k → StayDirect l
+        → LegalFrames regular other n k
+    frames-on (bottom g s) [] e d = absurd e
+    frames-on (bottom {r} g s) (q ∷ []) e d =
+        let v = like-variables (e .0) in
+        bottom (frame-on (e .0) tt (λ t h. d t (names-more m r [] t h)) g) (omega (arith, e .0 .cells .size))
+    frames-on (bottom g s) (q ∷ p ∷ k) e d = absurd (e .1)
+    frames-on (upon g rest) [] e d = absurd e
+    frames-on (upon {r} {q = s} {older = l} g rest) (q ∷ k) e d =
+        upon-on (frame-on (e .0) (e .1) (λ t h. d t (names-more m r (s ∷ l) t h)) g)
+        (frames-on rest k (e .1) (λ t h. d t (names-more m r (s ∷ l) t h)))
+
+-- ---- machines
+
+pub record Like (m n : Machine Cell) : Type 0 where
+  pub frames : LikeFrames (m .frames) (n .frames)
+  pub globals : LikeCells (m .globals) (n .globals)
+
+like-look : {m n : Machine Cell} → Like m n → (t : Target) → Direct (look undefined t m) → Direct (look undefined t n)
+like-look e (Global g) h = direct-on (e .globals) (g .0 - 8) h
+like-look {m} {n} e (Local a) h = look-on (a .0) (m .frames) (n .frames) (e .frames) h
+
+-- A machine alike is legal where its temporaries are allowed in the one before.
+pub like-legal : {regular other : List ℕ} {m n : Machine Cell} → Legal regular other m → Like m n
+    → ((i : ℕ) → i < length (n .temporaries) → Allowed regular other m (m .frames) (getD (n .temporaries) i undefined)) → Legal regular other n
+like-legal {regular} {other} {m} {n} g e h =
+    let d : StayDirect regular other m n (e .globals .size) (m .frames) = λ t p. like-look e t in
+    record {
+      frames = frames-on regular other m n (e .globals .size) (g .frames) (n .frames) (e .frames) d;
+      globals = λ i b. direct-on (e .globals) i (g .globals i (omega (arith, e .globals .size)));
+      temporaries = λ i b. allowed-on regular other m n (e .globals .size) (m .frames) (n .frames) (e .frames) d (getD (n .temporaries) i undefined) (h i b);
+    }
+
+pub like-names : (regular other : List ℕ) {m n : Machine Cell} → Like m n → (t : Target) → Names regular other m (m .frames) t
+    → Names regular other n (n .frames) t
+like-names regular other {m} {n} e t h = names-on regular other m n (e .globals .size) (m .frames) (n .frames) (e .frames) t h

@@ -1,0 +1,53 @@
+-- The word of a new frame names the function that is called.
+use Prim.Native.Nat.{ℕ, _+_, _*_, _/_, _^_, _≤_, _<_}
+use mathlib.Core.Path.{_≡_, ap}
+use mathlib.Core.Bool.{Bool, true, false}
+use mathlib.Core.List.{List}
+use native.Mathlib.Omega.{arith}
+use lib.Dec.{eqb}
+use lib.ListN.{length}
+use borrow.Author.Tests.{lt-ltb, eq-eqb, ne-eqb}
+use Rattle.segment.specs.Cells.{Cell}
+use Rattle.segment.specs.Stack.{alternate, functionNumber}
+use Rattle.segment.specs.Machine.{Machine}
+use Rattle.procedure.specs.Directory.{selected, hasFunction, nargsOf, nlocalsOf}
+use Rattle.manual.specs.Control.{frameWord}
+use Rattle.acceptance.specs.Frames.{segmentOf, known, arguments, variables}
+use Rattle.legality.proofs.Effects.{CanEnter}
+
+-- P and the number of the function.
+abbrev wordOf : Bool → ℕ → ℕ
+wordOf alternate number = frameWord alternate number / 2 ^ 16 * 2 ^ 16
+
+module _ (number : ℕ) (small : number < 2 ^ 11) where
+  word-small : (alternate : Bool) → wordOf alternate number < 2 ^ 28
+  word-small true = omega arith
+  word-small false = omega arith
+
+  word-number : (alternate : Bool) → functionNumber (wordOf alternate number) ≡ number
+  word-number true = omega arith
+  word-number false = omega arith
+
+  word-alternate : (P : Bool) → eqb (alternate (wordOf P number)) 1 ≡ P
+  word-alternate true = eq-eqb (alternate (wordOf true number)) 1 (omega arith)
+  word-alternate false = ne-eqb (alternate (wordOf false number)) 1 (omega arith)
+
+  module _ (regular other : List ℕ) (P : Bool) where
+    word-segment : segmentOf regular other (wordOf P number) ≡ selected P regular other
+    word-segment = ap (λ (p : Bool). selected p regular other) (word-alternate P)
+
+    word-known : hasFunction (selected P regular other) number ≡ true → known regular other (wordOf P number) ≡ true
+    unfolding known
+    word-known h = rw (lt-ltb (wordOf P number) (2 ^ 28) (word-small P), word-segment, word-number P) h
+
+    word-arguments : arguments regular other (wordOf P number) ≡ nargsOf (selected P regular other) number
+    unfolding arguments
+    word-arguments = rw (word-segment, word-number P)
+
+    word-variables : variables regular other (wordOf P number) ≡ arguments regular other (wordOf P number) + nlocalsOf (selected P regular other) number
+    unfolding variables
+    word-variables = rw (word-segment, word-number P)
+
+    pub can-enter : (m : Machine Cell) → hasFunction (selected P regular other) number ≡ true → nargsOf (selected P regular other) number ≤ length (m .temporaries)
+        → CanEnter regular other (nlocalsOf (selected P regular other) number) (frameWord P number) m
+    can-enter m h k = record { function = word-known h; size = word-variables; taken = omega (arith, word-arguments) }

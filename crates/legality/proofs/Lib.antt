@@ -1,0 +1,20 @@
+-- Accepted segments and legal machines: from words to cells and back; laws of legal machines, and the theorems of specs/.
+pub mod FunctionWord
+pub mod CellKinds
+pub mod Frames
+pub mod Stacked
+pub mod Cells
+pub mod Split
+pub mod Owners
+pub mod Join
+pub mod Names
+pub mod Runs
+pub mod Accepted
+pub mod Alike
+pub mod Stored
+pub mod Effects
+pub mod Steps
+pub mod Resolved
+pub mod Called
+pub mod Plans
+pub mod Kept

@@ -1,0 +1,77 @@
+-- What an instruction of the current function may rely on in an accepted segment.
+use Prim.Native.Nat.{ℕ, _-_, _^_, _<_, _≤_}
+use mathlib.Core.Path.{_≡_, refl, _∙_, subst}
+use mathlib.Core.Bool.{Bool, true, false}
+use mathlib.Core.List.{List, [], _∷_}
+use native.Mathlib.Omega.{arith}
+use lib.ListN.{getD}
+use lib.Dec.{ltb, eqb}
+use borrow.Author.Tests.{ltb-true, eqb-false}
+use Rattle.descriptor.specs.declared.Target.{Target}
+use Rattle.descriptor.specs.declared.Target.the-variants.{Local, Global}
+use Rattle.segment.specs.State.{lbase, blockptr}
+use Rattle.segment.specs.Stack.{codeWordAt, alternate, functionNumber}
+use Rattle.segment.specs.Cells.{indirect, cell}
+use Rattle.procedure.specs.Directory.{selected, entries, hasFunction, resultOf}
+use Rattle.procedure.specs.Refusal.{procedureRefusal}
+use Rattle.procedure.specs.Accepted as table
+use Rattle.procedure.proofs.Accepting.{acceptance}
+use Rattle.storage.specs.Owned.{ArrayIn}
+use Rattle.segment.specs.View.{words, view}
+use Rattle.effects.specs.Sources.{heldAt}
+use Rattle.effects.specs.Fits.{IsVariable}
+use Rattle.effects.specs.Alike.{Runs}
+use Rattle.acceptance_storage.proofs.Tests.{never, both}
+use Rattle.acceptance.specs.Frames.{segmentOf, known, variables}
+use Rattle.acceptance.specs.Structure.{Chain, Accepted}
+use Rattle.legality.specs.Legal.{Direct}
+use Rattle.legality.specs.Accepted.{currentVariables, currentResult}
+use Rattle.legality.proofs.CellKinds.{direct-cell}
+use Rattle.legality.proofs.Frames.{part-length}
+use Rattle.legality.proofs.Stacked.{current-room}
+use Rattle.legality.proofs.Cells.{whole, look-local}
+use Rattle.legality.proofs.Names.{in-map, current-map, local-names}
+use Rattle.legality.proofs.Split.{split}
+
+-- A function with a result has a local: document 01, "RESULT needs NLOCALS at least 1".
+in-directory : (p : List ℕ) (k : ℕ) → hasFunction p k ≡ true → (1 ≤ k) × (k < entries p)
+unfolding hasFunction
+in-directory p k h = go (eqb k 0) refl
+  where
+    go : (b : Bool) → eqb k 0 ≡ b → (1 ≤ k) × (k < entries p)
+    go true e = absurd (never (simp e at h))
+    go false e = (omega (arith, eqb-false k 0 e), ltb-true k (entries p) (simp e at h))
+
+segment-accepted : (P : Bool) (regular other : List ℕ) → table.Accepted regular × table.Accepted other → table.Accepted (selected P regular other)
+segment-accepted true regular other h = h .1
+segment-accepted false regular other h = h .0
+
+result-local : (regular other : List ℕ) (w : ℕ) → procedureRefusal regular other ≡ 0 → known regular other w ≡ true
+    → resultOf (segmentOf regular other w) (functionNumber w) ≡ true → 1 ≤ variables regular other w
+unfolding known variables
+result-local regular other w h k e =
+    let p = segment-accepted (eqb (alternate w) 1) regular other (acceptance regular other .sound h) in
+    let n = in-directory (segmentOf regular other w) (functionNumber w) (both (ltb w (2 ^ 28)) (hasFunction (segmentOf regular other w) (functionNumber w)) k .1) in
+    omega (arith, p .functions (functionNumber w) (n .0) (n .1) .result-local e)
+
+pub function-known : (s regular other older : List ℕ) (base : ℕ) → Chain s regular other base older → known regular other (codeWordAt s base) ≡ true
+function-known s regular other [] base h = h .function
+function-known s regular other (next ∷ older) base h = h .0 .function
+
+module _ (s regular other : List ℕ) (h : Accepted s regular other) where
+  targets : (t u : Target) → IsVariable s t → cell s (heldAt s t) ≡ indirect u → IsVariable s u
+  unfolding view words
+  targets (Global g) u v e =
+      absurd (subst Direct e (direct-cell s (λ a. (size : ℕ) × ArrayIn (blockptr s) (h .owned .blocks) a size) (getD s (g .0) 0)
+      (h .globals (g .0) (v .0) (omega (arith, v, h .head .low, part-length s 8 (blockptr s - 8))))))
+  targets (Local a) u v e =
+      let k = in-map (cell s) (Local a) (words s) .0 v in
+      in-map (cell s) u (words s) .1 (local-names (split s regular other h .legal) (a .0) u k (look-local s regular other (h .older) (h .chain) (a .0) k ∙ e))
+
+  pub runs : Runs s (currentVariables s regular other) (currentResult s regular other)
+  unfolding view
+  runs = record {
+    cells = omega (arith, current-room s regular other (whole s regular other (h .older) (h .chain)), current-map (cell s) (words s .frames));
+    some = result-local regular other (codeWordAt s (lbase s)) (h .procedures) (function-known s regular other (h .older) (lbase s) (h .chain));
+    targets = targets;
+  }

@@ -1,0 +1,72 @@
+-- The commands by their words. A reader must believe: these are the line tool's commands. Assumes nothing.
+use Prim.Native.Nat.{ℕ}
+use mathlib.Core.Path.{_≡_, refl}
+use mathlib.Core.Bool.{Bool, true, false, cond}
+use mathlib.Core.List.{List, [], _∷_}
+use lib.Dec.{eqb}
+use Rattle.line_tool.specs.Text.{bytes}
+use Rattle.line_tool.specs.declared.command.Command.{Command}
+use Rattle.line_tool.specs.declared.command.Command.the-variants.{Seg, Word, Words, Reg, Alt, Layout, Run, Load, Look, Dump, Hash, Explain, Help, Unknown}
+
+-- Two texts are the same.
+unfoldable pub is : List ℕ → List ℕ → Bool
+is [] [] = true
+is [] (b ∷ bs) = false
+is (c ∷ cs) [] = false
+is (c ∷ cs) (b ∷ bs) = cond (eqb c b) (is cs bs) false
+
+-- The commands that only answer.
+unfoldable pub questionOf : List ℕ → Command
+questionOf word =
+    cond (is word (bytes "dump")) Dump
+    (cond (is word (bytes "hash")) Hash
+    (cond (is word (bytes "explain")) Explain
+    (cond (is word (bytes "help")) Help
+    Unknown)))
+
+-- The commands over the four operations.
+unfoldable pub operationOf : List ℕ → Command
+operationOf word =
+    cond (is word (bytes "layout")) Layout
+    (cond (is word (bytes "run")) Run
+    (cond (is word (bytes "load")) Load
+    (cond (is word (bytes "look")) Look
+    (questionOf word))))
+
+-- First those that set what the operations are lent.
+unfoldable pub commandOf : List ℕ → Command
+commandOf word =
+    cond (is word (bytes "seg")) Seg
+    (cond (is word (bytes "word")) Word
+    (cond (is word (bytes "words")) Words
+    (cond (is word (bytes "reg")) Reg
+    (cond (is word (bytes "alt")) Alt
+    (operationOf word)))))
+
+same : is (bytes "run") (bytes "run") ≡ true
+unfolding is
+same = refl
+
+shorter : is (bytes "ru") (bytes "run") ≡ false
+unfolding is
+shorter = refl
+
+question : questionOf (bytes "explain") ≡ Explain
+unfolding questionOf is
+question = refl
+
+operation : operationOf (bytes "look") ≡ Look
+unfolding operationOf is
+operation = refl
+
+longer : commandOf (bytes "words") ≡ Words
+unfolding commandOf is
+longer = refl
+
+last : commandOf (bytes "help") ≡ Help
+unfolding commandOf operationOf questionOf is
+last = refl
+
+other : commandOf (bytes "Seg") ≡ Unknown
+unfolding commandOf operationOf questionOf is
+other = refl

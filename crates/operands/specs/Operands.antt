@@ -1,0 +1,45 @@
+-- An operand by its word: a scalar, the array of a block, or no value. proofs/ValuesSeen has the laws that this is the manual's
+-- reading of the cell. Assumes nothing.
+use Prim.Native.Nat.{ℕ}
+use mathlib.Core.Bool.{Bool, true, false, cond}
+use mathlib.Core.List.{List, [], _∷_}
+use Rattle.descriptor.specs.declared.Kind.{Kind}
+use Rattle.descriptor.specs.declared.Kind.the-variants as K
+use Rattle.descriptor.specs.Kinds.{kindOf}
+use Rattle.segment.specs.Blocks.{shapeAt, elementsAt}
+use Rattle.effects.specs.Seen.{whole}
+use Rattle.manual.specs.OrTrap.{OrTrap, gives, trap}
+use Rattle.manual.specs.Values as values
+use Rattle.operands.specs.declared.reading.Value.{Value}
+use Rattle.operands.specs.declared.reading.Value.the-variants.{Scalar, Array}
+use Rattle.operands.specs.declared.reading.Operand.{Operand}
+use Rattle.operands.specs.declared.reading.Operand.the-variants as O
+
+abbrev pub operandOfKind : List ℕ → ℕ → Kind → Operand
+operandOfKind s w (K.Scalar k) = O.Value (Scalar w)
+operandOfKind s w (K.Array a) = cond (whole s (a .0)) (O.Value (Array a)) O.Other
+operandOfKind s w (K.Indirect t) = O.Other
+operandOfKind s w K.Undefined = O.Other
+operandOfKind s w K.Invalid = O.Other
+
+unfoldable pub operandOf : List ℕ → ℕ → Operand
+operandOf s w = operandOfKind s w (kindOf w)
+
+abbrev pub isUndefinedKind : Kind → Bool
+isUndefinedKind (K.Scalar k) = false
+isUndefinedKind (K.Array a) = false
+isUndefinedKind (K.Indirect t) = false
+isUndefinedKind K.Undefined = true
+isUndefinedKind K.Invalid = false
+
+unfoldable pub isUndefined : ℕ → Bool
+isUndefined w = isUndefinedKind (kindOf w)
+
+-- The value that it stands for; (3,5) where it is none.
+abbrev pub held : List ℕ → Value → values.Value
+held s (Scalar w) = values.value [] (w ∷ [])
+held s (Array a) = values.value (shapeAt s (a .0)) (elementsAt s (a .0))
+
+abbrev pub valueSeen : List ℕ → Operand → OrTrap values.Value
+valueSeen s (O.Value v) = gives (held s v)
+valueSeen s O.Other = trap 3 5

@@ -1,0 +1,62 @@
+-- Words of 32 bits: what a store leaves, the parts of a segment, and the state words written anew.
+use Prim.Native.Nat.{ℕ, zero, suc, _+_, _*_, _/_, _^_, _<_}
+use mathlib.Core.Path.{_≡_, refl, ap}
+use mathlib.Core.Bool.{Bool, true, false, cond}
+use mathlib.Core.List.{List, [], _∷_}
+use native.Mathlib.Omega.{arith}
+use lib.ListN.{getD, set}
+use lib.Seq.{sets}
+use Rattle.segment.specs.State.{sbase, lbase, rover, flags, setLtop, setLbase, setRover, setIorg}
+use Rattle.segment.specs.Stack.{codeWordAt, setPctr}
+use Rattle.segment.specs.Blocks.{part}
+use Rattle.plan_theorems.specs.Fitting.{Words}
+use Rattle.plan_theorems.proofs.Lists.{All, all-getD}
+
+-- one word after a store
+pub set-below : (s : List ℕ) (i w j : ℕ) → getD s j 0 < 2 ^ 32 → (j ≡ i → w < 2 ^ 32) → getD (set s i w) j 0 < 2 ^ 32
+set-below [] i w j h k = h
+set-below (x ∷ s) zero w zero h k = k refl
+set-below (x ∷ s) zero w (suc j) h k = h
+set-below (x ∷ s) (suc i) w zero h k = h
+set-below (x ∷ s) (suc i) w (suc j) h k = set-below s i w j h (λ e. k (ap suc e))
+
+pub words-all : (l : List ℕ) → All (λ w. w < 2 ^ 32) l → Words l
+words-all l h i = all-getD (λ (w : ℕ). w < 2 ^ 32) l i (omega arith) h
+
+pub words-cond : (b : Bool) (x y : List ℕ) → Words x → Words y → Words (cond b x y)
+words-cond true x y h k = h
+words-cond false x y h k = k
+
+module _ (s : List ℕ) (h : Words s) where
+  pub words-part : (a n : ℕ) → Words (part s a n)
+  words-part a zero i = omega arith
+  words-part a (suc n) zero = h a
+  words-part a (suc n) (suc i) = words-part (a + 1) n i
+
+  pub words-set : (i w : ℕ) → w < 2 ^ 32 → Words (set s i w)
+  words-set i w k j = set-below s i w j (h j) (λ e. k)
+
+  pub words-ltop : (v : ℕ) → v < 2 ^ 16 → Words (setLtop s v)
+  unfolding setLtop
+  words-ltop v k = words-set 0 (sbase s * 2 ^ 16 + v) (omega (arith, h 0))
+
+  pub words-lbase : (v : ℕ) → v < 2 ^ 16 → Words (setLbase s v)
+  unfolding setLbase
+  words-lbase v k = words-set 1 (v * 2 ^ 16 + rover s) (omega arith)
+
+  pub words-rover : (v : ℕ) → v < 2 ^ 16 → Words (setRover s v)
+  unfolding setRover
+  words-rover v k = words-set 1 (lbase s * 2 ^ 16 + v) (omega (arith, h 1))
+
+  pub words-iorg : (v : ℕ) → v < 2 → Words (setIorg s v)
+  unfolding setIorg
+  words-iorg v k = words-set 2 (flags s / 2 * 2 + v) (omega (arith, h 2))
+
+  pub words-pctr : (place : ℕ) → place < 2 ^ 16 → Words (setPctr s place)
+  unfolding setPctr
+  words-pctr place k =
+      words-set (sbase s + lbase s + 1) (codeWordAt s (lbase s) / 2 ^ 16 * 2 ^ 16 + place) (omega (arith, h (sbase s + lbase s + 1)))
+
+pub words-sets : (s : List ℕ) → Words s → (i : ℕ) (ws : List ℕ) → Words ws → Words (sets s i ws)
+words-sets s h i [] k = h
+words-sets s h i (w ∷ ws) k = words-sets (set s i w) (words-set s h i w (k 0)) (suc i) ws (λ j. k (suc j))

@@ -1,0 +1,20 @@
+-- What is known of the values that are seen and of the results of the manual's operations; that every plan fits, and keeps to words of 32 bits.
+pub mod Given
+pub mod Lists
+pub mod Values
+pub mod Operators
+pub mod Arrays
+pub mod Cells
+pub mod Places
+pub mod Sees
+pub mod Fitting
+pub mod After
+pub mod Pushed
+pub mod Results
+pub mod PlansFit
+pub mod BoundedWords
+pub mod BoundedStorage
+pub mod BoundedEffects
+pub mod BoundedDecoding
+pub mod BoundedPlans
+pub mod Bounded

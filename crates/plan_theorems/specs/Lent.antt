@@ -1,0 +1,14 @@
+-- What a call is lent: a data segment of 32-bit words and procedure segments of bytes. In code the types say so; of lists it is
+-- to be said. Assumes nothing.
+use Prim.Native.Nat.{ℕ, _^_, _<_}
+use mathlib.Core.List.{List}
+use lib.ListN.{getD}
+use Rattle.plan_theorems.specs.Fitting.{Words}
+
+abbrev pub Bytes : List ℕ → Type 0
+Bytes p = (i : ℕ) → getD p i 0 < 2 ^ 8
+
+pub record Lent (s regular other : List ℕ) : Type 0 where
+  pub words : Words s
+  pub regularBytes : Bytes regular
+  pub otherBytes : Bytes other

@@ -1,2 +1,0 @@
--- What is proved of the plans of instructions.
-pub mod Fitting

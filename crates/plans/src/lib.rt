@@ -1,1 +1,0 @@
-// No code: the plan of every instruction fits the segment that it was told from.

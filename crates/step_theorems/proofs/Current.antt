@@ -1,0 +1,148 @@
+-- The current frame, by the words and by the view: the function that runs is the same, and what is planned from the one is
+-- planned from the other.
+use Prim.Native.Nat.{ℕ, _+_, _-_, _/_, _%_, _^_}
+use mathlib.Core.Path.{_≡_, refl, sym, _∙_}
+use mathlib.Core.Bool.{Bool, true, false, cond}
+use mathlib.Core.List.{List, [], _∷_}
+use native.Mathlib.Omega.{arith}
+use lib.Dec.{leb, ltb}
+use lib.ListN.{length}
+use Rattle.procedure.specs.declared.directory.Function.the-variants as F
+use Rattle.procedure.specs.Headers.{blockAt}
+use Rattle.procedure.specs.Directory.{startOf, hasFunction, functionOf}
+use Rattle.instruction.specs.declared.Instruction.{Instruction}
+use Rattle.instruction.specs.declared.Decoded.{Decoded}
+use Rattle.instruction.specs.declared.Decoded.the-variants as D
+use Rattle.instruction.specs.Decoding.{decodeIn}
+use Rattle.segment.specs.State.{sbase, lbase}
+use Rattle.segment.specs.Stack.{lastLbaseAt, codeWordAt, alternate, functionNumber, pctr}
+use Rattle.segment.specs.Cells.{Cell, cell}
+use Rattle.segment.specs.Machine.{Frame, mapFrames}
+use Rattle.segment.specs.View.{frameAt, framesFrom, words, view}
+use Rattle.acceptance_storage.proofs.Tests.{both}
+use Rattle.acceptance.specs.Frames.{segmentOf, known, arguments, variables}
+use Rattle.acceptance.specs.Structure.{Accepted}
+use Rattle.manual.specs.OrTrap.{gives}
+use Rattle.manual.specs.Effects.{Effect}
+use Rattle.manual.specs.Seen.{variablesOf, seenOf}
+use Rattle.manual.specs.Instructions.{Running, headerOf, planOf, planDecoded, planAt}
+use Rattle.effects.specs.Seen.{seen}
+use Rattle.effects.specs.Sound.{Sound}
+use Rattle.effects.specs.Alike.{Runs}
+use Rattle.effects_theorems.proofs.Plans.{plans-theorems}
+use Rattle.legality.proofs.FunctionWord.{same-variables}
+use Rattle.legality.proofs.Runs.{function-known}
+use Rattle.legality.proofs.Accepted.{legal-theorems}
+use Rattle.legality.specs.Kept.{RunsIn}
+use Rattle.effects.specs.Carried.{carry}
+use Rattle.effects.specs.Step.{selectorOf, numberOf, currentHeader, settle, stepIn, stepOf}
+use Rattle.step_theorems.specs.Planned as planned
+use Rattle.step_theorems.specs.Planned.{nextPlan, planned, headerIn}
+
+-- ---- the first frame of the view
+
+record Current (s : List ℕ) (l : List (Frame Cell)) : Type 0 where
+  frame : Frame Cell
+  older : List (Frame Cell)
+  frames : l ≡ frame ∷ older
+  function : frame .function ≡ codeWordAt s (lbase s) / 2 ^ 16
+  place : frame .pctr ≡ pctr (codeWordAt s (lbase s))
+
+current : (s : List ℕ) → Current s (view s .frames)
+unfolding view words framesFrom
+current s = go (leb (lbase s) (lastLbaseAt s (lbase s)))
+  where
+    go : (b : Bool) → Current s (mapFrames (cell s)
+        (cond b (frameAt s (lbase s) 0 ∷ []) (frameAt s (lbase s) (lastLbaseAt s (lbase s) + 2) ∷ framesFrom (lbase s) s (lastLbaseAt s (lbase s)))))
+    go true = record { frame = _; older = _; frames = refl; function = refl; place = refl }
+    go false = record { frame = _; older = _; frames = refl; function = refl; place = refl }
+
+-- ---- the function that runs
+
+-- P of a frame, by its second word and by the view
+selector-is : (w : ℕ) → w / 2 ^ 16 / 2 ^ 11 % 2 ≡ alternate w
+selector-is w = omega arith
+
+-- the header of the current frame's function, by the view and by the words
+pub header-seen : (regular other s : List ℕ) → headerIn regular other (view s) ≡ currentHeader regular other s
+unfolding currentHeader
+header-seen regular other s =
+    let c = current s in
+    let p : planned.selectorOf (c .frame) ≡ selectorOf s = rw (c .function, selector-is (codeWordAt s (lbase s))) in
+    let n : planned.numberOf (c .frame) ≡ numberOf s = rw (c .function) in
+    rw (c .frames, p, n)
+
+found : (regular other : List ℕ) (w : ℕ) → known regular other w ≡ true
+    → functionOf (segmentOf regular other w) (functionNumber w)
+    ≡ F.At (blockAt (segmentOf regular other w) (startOf (segmentOf regular other w) (functionNumber w)))
+unfolding functionOf known
+found regular other w h = rw (both (ltb w (2 ^ 28)) (hasFunction (segmentOf regular other w) (functionNumber w)) h .1)
+
+abbrev pub running : List ℕ → List ℕ → List ℕ → Running
+running s regular other =
+    let p = segmentOf regular other (codeWordAt s (lbase s)) in
+    record { regular = regular; alternate = other; selector = selectorOf s; block = blockAt p (startOf p (numberOf s)) }
+
+pub header-running : (s regular other : List ℕ) → headerIn regular other (view s) ≡ headerOf (running s regular other)
+unfolding currentHeader
+header-running s regular other = header-seen regular other s
+
+-- An instruction of which these effects are planned.
+pub record Decodes (s : List ℕ) (f : Running) (es : List Effect) : Type 0 where
+  pub instruction : Instruction
+  pub next : ℕ
+  pub byWords : planOf f (seen s) instruction next ≡ gives es
+  pub byCells : planOf f (seenOf (length s - sbase s) (view s)) instruction next ≡ gives es
+
+module _ (s regular other : List ℕ) (h : Accepted s regular other) where
+  abbrev f : Running
+  f = running s regular other
+
+  function-there : functionOf (segmentOf regular other (codeWordAt s (lbase s))) (numberOf s) ≡ F.At (f .block)
+  function-there = found regular other (codeWordAt s (lbase s)) (function-known s regular other (h .older) (lbase s) (h .chain))
+
+  pub runs : Runs s (variablesOf (headerOf f)) (headerOf f .result)
+  unfolding variables arguments
+  runs = legal-theorems .runs s regular other h
+
+  pub runs-in : RunsIn regular other f (view s)
+  unfolding variables arguments
+  runs-in =
+      let c = current s in
+      record {
+        regularSegment = refl;
+        alternateSegment = refl;
+        current = c .frame;
+        older = c .older;
+        frames = c .frames;
+        size = rw (c .function) (sym (same-variables (codeWordAt s (lbase s)) regular other));
+      }
+
+  -- ---- the plan
+
+  abbrev place : ℕ
+  place = pctr (codeWordAt s (lbase s))
+
+  plan-seen : planned s regular other ≡ planAt f (seenOf (length s - sbase s) (view s)) place
+  unfolding nextPlan
+  plan-seen =
+      let c = current s in
+      let p : planned.selectorOf (c .frame) ≡ selectorOf s = rw (c .function, selector-is (codeWordAt s (lbase s))) in
+      let n : planned.numberOf (c .frame) ≡ numberOf s = rw (c .function) in
+      rw (c .frames, p, n, function-there, p, c .place)
+
+  pub plan-is : Sound s → planned s regular other ≡ planAt f (seen s) place
+  plan-is g = plan-seen ∙ sym (plans-theorems .decoded s g f runs place)
+
+  pub step-is : Sound s → stepOf regular other s ≡ settle regular other (headerOf f .rtntrace) (carry s (planned s regular other))
+  unfolding stepOf stepIn
+  step-is g = rw (plan-is g, function-there)
+
+  -- where effects are planned, they are those of an instruction, by the words and by the view
+  pub decodes : Sound s → (es : List Effect) → planned s regular other ≡ gives es → Decodes s f es
+  unfolding planAt
+  decodes g es e = go (decodeIn regular other (selectorOf s) (f .block) place) (sym (plan-is g) ∙ e) (sym plan-seen ∙ e)
+    where
+      go : (d : Decoded) → planDecoded f (seen s) d ≡ gives es → planDecoded f (seenOf (length s - sbase s) (view s)) d ≡ gives es → Decodes s f es
+      go (D.Instruction i next) p q = record { instruction = i; next = next .0; byWords = p; byCells = q }
+      go (D.Trap class number) p q = let z : _≡_ {A = ℕ} 0 1 = cc in absurd (omega arith)

@@ -1,6 +1,0 @@
-// Instructions that make a value of the values of their operands: the GENSCALAR family, the array operations, INDEX, SETORIGIN.
-pub mod arrays;
-mod operands;
-mod results;
-pub mod scalars;
-pub mod subscripts;

@@ -1,3 +1,0 @@
--- What a data segment is seen as.
-pub mod Machine
-pub mod View

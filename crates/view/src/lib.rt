@@ -1,1 +1,0 @@
-// Definitions only: what a segment is seen as. They stand in specs/.
