@@ -15,7 +15,7 @@ use Rattle.acceptance_storage.proofs.Room.{room-told}
 use Rattle.acceptance.specs.Structure.{Accepted}
 use Rattle.manual.specs.Effects.{Effect}
 use Rattle.effects.specs.Requests.{FirstFits, OneRequest}
-use Rattle.effects.specs.Perform.{wanted, anyFull}
+use Rattle.effects.specs.Perform.{wanted, firstFull}
 use Rattle.effects_theorems.specs.Theorems.{AsksInVain}
 use Rattle.effects_theorems.proofs.Lists.{none-in-vain}
 use Rattle.effects_theorems.proofs.Theorems.{effects-theorems}
@@ -46,7 +46,7 @@ module _ (s regular other : List ℕ) (h : Accepted s regular other) where
     λ q. inl (in-vain (wanted s e) .1 q),
   )
 
-  pub vain-full : (es : List Effect) → FirstFits s es → OneRequest es → (anyFull s es ≡ true) ↔ (inVain s es ≡ true)
+  pub vain-full : (es : List Effect) → FirstFits s es → OneRequest es → (firstFull s es ≡ true) ↔ (inVain s es ≡ true)
   vain-full es first once =
       let t = effects-theorems .full s (sound-of h) es first once in
       let b = by-blocks es once in

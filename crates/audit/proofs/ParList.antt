@@ -15,9 +15,8 @@ use Rattle.segment.specs.Machine.{Machine}
 use Rattle.segment.specs.View.{view}
 use Rattle.acceptance.specs.Structure.{Accepted}
 use Rattle.manual.specs.OrTrap.{gives}
-use Rattle.manual.specs.Effects.{Effect, replaces, discards, swaps, stores, storesElement, enters, leaves, jumps, setsOrigin, look, put, meant, withElement, performOn, performAll}
-use Rattle.effects.specs.Fits.{IsVariable}
-use Rattle.effects_theorems.specs.Theorems.{NoneStoresTo}
+use Rattle.manual.specs.Effects.{NoneStoresTo, Effect, replaces, discards, swaps, stores, storesElement, enters, leaves, jumps, setsOrigin, look, put, meant, withElement, performOn, performAll}
+use Rattle.effects.specs.Fits.{Addressable}
 use Rattle.effects_theorems.proofs.State.{trap-view}
 use Rattle.effects_theorems.proofs.Variables.{in-view}
 use Rattle.legality.proofs.Cells.{globals-length}
@@ -66,7 +65,7 @@ module _ (s : List ℕ) (p : Procedures) (t : List ℕ) (h : Accepted s (p .regu
       go false v = let d = demand-2 .does k es e v in inr (d .0, d .2)
 
   module _ (o : Outcome) (k : Step p s o t) where
-    unchanged : (u : Target) → IsVariable s u → IsVariable t u → NoneStoresTo es u → look undefined u (view t) ≡ look undefined u (view s)
+    unchanged : (u : Target) → Addressable s u → Addressable t u → NoneStoresTo es u → look undefined u (view t) ≡ look undefined u (view s)
     unchanged u before after none = ⊎-elim (λ q. ap (look undefined u) q) (λ d. d .1 .others u before after none) (done o k)
 
     globals-stay : length (view t .globals) ≡ length (view s .globals)

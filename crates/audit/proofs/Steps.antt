@@ -19,13 +19,13 @@ use Rattle.segment.specs.View.{words, view}
 use Rattle.acceptance_storage.proofs.Tests.{fails}
 use Rattle.acceptance.specs.Structure.{Accepted}
 use Rattle.manual.specs.OrTrap.{gives, trap}
-use Rattle.manual.specs.Effects.{Effect, replaces, discards, swaps, stores, storesElement, enters, leaves, jumps, setsOrigin, Plan, look, performOn, performAll}
+use Rattle.manual.specs.Effects.{NoneStoresTo, Effect, replaces, discards, swaps, stores, storesElement, enters, leaves, jumps, setsOrigin, Plan, look, performOn, performAll}
 use Rattle.manual.specs.Instructions.{Running, headerOf}
 use Rattle.manual.proofs.Traps.{traps-listed}
 use Rattle.effects.specs.Sound.{Sound}
-use Rattle.effects.specs.Fits.{InMachine, IsVariable}
-use Rattle.effects.specs.Perform.{performs, anyFull}
-use Rattle.effects_theorems.specs.Theorems.{NoneStoresTo, StateKept, PerformedAll}
+use Rattle.effects.specs.Fits.{AddressableIn, Addressable}
+use Rattle.effects.specs.Perform.{performs, firstFull}
+use Rattle.effects_theorems.specs.Theorems.{StateKept, PerformedAll}
 use Rattle.effects_theorems.proofs.State.{trap-sound, trap-words, trap-view}
 use Rattle.effects_theorems.proofs.Tests.{never}
 use Rattle.effects_theorems.proofs.Theorems.{effects-theorems}
@@ -171,14 +171,14 @@ module _ (s : List ℕ) (p : Procedures) (lent : Lent s (p .regular) (p .alterna
     abbrev d : ℕ
     d = due regular other (headerOf f .rtntrace) (outcomeOf es) (performs s es)
 
-    full-step : anyFull s es ≡ true → stepOf regular other s ≡ stepping.trapped s 1 2
+    full-step : firstFull s es ≡ true → stepOf regular other s ≡ stepping.trapped s 1 2
     full-step q = step-of (gives es) e ∙ rw q
 
     -- the request, by the words and by the free blocks
-    vain : (anyFull s es ≡ true) ↔ (inVain s es ≡ true)
+    vain : (firstFull s es ≡ true) ↔ (inVain s es ≡ true)
     vain = let k = known es e .fitting in vain-full s regular other h es (k .first) (k .once)
 
-    module _ (q : anyFull s es ≡ false) where
+    module _ (q : firstFull s es ≡ false) where
       served : inVain s es ≡ false
       served = fails (inVain s es) (λ v. never (sym (vain .1 v) ∙ q))
 
@@ -194,7 +194,7 @@ module _ (s : List ℕ) (p : Procedures) (lent : Lent s (p .regular) (p .alterna
       done-accepted : Accepted t regular other
       done-accepted = effects-accepted s regular other h es performed kept (known es e .kept)
 
-      others : (u : Target) → IsVariable s u → IsVariable t u → NoneStoresTo es u → look undefined u (view t) ≡ look undefined u (view s)
+      others : (u : Target) → Addressable s u → Addressable t u → NoneStoresTo es u → look undefined u (view t) ≡ look undefined u (view s)
       others u before after none =
           let k = known es e .fitting in
           effects-theorems .allOthers s sound es (k .all) (k .once) q u
@@ -221,7 +221,7 @@ module _ (s : List ℕ) (p : Procedures) (lent : Lent s (p .regular) (p .alterna
         done-as : Done p s es d u
         done-as = record {
           seen = same .seen ∙ performed .seen;
-          others = λ v before after none. ap (look undefined v) (same .seen) ∙ others v before (subst (InMachine v) (same .cells) after) none;
+          others = λ v before after none. ap (look undefined v) (same .seen) ∙ others v before (subst (AddressableIn v) (same .cells) after) none;
           due = is-due ∙ ap (λ (c : Header). dueAfter (outcomeOf es) (flags s) c (headerIn regular other (view s)))
               (sym (header-seen regular other t) ∙ ap (headerIn regular other) (sym (same .seen)));
           trapWord = written ∙ ap (λ (w : ℕ). cond (eqb d 0) w (trapOf 2 d)) (kept .rest 3 (omega arith) (omega arith));
@@ -257,33 +257,33 @@ module _ (s : List ℕ) (p : Procedures) (lent : Lent s (p .regular) (p .alterna
   pub step-done : StepOf (stepOf regular other s)
   step-done = go plan refl
     where
-      gone : (es : List Effect) → plan ≡ gives es → (b : Bool) → anyFull s es ≡ b → StepOf (stepOf regular other s)
+      gone : (es : List Effect) → plan ≡ gives es → (b : Bool) → firstFull s es ≡ b → StepOf (stepOf regular other s)
       gone es e true q = subst StepOf (sym (full-step es e q ∙ trap-small 1 2 (omega arith) (omega arith))) (full e (vain es e .0 q), tt)
       gone es e false q = subst StepOf (sym (done-step es e q)) (done-is es e q)
 
       go : (q : Plan) → plan ≡ q → StepOf (stepOf regular other s)
-      go (gives es) e = gone es e (anyFull s es) refl
+      go (gives es) e = gone es e (firstFull s es) refl
       go (trap class number) e =
           let l = plan-listed regular other (length s - sbase s) (view s) class number e in
           subst StepOf (sym (trap-step class number e ∙ trap-small class number (traps-listed .class class number l) (traps-listed .number class number l))) (traps e, tt)
 
   -- what holds of the segment, is kept by the effects of its plan, and goes by no trap
   step-keeps : (P : List ℕ → Type 0) → ((t : List ℕ) → P t → (v : ℕ) → v < 2 ^ 16 → P (set t 3 v)) → P s
-      → ((es : List Effect) → plan ≡ gives es → anyFull s es ≡ false → P (performs s es)) → P (stepOf regular other s .words)
+      → ((es : List Effect) → plan ≡ gives es → firstFull s es ≡ false → P (performs s es)) → P (stepOf regular other s .words)
   unfolding setTrap
   step-keeps P trapping start effects = go plan refl
     where
       stopped : (class number : ℕ) → stepOf regular other s ≡ stepping.trapped s class number → P (stepOf regular other s .words)
       stopped class number q = rw q (trapping s start _ (omega arith))
 
-      gone : (es : List Effect) → plan ≡ gives es → (b : Bool) → anyFull s es ≡ b → P (stepOf regular other s .words)
+      gone : (es : List Effect) → plan ≡ gives es → (b : Bool) → firstFull s es ≡ b → P (stepOf regular other s .words)
       gone es e true q = stopped 1 2 (full-step es e q)
       gone es e false q =
           rw (done-step es e q)
           (finished-keeps (d es e) (small es e q) (t es e) P (trapping (t es e) (effects es e q)) (effects es e q))
 
       go : (q : Plan) → plan ≡ q → P (stepOf regular other s .words)
-      go (gives es) e = gone es e (anyFull s es) refl
+      go (gives es) e = gone es e (firstFull s es) refl
       go (trap class number) e = stopped class number (trap-step class number e)
 
   -- what is left is accepted again, and of 32-bit words

@@ -16,7 +16,7 @@ use Rattle.segment.specs.View.{view}
 use Rattle.acceptance.specs.Structure.{Accepted}
 use Rattle.manual.specs.Control.{frameWord}
 use Rattle.manual.specs.Effects as manual
-use Rattle.effects.specs.Fits.{IsVariable}
+use Rattle.effects.specs.Fits.{Addressable}
 use Rattle.plan_theorems.specs.Fitting.{Words}
 use Rattle.fresh_segment.specs.LayOut.{Layout, localsOf}
 use Rattle.fresh_segment.specs.Fresh.{freshView}
@@ -41,7 +41,7 @@ pub record Ran (s : List ℕ) (p : Procedures) (budget : ℕ) (answer : Answer) 
 -- The global has the value, and every other variable the one it had, though it shares storage.
 pub record Loaded (s : List ℕ) (p : Procedures) (g : ℕ) (lengths ravel : List ℕ) (t : List ℕ) : Type 0 where
   pub seen : view t ≡ manual.put (Global (segment g)) (value lengths ravel) (view s)
-  pub others : (u : Target) → IsVariable s u → IsVariable t u → u ≢ Global (segment g)
+  pub others : (u : Target) → Addressable s u → Addressable t u → u ≢ Global (segment g)
       → manual.look undefined u (view t) ≡ manual.look undefined u (view s)
   pub length : length t ≡ length s
   pub sbase : sbase t ≡ sbase s

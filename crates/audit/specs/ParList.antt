@@ -11,9 +11,8 @@ use Rattle.segment.specs.Cells.{undefined}
 use Rattle.segment.specs.View.{view}
 use Rattle.acceptance.specs.Structure.{Accepted}
 use Rattle.manual.specs.OrTrap.{gives}
-use Rattle.manual.specs.Effects.{Effect, look}
-use Rattle.effects.specs.Fits.{IsVariable}
-use Rattle.effects_theorems.specs.Theorems.{NoneStoresTo}
+use Rattle.manual.specs.Effects.{NoneStoresTo, Effect, look}
+use Rattle.effects.specs.Fits.{Addressable}
 use Rattle.operations.specs.Load.{isGlobal}
 use Rattle.step_theorems.specs.Planned.{planned}
 use Rattle.audit.specs.Calls.{Procedures, held}
@@ -24,7 +23,7 @@ pub record ParList : Type 0 where
   -- shares storage.
   pub unchanged : (s : List ℕ) (p : Procedures) (o : Outcome) (t : List ℕ) → Accepted s (p .regular) (p .alternate) → Step p s o t
       → (es : List Effect) → planned s (p .regular) (p .alternate) ≡ gives es
-      → (u : Target) → IsVariable s u → IsVariable t u → NoneStoresTo es u → look undefined u (view t) ≡ look undefined u (view s)
+      → (u : Target) → Addressable s u → Addressable t u → NoneStoresTo es u → look undefined u (view t) ≡ look undefined u (view s)
   -- So a global that no effect of the instruction names keeps its value: what a look told of it before, a look tells after.
   pub global : (s : List ℕ) (p : Procedures) (o : Outcome) (t : List ℕ) → Accepted s (p .regular) (p .alternate) → Step p s o t
       → (es : List Effect) → planned s (p .regular) (p .alternate) ≡ gives es

@@ -14,10 +14,9 @@ use Rattle.segment.specs.Cells.{undefined}
 use Rattle.segment.specs.View.{view}
 use Rattle.acceptance_storage.specs.Room.{longEnough}
 use Rattle.manual.specs.OrTrap.{gives, trap}
-use Rattle.manual.specs.Effects.{Effect, look, performAll}
-use Rattle.effects.specs.Fits.{IsVariable}
+use Rattle.manual.specs.Effects.{NoneStoresTo, Effect, look, performAll}
+use Rattle.effects.specs.Fits.{Addressable}
 use Rattle.effects.specs.Perform.{wanted}
-use Rattle.effects_theorems.specs.Theorems.{NoneStoresTo}
 use Rattle.effects.specs.declared.Outcome.{Outcome as Turn}
 use Rattle.effects.specs.declared.Outcome.the-variants as T
 use Rattle.effects.specs.Carried.{outcomeOf}
@@ -57,7 +56,7 @@ pub record Done (p : Procedures) (s : List ℕ) (es : List Effect) (d : ℕ) (t 
   -- values, frames and the next PCTR
   pub seen : view t ≡ performAll es (view s)
   -- a variable that no effect stores to is seen as before, though it shares storage
-  pub others : (u : Target) → IsVariable s u → IsVariable t u → NoneStoresTo es u → look undefined u (view t) ≡ look undefined u (view s)
+  pub others : (u : Target) → Addressable s u → Addressable t u → NoneStoresTo es u → look undefined u (view t) ≡ look undefined u (view s)
   -- by whether a function was entered or left, and by its header
   pub due : d ≡ dueAfter (outcomeOf es) (flags s) (headerIn (p .regular) (p .alternate) (view t)) (headerIn (p .regular) (p .alternate) (view s))
   pub trapWord : trapWord t ≡ cond (eqb d 0) (trapWord s) (trapOf 2 d)

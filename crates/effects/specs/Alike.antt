@@ -11,7 +11,7 @@ use Rattle.segment.specs.View.{words}
 use Rattle.manual.specs.Effects.{currentCells}
 use Rattle.manual.specs.Seen.{Seen, Variable}
 use Rattle.effects.specs.Sources.{heldAt}
-use Rattle.effects.specs.Fits.{IsVariable}
+use Rattle.effects.specs.Fits.{Addressable}
 
 -- What a function with so many variables, and a result or none, sees: of the current frame no more than its variables.
 abbrev pub seenBy : ℕ → Bool → Seen → Seen
@@ -29,13 +29,13 @@ seenBy variables result seen =
 
 -- What an accepted segment has besides: the current frame has the function's variables, and an indirect word of a variable
 -- names a variable.
-pub record Runs (s : List ℕ) (variables : ℕ) (result : Bool) : Type 0 where
+pub record HasFrame (s : List ℕ) (variables : ℕ) (result : Bool) : Type 0 where
   pub cells : variables ≤ length (currentCells (words s .frames))
   pub some : result ≡ true → 1 ≤ variables
-  pub targets : (t u : Target) → IsVariable s t → cell s (heldAt s t) ≡ indirect u → IsVariable s u
+  pub targets : (t u : Target) → Addressable s t → cell s (heldAt s t) ≡ indirect u → Addressable s u
 
 -- A variable that an address leads to: it stands in the segment, and holds no indirect word.
 pub record Resolved (s : List ℕ) (x : Variable) : Type 0 where
-  pub there : IsVariable s (x .place)
+  pub there : Addressable s (x .place)
   pub holds : x .held ≡ cell s (heldAt s (x .place))
   pub direct : (u : Target) → x .held ≡ indirect u → ⊥

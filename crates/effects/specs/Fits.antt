@@ -27,16 +27,16 @@ abbrev pub InFrames : {A : Type 0} → ℕ → List (Frame A) → Type 0
 InFrames a [] = ⊥
 InFrames a (r ∷ older) = ((depthOfFrames older ≤ a) × (a < depthOfFrames older + length (r .cells))) ⊎ InFrames a older
 
-abbrev pub InMachine : {A : Type 0} → Target → Machine A → Type 0
-InMachine (Global g) m = (8 ≤ g .0) × (g .0 < 8 + length (m .globals))
-InMachine (Local a) m = InFrames (a .0) (m .frames)
+abbrev pub AddressableIn : {A : Type 0} → Target → Machine A → Type 0
+AddressableIn (Global g) m = (8 ≤ g .0) × (g .0 < 8 + length (m .globals))
+AddressableIn (Local a) m = InFrames (a .0) (m .frames)
 
-abbrev pub IsVariable : List ℕ → Target → Type 0
-IsVariable s t = InMachine t (words s)
+abbrev pub Addressable : List ℕ → Target → Type 0
+Addressable s t = AddressableIn t (words s)
 
 -- A result that can be had.
 abbrev pub Available : List ℕ → Source → Type 0
-Available s (variable t) = IsVariable s t
+Available s (variable t) = Addressable s t
 Available s (operand i) = i < temporaries s
 Available s (word w) = isScalar w ≡ true
 Available s undefinedValue = Unit {0}
@@ -50,7 +50,7 @@ pub record CanReplace (s : List ℕ) (n : ℕ) : Type 0 where
 
 -- The variable holds an array with an element at that place.
 pub record HasElement (s : List ℕ) (t : Target) (place : ℕ) : Type 0 where
-  pub there : IsVariable s t
+  pub there : Addressable s t
   pub holds : isArray (heldAt s t) ≡ true
   pub inside : place < product (shapeAt s (blockOf s (addressOf s t)))
 
@@ -64,7 +64,7 @@ abbrev pub Fits : List ℕ → Effect → Type 0
 Fits s (replaces n source) = CanReplace s n × Available s source
 Fits s (discards n) = n ≤ temporaries s
 Fits s swaps = 2 ≤ temporaries s
-Fits s (stores t source) = IsVariable s t × Available s source
+Fits s (stores t source) = Addressable s t × Available s source
 Fits s (storesElement t place w n) = CanReplace s n × HasElement s t place × (isScalar w ≡ true)
 Fits s (enters n f) = sbase s + ltop s + n + 2 < length s
 Fits s (leaves n result) = CanLeave s n result

@@ -126,6 +126,7 @@ noneFor s size = ltb 16384 size || eqb (requestAt s size) 0
 abbrev pub isFull : List ℕ → Effect → Bool
 isFull s e = cond (eqb (wanted s e) 0) false (noneFor s (wanted s e))
 
-abbrev pub anyFull : List ℕ → List Effect → Bool
-anyFull s [] = false
-anyFull s (e ∷ es) = isFull s e || anyFull s es
+-- Of a plan only the first effect may ask for a block.
+abbrev pub firstFull : List ℕ → List Effect → Bool
+firstFull s [] = false
+firstFull s (e ∷ es) = isFull s e

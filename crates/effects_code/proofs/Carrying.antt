@@ -10,7 +10,7 @@ use Rattle.segment.specs.Blocks.{need}
 use Rattle.manual.specs.OrTrap.{gives, trap}
 use Rattle.manual.specs.Effects.{Source, variable, operand, word, undefinedValue, reference, made, Effect, replaces, discards, swaps, stores, storesElement, enters, leaves, jumps, setsOrigin}
 use Rattle.effects.specs.Sources.{heldAt, operandAt, referenceWord}
-use Rattle.effects.specs.Perform.{replace, storeAt, store, perform, performs, noneFor, isFull, anyFull}
+use Rattle.effects.specs.Perform.{replace, storeAt, store, perform, performs, noneFor, isFull, firstFull}
 use Rattle.effects.specs.Requests.{makes, asks, NoneAsks}
 use Rattle.effects.specs.declared.Outcome.the-variants.{Trapped}
 use Rattle.effects_code.specs.declared.Done.the-variants as D
@@ -55,10 +55,10 @@ module _ (s : List ℕ) where
   pub trapped : (class number : ℕ) → did (Trapped class number) s ≡ carry s (trap class number)
   trapped class number = refl
 
-  pub carry-full : (es : List Effect) → anyFull s es ≡ true → did (Trapped 1 2) s ≡ carry s (gives es)
+  pub carry-full : (es : List Effect) → firstFull s es ≡ true → did (Trapped 1 2) s ≡ carry s (gives es)
   carry-full es full = rw full
 
-  pub carry-room : (es : List Effect) → anyFull s es ≡ false → Carries s es
+  pub carry-room : (es : List Effect) → firstFull s es ≡ false → Carries s es
   carry-room es room = rw room
 
   -- what asks for no block is done
@@ -81,15 +81,15 @@ module _ (s : List ℕ) where
   room (jumps place) none = refl
   room (setsOrigin v) none = refl
 
-  pub all-room : (es : List Effect) → NoneAsks es → anyFull s es ≡ false
+  pub all-room : (es : List Effect) → NoneAsks es → firstFull s es ≡ false
   all-room [] none = refl
   all-room (e ∷ es) none = rw (room e (none .0)) (all-room es (none .1))
 
   -- where only the first effect asks
-  pub any-first : (e : Effect) (es : List Effect) → NoneAsks es → anyFull s (e ∷ es) ≡ isFull s e
+  pub any-first : (e : Effect) (es : List Effect) → NoneAsks es → firstFull s (e ∷ es) ≡ isFull s e
   any-first e es none = rw (all-room es none) (or-false (isFull s e))
 
-  pub any-made : (n : ℕ) (shape ravel : List ℕ) (place : ℕ) → anyFull s (replaces n (made shape ravel) ∷ jumps place ∷ []) ≡ noneFor s (need shape ravel)
+  pub any-made : (n : ℕ) (shape ravel : List ℕ) (place : ℕ) → firstFull s (replaces n (made shape ravel) ∷ jumps place ∷ []) ≡ noneFor s (need shape ravel)
   any-made n shape ravel place =
       any-first (replaces n (made shape ravel)) (jumps place ∷ []) (refl, tt)
       ∙ full-by-need s shape ravel (replaces n (made shape ravel)) refl

@@ -14,7 +14,7 @@ use Rattle.storage.specs.Heap.{hit, count}
 use Rattle.segment.specs.Machine.{Frame, Machine, mapFrames, mapMachine, cellsOfFrames, allCells, depthOfFrames}
 use Rattle.manual.specs.Effects.{indexIn, lookFrames, look, putFrames, put}
 use Rattle.storage_theorems.proofs.Counts.{order, count-append}
-use Rattle.effects.specs.Fits.{InFrames, InMachine}
+use Rattle.effects.specs.Fits.{InFrames, AddressableIn}
 use Rattle.effects_theorems.proofs.Machines.{cells-count, count-set, map-set, depth-map}
 
 abbrev pub written : {A B : Type 0} → Frame A → List B → Frame B
@@ -71,7 +71,7 @@ count-frames x (r ∷ l) a u v h = go (λ k. count-frames x l a u v k) (in-cases
           more (k .1),
         ))
 
-pub count-put : (x : ℕ) (t : Target) (m : Machine ℕ) (u v : ℕ) → InMachine t m
+pub count-put : (x : ℕ) (t : Target) (m : Machine ℕ) (u v : ℕ) → AddressableIn t m
     → count x (allCells (put t u m)) + hit x v ≡ count x (allCells (put t v m)) + hit x u
 count-put x (Global g) m u v h =
     omega (arith, cells-count x (put (Global g) u m), cells-count x (put (Global g) v m), count-set x (m .globals) (g .0 - 8) u v (omega (arith, h)))
@@ -145,7 +145,7 @@ look-putFrames none c a (r ∷ l) h = go (λ k. look-putFrames none c a l k) (in
         rw (put-below a c r l (k .0))
         (look-below a none r (putFrames a c l) (omega (arith, depth-put a c l, k .0)) ∙ more (k .1))
 
-pub look-put : {A : Type 0} (none c : A) (t : Target) (m : Machine A) → InMachine t m → look none t (put t c m) ≡ c
+pub look-put : {A : Type 0} (none c : A) (t : Target) (m : Machine A) → AddressableIn t m → look none t (put t c m) ≡ c
 look-put none c (Global g) m h = let l : g .0 - 8 < length (m .globals) = omega (arith, h) in rw getD-set-same
 look-put none c (Local a) m h = look-putFrames none c (a .0) (m .frames) h
 
@@ -200,7 +200,7 @@ other-putFrames none c a b (r ∷ l) h k n = go (λ p q. other-putFrames none c 
         (look-below b none r (putFrames a c l) (omega (arith, depth-put a c l, q .0)) ∙ more (p .1) (q .1)
         ∙ sym (look-below b none r l (q .0)))
 
-pub look-other : {A : Type 0} (none c : A) (t u : Target) (m : Machine A) → InMachine t m → InMachine u m → u ≢ t → look none u (put t c m) ≡ look none u m
+pub look-other : {A : Type 0} (none c : A) (t u : Target) (m : Machine A) → AddressableIn t m → AddressableIn u m → u ≢ t → look none u (put t c m) ≡ look none u m
 look-other none c (Global g) (Global h) m p q n =
     let d : h .0 - 8 ≢ g .0 - 8 = λ e. n (ap (λ (i : ℕ). Global (segment i)) (omega (arith, e, p, q))) in
     rw getD-set-other
@@ -228,7 +228,7 @@ in-putFrames c a b (r ∷ l) = ⊎-elim here (below (in-putFrames c a b l)) (ord
     below : InFrames b l ↔ InFrames b (putFrames a c l) → a < depthOfFrames l → InFrames b (r ∷ l) ↔ InFrames b (putFrames a c (r ∷ l))
     below more p = rw (put-below a c r l p) (in-same b r r l (putFrames a c l) refl (depth-put a c l) more)
 
-pub in-put : {A : Type 0} (c : A) (t u : Target) (m : Machine A) → InMachine u m ↔ InMachine u (put t c m)
+pub in-put : {A : Type 0} (c : A) (t u : Target) (m : Machine A) → AddressableIn u m ↔ AddressableIn u (put t c m)
 in-put c (Global g) (Global h) m =
     let n = length-set (m .globals) (g .0 - 8) c in (λ k. omega (arith, k), λ k. omega (arith, k))
 in-put c (Global g) (Local b) m = (λ k. k, λ k. k)
@@ -240,6 +240,6 @@ in-mapFrames : {A : Type 0} (f : ℕ → A) (a : ℕ) (l : List (Frame ℕ)) →
 in-mapFrames f a [] = (λ h. h, λ h. h)
 in-mapFrames f a (r ∷ l) = in-same a r (written r (map f (r .cells))) l (mapFrames f l) (length-map (r .cells) f) (depth-map f l) (in-mapFrames f a l)
 
-pub in-map : {A : Type 0} (f : ℕ → A) (t : Target) (m : Machine ℕ) → InMachine t m ↔ InMachine t (mapMachine f m)
+pub in-map : {A : Type 0} (f : ℕ → A) (t : Target) (m : Machine ℕ) → AddressableIn t m ↔ AddressableIn t (mapMachine f m)
 in-map f (Global g) m = let n = length-map (m .globals) f in (λ h. omega (arith, h), λ h. omega (arith, h))
 in-map f (Local a) m = in-mapFrames f (a .0) (m .frames)

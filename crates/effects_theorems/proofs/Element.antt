@@ -32,7 +32,7 @@ use Rattle.storage_theorems.proofs.Element.{element-theorem}
 use Rattle.effects.specs.Sources.{addressOf, heldAt, placed}
 use Rattle.effects.specs.Perform.{replace, storeAt, unshare, writeElement, storeElement}
 use Rattle.effects.specs.Sound.{Sound}
-use Rattle.effects.specs.Fits.{InMachine, IsVariable, CanReplace}
+use Rattle.effects.specs.Fits.{AddressableIn, Addressable, CanReplace}
 use Rattle.effects_theorems.specs.Theorems.{StateKept}
 use Rattle.effects_theorems.proofs.StateWords.{state-none, state-on, state-step}
 use Rattle.effects_theorems.proofs.Machines.{machine-agree}
@@ -45,7 +45,7 @@ use Rattle.effects_theorems.proofs.Replace.{finish-view, finish-sound, 
 use Rattle.effects_theorems.proofs.Store.{stored-view, stored-sound, stored-state, stored-regs, stored-word, stored-words, stored-this}
 
 -- a word that stands in one cell only is seen anew there, and all else as before
-seen-once : (f g : ℕ → Cell) (m : Machine ℕ) (t : Target) (w n : ℕ) → InMachine t m → manual.put t w m ≡ m → count w (allCells m) ≡ 1 → w ≢ n → f n ≡ g n
+seen-once : (f g : ℕ → Cell) (m : Machine ℕ) (t : Target) (w n : ℕ) → AddressableIn t m → manual.put t w m ≡ m → count w (allCells m) ≡ 1 → w ≢ n → f n ≡ g n
     → ((v : ℕ) → v ≢ w → 0 < count v (allCells m) → f v ≡ g v) → mapMachine f m ≡ manual.put t (f w) (mapMachine g m)
 seen-once f g m t w n at e one d fn same =
     ap (mapMachine f) (sym e ∙ sym (put-twice t n w m))
@@ -63,7 +63,7 @@ seen-once f g m t w n at e one d fn same =
         (hit-cases v n)
 
 -- a store to an element of the array that a variable alone points to
-module _ (s : List ℕ) (g : Sound s) (t : Target) (at : IsVariable s t) (x : ℕ) (is : heldAt s t ≡ arrayWord x) (small : x < 2 ^ 16)
+module _ (s : List ℕ) (g : Sound s) (t : Target) (at : Addressable s t) (x : ℕ) (is : heldAt s t ≡ arrayWord x) (small : x < 2 ^ 16)
     (alone : countAt s x ≡ 1) (k v : ℕ) (in-range : k < product (shapeAt s x)) (ok : isScalar v ≡ true) where
   named : (size : ℕ) × ArrayIn (blockptr s) (g .own .blocks) x size
   named = g .own .named x small (rw is at (variable-owner s g t at))
@@ -109,7 +109,7 @@ module _ (s : List ℕ) (g : Sound s) (t : Target) (at : IsVariable s t) (x : �
 record Lone (s s′ : List ℕ) (t : Target) (x : ℕ) : Type 0 where
   sound : Sound s′
   same : view s′ ≡ view s
-  there : IsVariable s′ t
+  there : Addressable s′ t
   regs : Regs s s′
   state : StateKept s s′
   y : ℕ
@@ -138,7 +138,7 @@ pub same-address : (s s′ : List ℕ) → sbase s′ ≡ sbase s → (t : Targe
 same-address s s′ e (Global g) = refl
 same-address s s′ e (Local a) = rw e
 
-module _ (s : List ℕ) (g : Sound s) (t : Target) (at : IsVariable s t) (x : ℕ) (is : heldAt s t ≡ arrayWord x) (small : x < 2 ^ 16) where
+module _ (s : List ℕ) (g : Sound s) (t : Target) (at : Addressable s t) (x : ℕ) (is : heldAt s t ≡ arrayWord x) (small : x < 2 ^ 16) where
   named′ : (size : ℕ) × ArrayIn (blockptr s) (g .own .blocks) x size
   named′ = g .own .named x small (rw is at (variable-owner s g t at))
 
@@ -306,7 +306,7 @@ module _ (s : List ℕ) (g : Sound s) (t : Target) (at : IsVariable s t) (x : �
       regs2 : Regs t1 t2
       regs2 = element-regs t1 (q .sound) t (q .there) (q .y) (q .holds) (q .small) (q .alone) k v range1 ok
 
-      there2 : IsVariable t2 t
+      there2 : Addressable t2 t
       there2 = rw (element-words t1 (q .sound) t (q .there) (q .y) (q .holds) (q .small) (q .alone) k v range1 ok) (q .there)
 
       can2 : CanReplace t2 n
@@ -345,7 +345,7 @@ module _ (s : List ℕ) (g : Sound s) (t : Target) (at : IsVariable s t) (x : �
     -- with the element written, the segment is sound, the operands are there and so is the variable
     pub element-written : Sound (writeElement (unshare s (addressOf s t)) (addressOf s t) k v)
         × CanReplace (writeElement (unshare s (addressOf s t)) (addressOf s t) k v) n
-        × IsVariable (writeElement (unshare s (addressOf s t)) (addressOf s t) k v) t
+        × Addressable (writeElement (unshare s (addressOf s t)) (addressOf s t) k v) t
     element-written =
         let q = lone had in
         let u = unshare s (addressOf s t) in

@@ -18,7 +18,7 @@ use Rattle.storage_theorems.proofs.Walks.{over-le}
 use Rattle.storage_theorems.proofs.Ways.{decide}
 use Rattle.storage_theorems.proofs.Request.{request-theorem}
 use Rattle.effects.specs.Sources.{addressOf}
-use Rattle.effects.specs.Perform.{blockOf, perform, performs, sourceNeed, wanted, noneFor, isFull, anyFull}
+use Rattle.effects.specs.Perform.{blockOf, perform, performs, sourceNeed, wanted, noneFor, isFull, firstFull}
 use Rattle.effects.specs.Sound.{Sound}
 use Rattle.effects.specs.Fits.{Available, Fits}
 use Rattle.effects.specs.Requests.{AllFit, FirstFits, makes, asks, NoneAsks, OneRequest}
@@ -51,7 +51,7 @@ wants-nothing s (setsOrigin v) h = refl
 not-full : (s : List ℕ) (e : Effect) → wanted s e ≡ 0 → isFull s e ≡ false
 not-full s e h = rw (eq-eqb (wanted s e) 0 h)
 
-none-full : (s : List ℕ) (es : List Effect) → NoneAsks es → anyFull s es ≡ false
+none-full : (s : List ℕ) (es : List Effect) → NoneAsks es → firstFull s es ≡ false
 none-full s [] h = refl
 none-full s (e ∷ es) h = rw (not-full s e (wants-nothing s e (h .0))) (none-full s es (h .1))
 
@@ -69,9 +69,9 @@ plain-served : (s : List ℕ) (es : List Effect) → AllFit s es → NoneAsks es
 plain-served s [] h k = tt
 plain-served s (e ∷ es) h k = (h .0, not-full s e (wants-nothing s e (k .0)), plain-served (perform s e) es (h .1) (k .1))
 
-pub all-served : (s : List ℕ) (es : List Effect) → AllFit s es → OneRequest es → anyFull s es ≡ false → AllServed s es
+pub all-served : (s : List ℕ) (es : List Effect) → AllFit s es → OneRequest es → firstFull s es ≡ false → AllServed s es
 all-served s [] h k f = tt
-all-served s (e ∷ es) h k f = (h .0, none-holds (isFull s e) (anyFull s es) f .0, plain-served (perform s e) es (h .1) k)
+all-served s (e ∷ es) h k f = (h .0, none-holds (isFull s e) (firstFull s es) f .0, plain-served (perform s e) es (h .1) k)
 
 -- one after the other
 in-turn : (s : List ℕ) → Sound s → (es : List Effect) → AllServed s es → PerformedAll s es
@@ -86,7 +86,7 @@ kept-in-turn s g [] h = state-none s
 kept-in-turn s g (e ∷ es) h =
     state-on (kept-theorem s g e (h .0) (h .1)) (kept-in-turn (perform s e) (perform-theorem s g e (h .0) (h .1) .sound) es (h .2))
 
-module _ (s : List ℕ) (g : Sound s) (es : List Effect) (fit : AllFit s es) (once : OneRequest es) (room : anyFull s es ≡ false) where
+module _ (s : List ℕ) (g : Sound s) (es : List Effect) (fit : AllFit s es) (once : OneRequest es) (room : firstFull s es ≡ false) where
   pub performs-theorem : PerformedAll s es
   performs-theorem = in-turn s g es (all-served s es fit once room)
 
@@ -159,9 +159,9 @@ module _ (s : List ℕ) (g : Sound s) (e : Effect) (h : Fits s e) where
           (request-theorem (wanted s e) (g .own .heap) l .found .0 (eqb-false (requestAt s (wanted s e)) 0 q))))
           (decide (eqb (requestAt s (wanted s e)) 0))
 
-pub full-theorem : (s : List ℕ) (g : Sound s) (es : List Effect) → FirstFits s es → OneRequest es → (anyFull s es ≡ true) ↔ AsksInVain s (g .own .blocks) es
+pub full-theorem : (s : List ℕ) (g : Sound s) (es : List Effect) → FirstFits s es → OneRequest es → (firstFull s es ≡ true) ↔ AsksInVain s (g .own .blocks) es
 full-theorem s g [] h k = (λ f. never (sym f), λ f. absurd f)
 full-theorem s g (e ∷ es) h k = (
-  λ f. ⊎-elim (λ q. inl (full-vain s g e h q)) (λ q. never (sym q ∙ none-full s es k)) (one-holds (isFull s e) (anyFull s es) f),
-  λ f. ⊎-elim (λ q. first-holds (isFull s e) (anyFull s es) (vain-full s g e h (q .0) (q .1))) (λ q. absurd (none-in-vain s (g .own .blocks) es k q)) f,
+  λ f. ⊎-elim (λ q. inl (full-vain s g e h q)) (λ q. never (sym q ∙ none-full s es k)) (one-holds (isFull s e) (firstFull s es) f),
+  λ f. ⊎-elim (λ q. first-holds (isFull s e) (firstFull s es) (vain-full s g e h (q .0) (q .1))) (λ q. absurd (none-in-vain s (g .own .blocks) es k q)) f,
 )

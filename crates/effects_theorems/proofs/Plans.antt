@@ -32,7 +32,7 @@ use Rattle.manual.specs.Control.{lineOrLeave, lineNumber, branchTo, go, goIf, r
 use Rattle.manual.specs.Instructions.{Running, headerOf, resolve, planOf, planDecoded, planAt}
 use Rattle.effects.specs.Seen.{seen}
 use Rattle.effects.specs.Sound.{Sound}
-use Rattle.effects.specs.Alike.{seenBy, Runs}
+use Rattle.effects.specs.Alike.{seenBy, HasFrame}
 use Rattle.effects_theorems.specs.Plans.{PlansTheorems}
 use Rattle.effects_theorems.proofs.Seen.{seen-theorem}
 
@@ -94,7 +94,7 @@ module _ (f : Running) (all : Seen) where
   plan-by (I.Call arguments alternate number) next = refl
   plan-by (I.Index rank) next = simp operands-by
 
-module _ (s : List ℕ) (g : Sound s) (f : Running) (runs : Runs s (variablesOf (headerOf f)) (headerOf f .result)) where
+module _ (s : List ℕ) (g : Sound s) (f : Running) (runs : HasFrame s (variablesOf (headerOf f)) (headerOf f .result)) where
   plan-theorem : (i : Instruction) (next : ℕ) → planOf f (seen s) i next ≡ planOf f (seenOf (length s - sbase s) (view s)) i next
   plan-theorem i next =
       plan-by f (seen s) i next

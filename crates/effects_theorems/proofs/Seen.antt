@@ -23,8 +23,8 @@ use Rattle.storage_theorems.proofs.Counts.{order}
 use Rattle.effects.specs.Sources.{heldAt, operandAt}
 use Rattle.effects.specs.Seen.{read, temporaries, seen}
 use Rattle.effects.specs.Sound.{Chain, bottom, upon, Sound}
-use Rattle.effects.specs.Fits.{InFrames, IsVariable}
-use Rattle.effects.specs.Alike.{seenBy, Runs, Resolved}
+use Rattle.effects.specs.Fits.{InFrames, Addressable}
+use Rattle.effects.specs.Alike.{seenBy, HasFrame, Resolved}
 use Rattle.effects_theorems.proofs.Tests.{none-holds}
 use Rattle.effects_theorems.proofs.Machines.{depth-map, map-current}
 use Rattle.effects_theorems.proofs.Frames.{downward-length, part-length, frame, frames-bottom, frames-next, depth-is}
@@ -92,10 +92,10 @@ module _ (s : List ℕ) (g : Sound s) where
   abbrev other : Target → Cell
   other t = look undefined t (view s)
 
-  held-cell : (t : Target) → IsVariable s t → held t ≡ cell s (heldAt s t)
+  held-cell : (t : Target) → Addressable s t → held t ≡ cell s (heldAt s t)
   held-cell t at = read-cell s g (heldAt s t) (variable-owner s g t at)
 
-  held-view : (t : Target) → IsVariable s t → held t ≡ other t
+  held-view : (t : Target) → Addressable s t → held t ≡ other t
   held-view t at = held-cell t at ∙ look-view s g t at
 
   depth-frames : depthOfFrames (words s .frames) ≡ lbase s + 2
@@ -152,11 +152,11 @@ module _ (s : List ℕ) (g : Sound s) where
   unfolding view
   long-current = ap length (sym (map-current (cell s) (words s .frames))) ∙ length-map (currentCells (words s .frames)) (cell s)
 
-  module _ (variables : ℕ) (result : Bool) (runs : Runs s variables result) where
-    follows : (t : Target) → IsVariable s t → follow held t (held t) ≡ follow other t (other t)
+  module _ (variables : ℕ) (result : Bool) (runs : HasFrame s variables result) where
+    follows : (t : Target) → Addressable s t → follow held t (held t) ≡ follow other t (other t)
     follows t at = follow-same held other t (held-view t at) (λ u e. held-view u (runs .targets t u at (sym (held-cell t at) ∙ e)))
 
-    local-variable : (v : ℕ) → (ltb v 1 || ltb variables v) ≡ false → IsVariable s (Local (stack (lbase s - v)))
+    local-variable : (v : ℕ) → (ltb v 1 || ltb variables v) ≡ false → Addressable s (Local (stack (lbase s - v)))
     local-variable v h =
         let n = none-holds (ltb v 1) (ltb variables v) h in
         in-current (words s .frames) (lbase s) v depth-frames (ltb-false v 1 (n .0)) (omega (arith, ltb-false variables v (n .1), runs .cells))
@@ -167,7 +167,7 @@ module _ (s : List ℕ) (g : Sound s) where
         (stop-same (ltb v 1 || ltb variables v) 3 2 _ _
         (λ h. follows (Local (stack (lbase s - v))) (local-variable v h)))
 
-    global-variable : (q : ℕ) → (ltb q 8 || leb (blockptr s) q) ≡ false → IsVariable s (Global (segment q))
+    global-variable : (q : ℕ) → (ltb q 8 || leb (blockptr s) q) ≡ false → Addressable s (Global (segment q))
     unfolding words
     global-variable q h =
         let n = none-holds (ltb q 8) (leb (blockptr s) q) h in
@@ -180,10 +180,10 @@ module _ (s : List ℕ) (g : Sound s) where
         (λ h. follows (Global (segment q)) (global-variable q h)))
 
     -- an address that is not trapped leads to a variable
-    resolves : (t : Target) (x : Variable) → IsVariable s t → follow held t (held t) ≡ gives x → Resolved s x
+    resolves : (t : Target) (x : Variable) → Addressable s t → follow held t (held t) ≡ gives x → Resolved s x
     resolves t x at e = ⊎-elim (leads t at) (λ q. leads (q .0) (runs .targets t (q .0) at (sym (held-cell t at) ∙ q .1)) (q .2)) (follow-is held t (held t) x e)
       where
-        leads : (u : Target) → IsVariable s u → followed u (held u) ≡ gives x → Resolved s x
+        leads : (u : Target) → Addressable s u → followed u (held u) ≡ gives x → Resolved s x
         leads u k q =
             let r = followed-is u (held u) x q in
             let p : x .place ≡ u = ap (λ (y : Variable). y .place) r in

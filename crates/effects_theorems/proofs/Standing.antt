@@ -14,9 +14,9 @@ use Rattle.segment.specs.View.{view}
 use Rattle.manual.specs.Effects as manual
 use Rattle.manual.specs.Effects.{Effect, replaces, discards, swaps, stores, storesElement, enters, leaves, jumps, setsOrigin, performOn}
 use Rattle.storage_theorems.proofs.Ways.{decide}
-use Rattle.effects.specs.Perform.{perform, performs, isFull, anyFull}
+use Rattle.effects.specs.Perform.{perform, performs, isFull, firstFull}
 use Rattle.effects.specs.Sound.{Sound}
-use Rattle.effects.specs.Fits.{InFrames, InMachine, IsVariable, Fits}
+use Rattle.effects.specs.Fits.{InFrames, AddressableIn, Addressable, Fits}
 use Rattle.effects.specs.Requests.{AllFit, OneRequest}
 use Rattle.effects_theorems.specs.Theorems.{StandsThrough, entersFrame, leavesFrame, NoneEnters, EntersFirst}
 use Rattle.effects_theorems.proofs.Tests.{never}
@@ -28,11 +28,11 @@ use Rattle.effects_theorems.proofs.Others.{stands-first}
 
 -- the variables are those of the frames and the globals
 in-machine : (t : Target) (m n : Machine Cell) → ((a : ℕ) → InFrames a (m .frames) → InFrames a (n .frames)) → length (m .globals) ≡ length (n .globals)
-    → InMachine t m → InMachine t n
+    → AddressableIn t m → AddressableIn t n
 in-machine (Global g) m n f e h = omega (arith, h, e)
 in-machine (Local a) m n f e h = f (a .0) h
 
-same-machine : (t : Target) (m n : Machine Cell) → n .frames ≡ m .frames → length (m .globals) ≡ length (n .globals) → InMachine t m ↔ InMachine t n
+same-machine : (t : Target) (m n : Machine Cell) → n .frames ≡ m .frames → length (m .globals) ≡ length (n .globals) → AddressableIn t m ↔ AddressableIn t n
 same-machine t m n f e = (in-machine t m n (λ a k. rw f k) e, in-machine t n m (λ a k. rw f at k) (sym e))
 
 in-older : (a : ℕ) (l : List (Frame Cell)) → InFrames a (manual.older l) → InFrames a l
@@ -46,9 +46,9 @@ in-jumped place a (r ∷ l) = (λ h. h, λ h. h)
 -- what stands before stands after, where no frame is left; what stands after stood before, where none is entered
 module _ (t : Target) (m : Machine Cell) where
   abbrev Stays : Effect → Type 0
-  Stays e = (leavesFrame e ≡ false → InMachine t m → InMachine t (performOn e m)) × (entersFrame e ≡ false → InMachine t (performOn e m) → InMachine t m)
+  Stays e = (leavesFrame e ≡ false → AddressableIn t m → AddressableIn t (performOn e m)) × (entersFrame e ≡ false → AddressableIn t (performOn e m) → AddressableIn t m)
 
-  both : (e : Effect) → InMachine t m ↔ InMachine t (performOn e m) → Stays e
+  both : (e : Effect) → AddressableIn t m ↔ AddressableIn t (performOn e m) → Stays e
   both e h = (λ p. h .0, λ p. h .1)
 
   stays : (e : Effect) → Stays e
@@ -73,20 +73,20 @@ module _ (t : Target) (s : List ℕ) (g : Sound s) (e : Effect) (fit : Fits s e)
   seen : view (perform s e) ≡ performOn e (view s)
   seen = perform-theorem s g e fit room .seen
 
-  stays-on : leavesFrame e ≡ false → IsVariable s t → IsVariable (perform s e) t
+  stays-on : leavesFrame e ≡ false → Addressable s t → Addressable (perform s e) t
   stays-on p h = in-view (perform s e) t .1 (rw seen (stays t (view s) e .0 p (in-view s t .0 h)))
 
-  stood-before : entersFrame e ≡ false → IsVariable (perform s e) t → IsVariable s t
+  stood-before : entersFrame e ≡ false → Addressable (perform s e) t → Addressable s t
   stood-before p h = in-view s t .1 (stays t (view s) e .1 p (rw seen at (in-view (perform s e) t .0 h)))
 
 -- one after the other
-none-entered : (t : Target) (s : List ℕ) → Sound s → (es : List Effect) → AllServed s es → NoneEnters es → IsVariable (performs s es) t → StandsThrough s es t
+none-entered : (t : Target) (s : List ℕ) → Sound s → (es : List Effect) → AllServed s es → NoneEnters es → Addressable (performs s es) t → StandsThrough s es t
 none-entered t s g [] h n k = k
 none-entered t s g (e ∷ es) h n k =
     let r = none-entered t (perform s e) (perform-theorem s g e (h .0) (h .1) .sound) es (h .2) (n .1) k in
     (stood-before t s g e (h .0) (h .1) (n .0) (stands-first (perform s e) es t r), r)
 
-in-turn : (t : Target) (s : List ℕ) → Sound s → (es : List Effect) → AllServed s es → EntersFirst es → IsVariable s t → IsVariable (performs s es) t
+in-turn : (t : Target) (s : List ℕ) → Sound s → (es : List Effect) → AllServed s es → EntersFirst es → Addressable s t → Addressable (performs s es) t
     → StandsThrough s es t
 in-turn t s g [] h n k l = l
 in-turn t s g (e ∷ es) h n k l =
@@ -96,6 +96,6 @@ in-turn t s g (e ∷ es) h n k l =
           (λ p. in-turn t (perform s e) q es (h .2) (n .1) (stays-on t s g e (h .0) (h .1) p k) l) (decide (leavesFrame e)),
     )
 
-pub stands-theorem : (s : List ℕ) → Sound s → (es : List Effect) → AllFit s es → OneRequest es → anyFull s es ≡ false → EntersFirst es → (t : Target)
-    → IsVariable s t → IsVariable (performs s es) t → StandsThrough s es t
+pub stands-theorem : (s : List ℕ) → Sound s → (es : List Effect) → AllFit s es → OneRequest es → firstFull s es ≡ false → EntersFirst es → (t : Target)
+    → Addressable s t → Addressable (performs s es) t → StandsThrough s es t
 stands-theorem s g es h k f n t before after = in-turn t s g es (all-served s es h k f) n before after

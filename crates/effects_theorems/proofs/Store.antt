@@ -23,7 +23,7 @@ use Rattle.storage_theorems.proofs.Steps.{kept-on, drop-own}
 use Rattle.storage_theorems.proofs.Elsewhere.{own-elsewhere, cell-elsewhere}
 use Rattle.effects.specs.Sources.{addressOf, heldAt}
 use Rattle.effects.specs.Sound.{Sound}
-use Rattle.effects.specs.Fits.{IsVariable}
+use Rattle.effects.specs.Fits.{Addressable}
 use Rattle.effects_theorems.specs.Theorems.{StateKept}
 use Rattle.effects_theorems.proofs.StateWords.{state-on, state-step, state-set}
 use Rattle.effects_theorems.proofs.Machines.{machine-agree}
@@ -55,7 +55,7 @@ kept-set {s} {s1} i w k l m =
         let l1 : i < length s1 = omega (arith, k .long) in
         rw e (rw getD-set-same (sym (rw getD-set-same refl)))
 
-module _ (s : List ℕ) (g : Sound s) (t : Target) (at : IsVariable s t) (w : ℕ) (c : Cell) (s1 : List ℕ) (first : Put s (owners s) s1 w c) where
+module _ (s : List ℕ) (g : Sound s) (t : Target) (at : Addressable s t) (w : ℕ) (c : Cell) (s1 : List ℕ) (first : Put s (owners s) s1 w c) where
   abbrev i : ℕ
   i = addressOf s t
 

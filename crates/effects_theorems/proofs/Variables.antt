@@ -24,7 +24,7 @@ use Rattle.storage_theorems.proofs.Element.{part-set}
 use Rattle.effects.specs.Sources.{addressOf, heldAt, operandAt}
 use Rattle.effects.specs.Seen.{temporaries}
 use Rattle.effects.specs.Sound.{Chain, bottom, upon, Sound}
-use Rattle.effects.specs.Fits.{InFrames, InMachine, IsVariable}
+use Rattle.effects.specs.Fits.{InFrames, AddressableIn, Addressable}
 use Rattle.effects_theorems.proofs.Machines.{cells-count, count-getD}
 use Rattle.effects_theorems.proofs.Cells.{undefined-cell}
 use Rattle.effects_theorems.proofs.Frames.{downward-length, part-length, frame, frames-bottom, frames-next, frames-same, chain-same, depth-is}
@@ -175,7 +175,7 @@ pub record Place (s : List ℕ) (i : ℕ) : Type 0 where
   pub within : i < length s
 
 module _ (s : List ℕ) (g : Sound s) where
-  pub variable-place : (t : Target) → IsVariable s t → Place s (addressOf s t)
+  pub variable-place : (t : Target) → Addressable s t → Place s (addressOf s t)
   unfolding words
   variable-place (Global q) h =
       let b = bounds g in
@@ -226,12 +226,12 @@ module _ (s : List ℕ) (g : Sound s) where
       rw (o0, o1, o2, o4, gl, tm, fr)
 
   -- a store to a variable
-  pub words-put : (w : ℕ) (t : Target) → IsVariable s t → words (set s (addressOf s t) w) ≡ put t w (words s)
+  pub words-put : (w : ℕ) (t : Target) → Addressable s t → words (set s (addressOf s t) w) ≡ put t w (words s)
   unfolding words
   words-put w (Global q) h = words-global w (q .0) (h .0) (omega (arith, h, part-length s 8 (blockptr s - 8), bounds g))
   words-put w (Local a) h = words-local w (a .0) (sbase s + a .0) h refl
 
-  pub variable-chain : (w : ℕ) (t : Target) → IsVariable s t → Chain (set s (addressOf s t) w) (lbase s)
+  pub variable-chain : (w : ℕ) (t : Target) → Addressable s t → Chain (set s (addressOf s t) w) (lbase s)
   unfolding words
   variable-chain w (Global q) h =
       let b = bounds g in
@@ -240,7 +240,7 @@ module _ (s : List ℕ) (g : Sound s) where
       chain-same (set s (q .0) w) (g .chain) (ap (λ (m : ℕ). m / 2 ^ 16) (other 0 (omega (arith, h)))) (λ i x y. other i (omega arith))
   variable-chain w (Local a) h = chain-put s w (omega (arith, bounds g)) (g .chain) (suc (lbase s)) (a .0) (omega arith) h
 
-  module _ (t : Target) (at : IsVariable s t) where
+  module _ (t : Target) (at : Addressable s t) where
     pub same-put : put t (heldAt s t) (words s) ≡ words s
     same-put = sym (words-put (heldAt s t) t at) ∙ ap words (set-getD s (addressOf s t) 0)
 
@@ -268,7 +268,7 @@ module _ (s : List ℕ) (g : Sound s) where
         ∙ ap (cell s) (look-words undefinedWord))
 
 -- a variable of the words is one of the view
-pub in-view : (s : List ℕ) (t : Target) → IsVariable s t ↔ InMachine t (view s)
+pub in-view : (s : List ℕ) (t : Target) → Addressable s t ↔ AddressableIn t (view s)
 unfolding view
 in-view s t = in-map (cell s) t (words s)
 

@@ -11,10 +11,10 @@ use Rattle.manual.specs.Seen.{variablesOf, seenOf}
 use Rattle.manual.specs.Instructions.{Running, headerOf, planOf, planAt}
 use Rattle.effects.specs.Seen.{seen}
 use Rattle.effects.specs.Sound.{Sound}
-use Rattle.effects.specs.Alike.{Runs}
+use Rattle.effects.specs.Alike.{HasFrame}
 
 pub record PlansTheorems : Type 0 where
-  pub plan : (s : List ℕ) → Sound s → (f : Running) → Runs s (variablesOf (headerOf f)) (headerOf f .result) → (i : Instruction) (next : ℕ)
+  pub plan : (s : List ℕ) → Sound s → (f : Running) → HasFrame s (variablesOf (headerOf f)) (headerOf f .result) → (i : Instruction) (next : ℕ)
       → planOf f (seen s) i next ≡ planOf f (seenOf (length s - sbase s) (view s)) i next
-  pub decoded : (s : List ℕ) → Sound s → (f : Running) → Runs s (variablesOf (headerOf f)) (headerOf f .result) → (place : ℕ)
+  pub decoded : (s : List ℕ) → Sound s → (f : Running) → HasFrame s (variablesOf (headerOf f)) (headerOf f .result) → (place : ℕ)
       → planAt f (seen s) place ≡ planAt f (seenOf (length s - sbase s) (view s)) place

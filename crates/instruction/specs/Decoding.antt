@@ -2,16 +2,14 @@
 -- suboperation traps, with decisions 17, 20, 34 and 35 of docs/DECISIONS.md. A suboperation is judged before any byte after the
 -- first. A reader must believe: the fields of each instruction and the trap in each case. Assumes nothing.
 use Prim.Native.Nat.{ℕ, _+_, _*_, _/_, _%_, _^_}
-use mathlib.Core.Bool.{Bool, true, false, cond}
+use mathlib.Core.Bool.{cond}
 use mathlib.Core.List.{List}
 use lib.Dec.{ltb}
 use Rattle.operator.specs.declared.Operator.{Operator}
 use Rattle.operator.specs.declared.Suboperation.{Suboperation}
 use Rattle.operator.specs.declared.Suboperation.the-variants as O
 use Rattle.operator.specs.Table.{operatorOf}
-use Rattle.procedure.specs.declared.header.Block.{Block}
-use Rattle.procedure.specs.Headers.{bitOf, codeStart, codeOf}
-use Rattle.procedure.specs.Directory.{selected, inDirectory}
+use Rattle.procedure.specs.Headers.{bitOf, codeStart}
 use Rattle.instruction.specs.declared.Jump.{Jump}
 use Rattle.instruction.specs.declared.Instruction.{Instruction}
 use Rattle.instruction.specs.declared.Instruction.the-variants as I
@@ -101,36 +99,8 @@ familyAt code c first LongGlobal = loadAt code c first LongGlobal
 familyAt code c first Index = done (I.Index (first % 2 ^ 4)) c
 familyAt code c first Unassigned = Trap 3 11
 
--- The instruction at a place of a function's code, which starts at byte 8.
+-- The instruction at a place of a function's code, which starts at byte 8. Whether CALL's function is there is judged by its plan.
 unfoldable pub instructionAt : List ℕ → ℕ → Decoded
 instructionAt code place =
     cond (ltb place codeStart) (Trap 3 1)
     (withByte (fetchByte code (cursorAt place)) (Trap 3 1) (λ first next. familyAt code next first (familyOf first)))
-
--- A CALL whose function is not in the directory of the segment that it names.
-abbrev pub lacksFunction : List ℕ → List ℕ → Instruction → Bool
-lacksFunction regular alternate (I.Call arguments P fn) = cond (inDirectory P regular alternate fn) false true
-lacksFunction regular alternate (I.Load a) = false
-lacksFunction regular alternate (I.ShortConstant s m) = false
-lacksFunction regular alternate (I.Scalar o) = false
-lacksFunction regular alternate (I.Memory o a) = false
-lacksFunction regular alternate (I.Stack o) = false
-lacksFunction regular alternate (I.Array o) = false
-lacksFunction regular alternate (I.Control o) = false
-lacksFunction regular alternate (I.Jump jump to) = false
-lacksFunction regular alternate (I.ConstantScalar w) = false
-lacksFunction regular alternate (I.ConstantVector n first) = false
-lacksFunction regular alternate (I.Index rank) = false
-
--- CALL's function outside its bounds is (3,1), a fetch trap.
-unfoldable pub callChecked : List ℕ → List ℕ → Decoded → Decoded
-callChecked regular alternate (Done i next) = cond (lacksFunction regular alternate i) (Trap 3 1) (Done i next)
-callChecked regular alternate (Trap class number) = Trap class number
-
--- The instruction at a place of the code of a block, in the segment that P names, beside both segments.
-unfoldable pub decodeOf : List ℕ → List ℕ → List ℕ → ℕ → Decoded
-decodeOf regular alternate code place = callChecked regular alternate (instructionAt code place)
-
-abbrev pub decodeIn : List ℕ → List ℕ → Bool → Block → ℕ → Decoded
-decodeIn regular alternate P block place =
-    decodeOf regular alternate (codeOf (selected P regular alternate) block) place

@@ -1,6 +1,6 @@
 // Decoding one instruction at a place of a function's code. A suboperation is judged before any byte after the first.
 ghost use mathlib.Core.Path.{_≡_};
-ghost use Rattle.instruction.specs.Decoding.{loadAt, shortConstantAt, scalarAt, memoryAt, constantScalarAt, constantVectorAt, jumpAt, callAt, etcAt, familyAt, instructionAt, lacksFunction, decodeOf, decodeIn};
+ghost use Rattle.instruction.specs.Decoding.{loadAt, shortConstantAt, scalarAt, memoryAt, constantScalarAt, constantVectorAt, jumpAt, callAt, etcAt, familyAt, instructionAt};
 use crate::Decoded;
 use crate::Instruction;
 use crate::Jump;
@@ -21,55 +21,6 @@ use crate::variable::read_address;
 use descriptor::address::CodeAddress;
 use operator::Suboperation;
 use operator::operator_of;
-use procedure::directory::in_directory;
-use procedure::header::Block;
-
-// The instruction at a place of the code of `block`, which stands in the segment that P names.
-pub fn decode(
-    regular: &[u8],
-    alternate: &[u8],
-    selector: bool,
-    block: Block,
-    place: CodeAddress,
-) -> Decoded
-    ensures { λ r. ⌜ r ≡ decodeIn (now (regular .entry)) (now (alternate .entry)) selector block (place .0) ⌝ }
-{
-    if selector {
-        return fetch(regular, alternate, block.code(alternate), place);
-    }
-    fetch(regular, alternate, block.code(regular), place)
-}
-
-// The instruction at a place of a function's code; a CALL's function must be in its directory.
-pub fn fetch(regular: &[u8], alternate: &[u8], code: &[u8], place: CodeAddress) -> Decoded
-    ensures { λ r. ⌜ r ≡ decodeOf (now (regular .entry)) (now (alternate .entry)) (now (code .entry)) (place .0) ⌝ }
-{
-    match instruction_at(code, place) {
-        Decoded::Trap(class, number) => Decoded::Trap(class, number),
-        Decoded::Instruction(i, next) => {
-            if lacks_function(regular, alternate, i) {
-                return Decoded::Trap(3, 1);
-            }
-            Decoded::Instruction(i, next)
-        }
-    }
-}
-
-fn lacks_function(regular: &[u8], alternate: &[u8], i: Instruction) -> bool
-    ensures { λ r. ⌜ r ≡ lacksFunction (now (regular .entry)) (now (alternate .entry)) i ⌝ }
-{
-    if let Instruction::Call {
-        arguments: _,
-        alternate: selector,
-        function,
-    } = i {
-        if in_directory(selector, regular, alternate, function) {
-            return false;
-        }
-        return true;
-    }
-    false
-}
 
 // The instruction at a place of a function's code, whatever it calls.
 pub fn instruction_at(code: &[u8], place: CodeAddress) -> Decoded

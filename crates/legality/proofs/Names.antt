@@ -11,7 +11,7 @@ use Rattle.descriptor.specs.declared.Target.the-variants.{Local, Global}
 use Rattle.segment.specs.Cells.{Cell, undefined, indirect}
 use Rattle.segment.specs.Machine.{Frame, Machine, mapFrames, mapMachine, depthOfFrames}
 use Rattle.manual.specs.Effects.{indexIn, lookFrames, currentCells}
-use Rattle.effects.specs.Fits.{InFrames, InMachine}
+use Rattle.effects.specs.Fits.{InFrames, AddressableIn}
 use Rattle.legality.specs.Legal.{VariableOf, Names, Leads, Allowed, LegalFrame, LegalFrames, bottom, upon, Legal}
 
 -- ---- the same variables, by whatever function a machine is seen
@@ -30,7 +30,7 @@ in-mapFrames f a (r ∷ l) =
       λ h. ⊎-elim (λ k. inl (omega (arith, k), omega (arith, k))) (λ k. inr (more .1 k)) h,
     )
 
-pub in-map : {A : Type 0} (f : ℕ → A) (t : Target) (m : Machine ℕ) → InMachine t m ↔ InMachine t (mapMachine f m)
+pub in-map : {A : Type 0} (f : ℕ → A) (t : Target) (m : Machine ℕ) → AddressableIn t m ↔ AddressableIn t (mapMachine f m)
 in-map f (Global g) m = let n = length-map (m .globals) f in (λ h. omega (arith, h), λ h. omega (arith, h))
 in-map f (Local a) m = in-mapFrames f (a .0) (m .frames)
 
@@ -76,10 +76,10 @@ module _ {regular other : List ℕ} {m : Machine Cell} where
   legal-in (upon f t) a (inl v) = inl (omega (arith, v, f .cells), v .1)
   legal-in (upon f t) a (inr v) = inr (legal-in t a v)
 
-  pub names-in : Legal regular other m → (u : Target) → Names regular other m (m .frames) u → InMachine u m
+  pub names-in : Legal regular other m → (u : Target) → Names regular other m (m .frames) u → AddressableIn u m
   names-in h (Global g) n = n
   names-in h (Local a) n = legal-in (h .frames) (a .0) n
 
   -- a variable of a frame that holds an indirect word
-  pub local-names : Legal regular other m → (a : ℕ) (u : Target) → InFrames a (m .frames) → lookFrames undefined a (m .frames) ≡ indirect u → InMachine u m
+  pub local-names : Legal regular other m → (a : ℕ) (u : Target) → InFrames a (m .frames) → lookFrames undefined a (m .frames) ≡ indirect u → AddressableIn u m
   local-names h a u k e = names-in h u (frames-name (h .frames) a u k e)

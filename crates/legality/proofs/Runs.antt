@@ -19,8 +19,8 @@ use Rattle.procedure.proofs.Accepting.{acceptance}
 use Rattle.storage.specs.Owned.{ArrayIn}
 use Rattle.segment.specs.View.{words, view}
 use Rattle.effects.specs.Sources.{heldAt}
-use Rattle.effects.specs.Fits.{IsVariable}
-use Rattle.effects.specs.Alike.{Runs}
+use Rattle.effects.specs.Fits.{Addressable}
+use Rattle.effects.specs.Alike.{HasFrame}
 use Rattle.acceptance_storage.proofs.Tests.{never, both}
 use Rattle.acceptance.specs.Frames.{segmentOf, known, variables}
 use Rattle.acceptance.specs.Structure.{Chain, Accepted}
@@ -59,7 +59,7 @@ function-known s regular other [] base h = h .function
 function-known s regular other (next ∷ older) base h = h .0 .function
 
 module _ (s regular other : List ℕ) (h : Accepted s regular other) where
-  targets : (t u : Target) → IsVariable s t → cell s (heldAt s t) ≡ indirect u → IsVariable s u
+  targets : (t u : Target) → Addressable s t → cell s (heldAt s t) ≡ indirect u → Addressable s u
   unfolding view words
   targets (Global g) u v e =
       absurd (subst Direct e (direct-cell s (λ a. (size : ℕ) × ArrayIn (blockptr s) (h .owned .blocks) a size) (getD s (g .0) 0)
@@ -68,7 +68,7 @@ module _ (s regular other : List ℕ) (h : Accepted s regular other) where
       let k = in-map (cell s) (Local a) (words s) .0 v in
       in-map (cell s) u (words s) .1 (local-names (split s regular other h .legal) (a .0) u k (look-local s regular other (h .older) (h .chain) (a .0) k ∙ e))
 
-  pub runs : Runs s (currentVariables s regular other) (currentResult s regular other)
+  pub runs : HasFrame s (currentVariables s regular other) (currentResult s regular other)
   unfolding view
   runs = record {
     cells = omega (arith, current-room s regular other (whole s regular other (h .older) (h .chain)), current-map (cell s) (words s .frames));

@@ -9,10 +9,10 @@ use Rattle.descriptor.specs.declared.Target.{Target}
 use Rattle.descriptor.specs.declared.Target.the-variants.{Local, Global}
 use Rattle.segment.specs.Cells.{Cell, undefined, indirect, value, invalid}
 use Rattle.segment.specs.Machine.{Frame, Machine}
-use Rattle.manual.specs.Effects.{Effect, replaces, discards, swaps, stores, storesElement, enters, leaves, jumps, setsOrigin, lookFrames, look, put, withTemporaries, older, jumpFrames, jump, setOrigin, leave, meant, withElement, performOn, performAll}
+use Rattle.manual.specs.Effects.{StoresTo, Effect, replaces, discards, swaps, stores, storesElement, enters, leaves, jumps, setsOrigin, lookFrames, look, put, withTemporaries, older, jumpFrames, jump, setOrigin, leave, meant, withElement, performOn, performAll}
 use Rattle.manual.specs.Seen.{noOlder}
 use Rattle.legality.specs.Legal.{Direct, Names, Allowed, Legal}
-use Rattle.legality.specs.Kept.{StoresTo, OneStoresTo, Kept}
+use Rattle.legality.specs.Kept.{Kept}
 use Rattle.legality.proofs.Alike.{same-frames, direct-allowed, names-on, like-names}
 use Rattle.legality.proofs.Stored.{put-like, look-other}
 use Rattle.legality.proofs.Effects.{CanEnter, enter-look, leave-look, jump-like, origin-like, with-like, replace-kept, discard-kept, swap-kept, put-kept, jump-kept, origin-kept, enter-kept, leave-kept}
@@ -149,7 +149,7 @@ module _ (regular other : List ℕ) where
   look-on t (setsOrigin v) m g h p q d = origin-look v t m
 
   all-others : (t : Target) (es : List Effect) (m : Machine Cell) → Legal regular other m → AllMeet es m → Names regular other m (m .frames) t
-      → Names regular other (performAll es m) (performAll es m .frames) t → (OneStoresTo es t → ⊥) → look undefined t (performAll es m) ≡ look undefined t m
+      → Names regular other (performAll es m) (performAll es m .frames) t → NoneStoresTo es t → look undefined t (performAll es m) ≡ look undefined t m
   all-others t [] m g h p q d = refl
   all-others t (e ∷ es) m g h p q d =
       let k = names-next t e es m (h .0) (h .1) p q in

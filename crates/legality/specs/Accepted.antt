@@ -15,7 +15,7 @@ use Rattle.acceptance_storage.specs.Head.{Head}
 use Rattle.acceptance.specs.Frames.{segmentOf, variables}
 use Rattle.acceptance.specs.Structure.{Accepted}
 use Rattle.effects.specs.Sound.{Sound}
-use Rattle.effects.specs.Alike.{Runs}
+use Rattle.effects.specs.Alike.{HasFrame}
 use Rattle.legality.specs.Legal.{Legal}
 
 -- A segment as the machine's theorems have it: lengths, procedure segments, state words, storage and frames, and every cell.
@@ -38,4 +38,4 @@ pub record LegalTheorems : Type 0 where
   pub split : (s regular other : List ℕ) → Accepted s regular other → Whole s regular other
   pub join : (s regular other : List ℕ) → Whole s regular other → Accepted s regular other
   -- what an instruction of the current function may rely on
-  pub runs : (s regular other : List ℕ) → Accepted s regular other → Runs s (currentVariables s regular other) (currentResult s regular other)
+  pub runs : (s regular other : List ℕ) → Accepted s regular other → HasFrame s (currentVariables s regular other) (currentResult s regular other)

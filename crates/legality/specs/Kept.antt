@@ -2,14 +2,13 @@
 -- is not stored to as it was. Told by cells, with no word of storage. Proved in proofs/Theorems. Assumes nothing.
 use Prim.Native.Nat.{ℕ, _<_}
 use mathlib.Core.Path.{_≡_}
-use mathlib.Core.Logic.{_⊎_}
 use mathlib.Core.List.{List, [], _∷_}
 use Rattle.descriptor.specs.declared.Target.{Target}
 use Rattle.instruction.specs.declared.Instruction.{Instruction}
 use Rattle.segment.specs.Cells.{Cell, undefined}
 use Rattle.segment.specs.Machine.{Frame, Machine}
 use Rattle.manual.specs.OrTrap.{gives}
-use Rattle.manual.specs.Effects.{Effect, replaces, discards, swaps, stores, storesElement, enters, leaves, jumps, setsOrigin, look, performAll}
+use Rattle.manual.specs.Effects.{Effect, NoneStoresTo, look, performAll}
 use Rattle.manual.specs.Seen.{variablesOf, seenOf}
 use Rattle.manual.specs.Instructions.{Running, headerOf, planOf}
 use Rattle.acceptance.specs.Frames.{variables}
@@ -24,29 +23,13 @@ pub record RunsIn (regular other : List ℕ) (f : Running) (m : Machine Cell) : 
   pub frames : m .frames ≡ current ∷ older
   pub size : variablesOf (headerOf f) ≡ variables regular other (functionWord current)
 
--- One of the effects stores to that variable.
-abbrev pub StoresTo : Effect → Target → Type 0
-StoresTo (replaces n source) u = ⊥
-StoresTo (discards n) u = ⊥
-StoresTo swaps u = ⊥
-StoresTo (stores t source) u = u ≡ t
-StoresTo (storesElement t place w n) u = u ≡ t
-StoresTo (enters n f) u = ⊥
-StoresTo (leaves n result) u = ⊥
-StoresTo (jumps place) u = ⊥
-StoresTo (setsOrigin v) u = ⊥
-
-abbrev pub OneStoresTo : List Effect → Target → Type 0
-OneStoresTo [] u = ⊥
-OneStoresTo (e ∷ es) u = StoresTo e u ⊎ OneStoresTo es u
-
 -- What the effects `es` leave of `m`.
 pub record Kept (regular other : List ℕ) (m : Machine Cell) (es : List Effect) : Type 0 where
   pub legal : Legal regular other (performAll es m)
   pub flags : m .flags < 16 → performAll es m .flags < 16
   -- Every variable that stands before and after, and that is not stored to, holds what it held.
   pub others : (t : Target) → Names regular other m (m .frames) t → Names regular other (performAll es m) (performAll es m .frames) t
-      → (OneStoresTo es t → ⊥) → look undefined t (performAll es m) ≡ look undefined t m
+      → NoneStoresTo es t → look undefined t (performAll es m) ≡ look undefined t m
 
 pub record KeptTheorems : Type 0 where
   pub kept : {regular other : List ℕ} {f : Running} {m : Machine Cell} {es : List Effect}

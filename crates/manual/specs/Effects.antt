@@ -2,9 +2,10 @@
 -- elsewhere, on words; here is only what a planner sees. A reader must believe: these are the changes that the manual speaks of.
 -- Assumes nothing.
 use Prim.Native.Nat.{ℕ, zero, suc, _+_, _-_, _*_, _/_, _%_, _^_}
+use mathlib.Core.Path.{_≡_}
 use mathlib.Core.Bool.{Bool, true, false, cond}
 use mathlib.Core.List.{List, [], _∷_, _++_}
-use lib.Dec.{leb}
+use lib.Dec.{leb, ltb}
 use lib.ListN.{getD, set, length, drop, replicate}
 use Rattle.descriptor.specs.declared.Target.{Target}
 use Rattle.descriptor.specs.declared.Target.the-variants.{Local, Global}
@@ -45,18 +46,39 @@ pub data Effect : Type 0 where
 abbrev pub Plan : Type 0
 Plan = OrTrap (List Effect)
 
+-- The effect stores to that variable; none of them does.
+abbrev pub StoresTo : Effect → Target → Type 0
+StoresTo (replaces n source) u = ⊥
+StoresTo (discards n) u = ⊥
+StoresTo swaps u = ⊥
+StoresTo (stores t source) u = u ≡ t
+StoresTo (storesElement t place w n) u = u ≡ t
+StoresTo (enters n f) u = ⊥
+StoresTo (leaves n result) u = ⊥
+StoresTo (jumps place) u = ⊥
+StoresTo (setsOrigin v) u = ⊥
+
+abbrev pub NoneStoresTo : List Effect → Target → Type 0
+NoneStoresTo [] t = Unit {0}
+NoneStoresTo (e ∷ es) t = (StoresTo e t → ⊥) × NoneStoresTo es t
+
 -- ---- on machines
 
--- The cells of a frame stand from the highest down, and the stack address of the last is the depth of the older frames.
+-- The cells of a frame stand from the highest down, and the stack address of the last is the depth of the older frames. Any other
+-- address leads past them: there nothing is looked at, and nothing put.
 abbrev pub indexIn : {A : Type 0} → List A → List (Frame A) → ℕ → ℕ
-indexIn cells older a = depthOfFrames older + length cells - 1 - a
+indexIn cells older a = cond (ltb a (depthOfFrames older + length cells)) (depthOfFrames older + length cells - 1 - a) (length cells)
+
+-- Globals stand from 8 up.
+abbrev pub globalIndex : {A : Type 0} → List A → ℕ → ℕ
+globalIndex globals g = cond (leb 8 g) (g - 8) (length globals)
 
 abbrev pub lookFrames : {A : Type 0} → A → ℕ → List (Frame A) → A
 lookFrames none a [] = none
 lookFrames none a (r ∷ older) = cond (leb (depthOfFrames older) a) (getD (r .cells) (indexIn (r .cells) older a) none) (lookFrames none a older)
 
 abbrev pub look : {A : Type 0} → A → Target → Machine A → A
-look none (Global g) m = getD (m .globals) (g .0 - 8) none
+look none (Global g) m = getD (m .globals) (globalIndex (m .globals) (g .0)) none
 look none (Local a) m = lookFrames none (a .0) (m .frames)
 
 abbrev pub putFrames : {A : Type 0} → ℕ → A → List (Frame A) → List (Frame A)
@@ -67,7 +89,7 @@ putFrames a c (r ∷ older) =
     (r ∷ putFrames a c older)
 
 abbrev pub put : {A : Type 0} → Target → A → Machine A → Machine A
-put (Global g) c m = record { flags = m .flags; temporaries = m .temporaries; frames = m .frames; globals = set (m .globals) (g .0 - 8) c }
+put (Global g) c m = record { flags = m .flags; temporaries = m .temporaries; frames = m .frames; globals = set (m .globals) (globalIndex (m .globals) (g .0)) c }
 put (Local a) c m = record { flags = m .flags; temporaries = m .temporaries; frames = putFrames (a .0) c (m .frames); globals = m .globals }
 
 abbrev pub withTemporaries : {A : Type 0} → List A → Machine A → Machine A

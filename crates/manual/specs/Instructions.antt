@@ -28,7 +28,7 @@ use Rattle.instruction.specs.declared.Instruction.{Instruction}
 use Rattle.instruction.specs.declared.Instruction.the-variants as I
 use Rattle.instruction.specs.declared.Decoded.{Decoded}
 use Rattle.instruction.specs.declared.Decoded.the-variants as D
-use Rattle.instruction.specs.Decoding.{decodeIn}
+use Rattle.instruction.specs.Decoding.{instructionAt}
 use Rattle.manual.specs.OrTrap.{OrTrap, gives, trap, andThen, stopIf}
 use Rattle.manual.specs.Effects.{Plan}
 use Rattle.manual.specs.Seen.{Seen, Variable, variablesOf}
@@ -44,11 +44,17 @@ pub record Running : Type 0 where
   pub selector : Bool
   pub block : Block
 
+abbrev pub running : List ℕ → List ℕ → Bool → Block → Running
+running regular alternate selector block = record { regular = regular; alternate = alternate; selector = selector; block = block }
+
 abbrev pub segmentOf : Running → List ℕ
 segmentOf f = selected (f .selector) (f .regular) (f .alternate)
 
 abbrev pub headerOf : Running → Header
 headerOf f = f .block .header
+
+abbrev pub codeIn : Running → List ℕ
+codeIn f = codeOf (segmentOf f) (f .block)
 
 -- The n words of the code from a place on.
 abbrev pub wordsFrom : ℕ → List ℕ → ℕ → List ℕ
@@ -96,7 +102,7 @@ jumpPlan f seen next J.Go place = control.go (headerOf f) place
 jumpPlan f seen next J.GoTrue place = control.goIf seen (headerOf f) next true place
 jumpPlan f seen next J.GoFalse place = control.goIf seen (headerOf f) next false place
 
--- A function that is not in its directory is (3,1).
+-- A function that is not in its directory is (3,1), before anything else is looked at: "CALL's counts as a fetch trap".
 abbrev pub callPlan : Running → Seen → ℕ → ℕ → Bool → ℕ → Plan
 callPlan f seen next arguments alternate number =
     stopIf (not (inDirectory alternate (f .regular) (f .alternate) number)) 3 1
@@ -114,7 +120,7 @@ planOf f seen (I.Control op) next = controlPlan f seen next op
 planOf f seen (I.Jump jump place) next = jumpPlan f seen next jump (place .0)
 planOf f seen (I.ConstantScalar w) next = loads.constantScalar seen next w
 planOf f seen (I.ConstantVector count first) next =
-    loads.constantVector seen next (wordsFrom (count % 2 ^ 8) (codeOf (segmentOf f) (f .block)) (first .0 % 2 ^ 16))
+    loads.constantVector seen next (wordsFrom (count % 2 ^ 8) (codeIn f) (first .0 % 2 ^ 16))
 planOf f seen (I.Call arguments alternate number) next = callPlan f seen next arguments alternate (number % 2 ^ 11)
 planOf f seen (I.Index rank) next = scalars.index seen next (rank % 2 ^ 4)
 
@@ -124,4 +130,4 @@ planDecoded f seen (D.Instruction i next) = planOf f seen i (next .0)
 planDecoded f seen (D.Trap class number) = trap class number
 
 unfoldable pub planAt : Running → Seen → ℕ → Plan
-planAt f seen place = planDecoded f seen (decodeIn (f .regular) (f .alternate) (f .selector) (f .block) place)
+planAt f seen place = planDecoded f seen (instructionAt (codeIn f) place)

@@ -19,7 +19,7 @@ use Rattle.storage.specs.Request.{requestAt}
 use Rattle.storage.specs.Arrays.{placeAt, share, drops}
 use Rattle.manual.specs.Effects.{Source, variable, operand, word, undefinedValue, reference, made, Effect, replaces, discards, swaps, stores, storesElement, enters, leaves, jumps, setsOrigin}
 use Rattle.effects.specs.Sources.{addressOf, heldAt, operandAt, wordOf, placed}
-use Rattle.effects.specs.Perform.{bottomOf, blockOf, startOf, finish, replace, discard, swap, storeAt, store, unshare, writeElement, storeElement, enter, leaveWith, leaveWithout, perform, performs, sourceNeed, noneFor, isFull, anyFull}
+use Rattle.effects.specs.Perform.{bottomOf, blockOf, startOf, finish, replace, discard, swap, storeAt, store, unshare, writeElement, storeElement, enter, leaveWith, leaveWithout, perform, performs, sourceNeed, noneFor, isFull, firstFull}
 use Rattle.effects.specs.Sound.{Sound}
 use Rattle.effects.specs.Fits.{Available, Fits}
 use Rattle.effects.specs.Requests.{AllFit, OneRequest}
@@ -185,6 +185,6 @@ in-turn s g h [] c k = h
 in-turn s g h (e ∷ es) c k =
     in-turn (perform s e) (perform-theorem s g e (c .0) (c .1) .sound) (effect-words s g h e (c .0) (c .1) (k .0)) es (c .2) (k .1)
 
-pub effects-words : (s : List ℕ) → Sound s → Words s → (es : List Effect) → AllFit s es → OneRequest es → anyFull s es ≡ false → AllSmall es
+pub effects-words : (s : List ℕ) → Sound s → Words s → (es : List Effect) → AllFit s es → OneRequest es → firstFull s es ≡ false → AllSmall es
     → Words (performs s es)
 effects-words s g h es fit once room k = in-turn s g h es (all-served s es fit once room) k

@@ -18,7 +18,7 @@ use Rattle.manual.specs.Seen.{noOlder}
 use Rattle.effects.specs.Perform.{perform}
 use Rattle.effects.specs.Seen.{temporaries}
 use Rattle.effects.specs.Sound.{Chain, bottom, upon, Sound}
-use Rattle.effects.specs.Fits.{IsVariable, CanReplace, CanLeave, Fits}
+use Rattle.effects.specs.Fits.{Addressable, CanReplace, CanLeave, Fits}
 use Rattle.effects.specs.Requests.{asks}
 use Rattle.effects_theorems.proofs.Tests.{never}
 use Rattle.effects_theorems.proofs.Frames.{downward-length, frames-bottom, frames-next}
@@ -42,7 +42,7 @@ module _ (s : List ℕ) (e : Effect) (h : Fits s e) where
 -- ---- what is there before
 
 -- the address of a variable has sixteen bits
-pub target-fits : (s : List ℕ) → Sound s → (t : Target) → IsVariable s t → TargetFits t
+pub target-fits : (s : List ℕ) → Sound s → (t : Target) → Addressable s t → TargetFits t
 target-fits s g (Local a) h = omega (arith, variable-place s g (Local a) h .within, bounds g .short)
 target-fits s g (Global q) h = omega (arith, variable-place s g (Global q) h .within, bounds g .short)
 

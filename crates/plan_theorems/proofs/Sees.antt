@@ -22,7 +22,7 @@ use Rattle.manual.specs.Cases.{Operand, Reaches}
 use Rattle.effects.specs.Sources.{operandAt}
 use Rattle.effects.specs.Seen.{read, temporaries, seen}
 use Rattle.effects.specs.Sound.{Sound}
-use Rattle.effects.specs.Alike.{Runs, Resolved}
+use Rattle.effects.specs.Alike.{HasFrame, Resolved}
 use Rattle.effects_theorems.proofs.Variables.{operand-owner}
 use Rattle.effects_theorems.proofs.Theorems.{effects-theorems}
 use Rattle.plan_theorems.specs.Fitting.{Words}
@@ -41,7 +41,7 @@ pub record Sees (s : List ℕ) (variables : ℕ) (v : Seen) : Type 0 where
   pub cells : variables ≤ length (currentCells (words s .frames))
   pub bottom : v .bottom ≡ noOlder (view s .frames)
 
-pub sees : (s : List ℕ) → Sound s → Words s → (variables : ℕ) (result : Bool) → Runs s variables result → Sees s variables (seen s)
+pub sees : (s : List ℕ) → Sound s → Words s → (variables : ℕ) (result : Bool) → HasFrame s variables result → Sees s variables (seen s)
 unfolding seen seenOf
 sees s g short variables result runs =
     record {

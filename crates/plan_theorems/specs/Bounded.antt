@@ -10,10 +10,10 @@ use Rattle.manual.specs.Seen.{variablesOf}
 use Rattle.manual.specs.Instructions.{Running, headerOf, planAt}
 use Rattle.effects.specs.Seen.{seen}
 use Rattle.effects.specs.Sound.{Sound}
-use Rattle.effects.specs.Alike.{Runs}
+use Rattle.effects.specs.Alike.{HasFrame}
 use Rattle.effects.specs.Requests.{AllFit, OneRequest}
 use Rattle.effects.specs.Fits.{Fits}
-use Rattle.effects.specs.Perform.{perform, performs, isFull, anyFull}
+use Rattle.effects.specs.Perform.{perform, performs, isFull, firstFull}
 use Rattle.plan_theorems.specs.Fitting.{Words}
 use Rattle.plan_theorems.specs.Lent.{Bytes}
 
@@ -42,8 +42,8 @@ AllSmall (e ∷ es) = Small e × AllSmall es
 
 pub record BoundedTheorems : Type 0 where
   pub effect : (s : List ℕ) → Sound s → Words s → (e : Effect) → Fits s e → isFull s e ≡ false → Small e → Words (perform s e)
-  pub effects : (s : List ℕ) → Sound s → Words s → (es : List Effect) → AllFit s es → OneRequest es → anyFull s es ≡ false → AllSmall es → Words (performs s es)
+  pub effects : (s : List ℕ) → Sound s → Words s → (es : List Effect) → AllFit s es → OneRequest es → firstFull s es ≡ false → AllSmall es → Words (performs s es)
   -- of an instruction that is decoded: its words are those of the code
   pub plan : (s : List ℕ) → Sound s → Words s → (f : Running) → Bytes (f .regular) → Bytes (f .alternate)
-      → Runs s (variablesOf (headerOf f)) (headerOf f .result)
+      → HasFrame s (variablesOf (headerOf f)) (headerOf f .result)
       → (place : ℕ) (es : List Effect) → planAt f (seen s) place ≡ gives es → AllSmall es

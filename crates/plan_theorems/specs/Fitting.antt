@@ -12,7 +12,7 @@ use Rattle.manual.specs.Seen.{variablesOf}
 use Rattle.manual.specs.Instructions.{Running, headerOf, planOf}
 use Rattle.effects.specs.Seen.{seen}
 use Rattle.effects.specs.Sound.{Sound}
-use Rattle.effects.specs.Alike.{Runs}
+use Rattle.effects.specs.Alike.{HasFrame}
 use Rattle.effects.specs.Requests.{FirstFits, AllFit, OneRequest}
 
 -- The words of a segment have 32 bits, as their type says in code. LESS gives a sign, and a longer word's need be no scalar.
@@ -25,5 +25,5 @@ pub record Fitting (s : List ℕ) (es : List Effect) : Type 0 where
   pub all : AllFit s es
 
 pub record PlansFit : Type 0 where
-  pub fitting : (s : List ℕ) → Sound s → Words s → (f : Running) → Runs s (variablesOf (headerOf f)) (headerOf f .result)
+  pub fitting : (s : List ℕ) → Sound s → Words s → (f : Running) → HasFrame s (variablesOf (headerOf f)) (headerOf f .result)
       → (i : Instruction) (next : ℕ) (es : List Effect) → planOf f (seen s) i next ≡ gives es → Fitting s es

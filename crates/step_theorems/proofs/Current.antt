@@ -28,7 +28,7 @@ use Rattle.manual.specs.Seen.{variablesOf, seenOf}
 use Rattle.manual.specs.Instructions.{Running, headerOf, planOf, planDecoded, planAt}
 use Rattle.effects.specs.Seen.{seen}
 use Rattle.effects.specs.Sound.{Sound}
-use Rattle.effects.specs.Alike.{Runs}
+use Rattle.effects.specs.Alike.{HasFrame}
 use Rattle.effects_theorems.proofs.Plans.{plans-theorems}
 use Rattle.legality.proofs.FunctionWord.{same-variables}
 use Rattle.legality.proofs.Runs.{function-known}
@@ -101,7 +101,7 @@ module _ (s regular other : List ℕ) (h : Accepted s regular other) where
   function-there : functionOf (segmentOf regular other (codeWordAt s (lbase s))) (numberOf s) ≡ F.At (f .block)
   function-there = found regular other (codeWordAt s (lbase s)) (function-known s regular other (h .older) (lbase s) (h .chain))
 
-  pub runs : Runs s (variablesOf (headerOf f)) (headerOf f .result)
+  pub runs : HasFrame s (variablesOf (headerOf f)) (headerOf f .result)
   unfolding variables arguments
   runs = legal-theorems .runs s regular other h
 
