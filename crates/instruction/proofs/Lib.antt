@@ -1,4 +1,3 @@
 -- Laws that the proofs of this crate share.
 pub mod Ranges
 pub mod Words
-pub mod Calls
