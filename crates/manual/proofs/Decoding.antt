@@ -34,7 +34,7 @@ use Rattle.instruction.specs.Families.{familyOf}
 use Rattle.instruction.specs.Tables.{memoryOf, etcOf}
 use Rattle.instruction.specs.Reading.{cursorAt, fetchByte, fetchHalf, fetchWord, fetchWords, withByte, withHalf, withWord, withWords}
 use Rattle.instruction.specs.Variables.{addressIn, addressAt, withAddress}
-use Rattle.instruction.specs.Decoding.{loadAt, shortConstantAt, scalarAt, memoryAt, constantScalarAt, constantVectorAt, jumpAt, callAt, etcAt, familyAt, instructionAt, lacksFunction, callChecked, decodeOf}
+use Rattle.instruction.specs.Decoding.{loadAt, shortConstantAt, scalarAt, memoryAt, constantScalarAt, constantVectorAt, jumpAt, callAt, etcAt, familyAt, instructionAt}
 use Rattle.manual.specs.Traps.{listed}
 
 abbrev pub DecodedListed : Decoded → Type 0
@@ -136,17 +136,8 @@ module _ (code : List ℕ) (c : Cursor) where
   family-listed first Index = tt
   family-listed first Unassigned = refl
 
-instruction-listed : (code : List ℕ) (place : ℕ) → DecodedListed (instructionAt code place)
+pub instruction-listed : (code : List ℕ) (place : ℕ) → DecodedListed (instructionAt code place)
 unfolding instructionAt listed
 instruction-listed code place =
     chosen (ltb place codeStart) _ _ refl
     (byte-listed DecodedListed _ refl (fetchByte code (cursorAt place)) _ (λ first next. family-listed code next first (familyOf first)))
-
-checked-listed : (regular alternate : List ℕ) (d : Decoded) → DecodedListed d → DecodedListed (callChecked regular alternate d)
-unfolding callChecked listed
-checked-listed regular alternate (D.Instruction i next) h = chosen (lacksFunction regular alternate i) _ _ refl tt
-checked-listed regular alternate (D.Trap class number) h = h
-
-pub decode-listed : (regular alternate code : List ℕ) (place : ℕ) → DecodedListed (decodeOf regular alternate code place)
-unfolding decodeOf
-decode-listed regular alternate code place = checked-listed regular alternate (instructionAt code place) (instruction-listed code place)

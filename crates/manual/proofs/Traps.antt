@@ -9,21 +9,20 @@ use lib.ListN.{length}
 use borrow.Author.Tests.{ltb-true, eqb-true}
 use Rattle.segment.specs.Cells.{Cell, undefined}
 use Rattle.segment.specs.Machine.{Machine, depthOfFrames}
-use Rattle.procedure.specs.Headers.{codeOf}
 use Rattle.instruction.specs.declared.Address.{Address}
 use Rattle.instruction.specs.declared.Address.the-variants as A
 use Rattle.instruction.specs.declared.Instruction.{Instruction}
 use Rattle.instruction.specs.declared.Decoded.{Decoded}
 use Rattle.instruction.specs.declared.Decoded.the-variants as D
-use Rattle.instruction.specs.Decoding.{decodeIn}
+use Rattle.instruction.specs.Decoding.{instructionAt}
 use Rattle.manual.specs.Values.{any}
 use Rattle.manual.specs.Effects.{look, Plan}
 use Rattle.manual.specs.Seen.{Seen, variablesOf, localAt, globalAt, seenOf}
-use Rattle.manual.specs.Instructions.{Running, segmentOf, headerOf, resolve, planOf, planDecoded, planAt}
+use Rattle.manual.specs.Instructions.{Running, headerOf, codeIn, resolve, planOf, planDecoded, planAt}
 use Rattle.manual.specs.Traps.{Line, table, among, listed, InTable, Addressed, Trapping, TrapsListed}
 use Rattle.manual.proofs.Lists.{Listed, in-table}
 use Rattle.manual.proofs.Variables.{local-listed, global-listed}
-use Rattle.manual.proofs.Decoding.{DecodedListed, decode-listed}
+use Rattle.manual.proofs.Decoding.{DecodedListed, instruction-listed}
 use Rattle.manual.proofs.Cases.{plan-cases}
 
 never : false ≡ true → ⊥
@@ -62,8 +61,7 @@ decoded-listed f seen h (D.Trap class number) l = l
 place-listed : (f : Running) (seen : Seen) → Addressed seen → (place : ℕ) → Listed (planAt f seen place)
 unfolding planAt
 place-listed f seen h place =
-    decoded-listed f seen h (decodeIn (f .regular) (f .alternate) (f .selector) (f .block) place)
-    (decode-listed (f .regular) (f .alternate) (codeOf (segmentOf f) (f .block)) place)
+    decoded-listed f seen h (instructionAt (codeIn f) place) (instruction-listed (codeIn f) place)
 
 -- ---- those that the table does not have
 
