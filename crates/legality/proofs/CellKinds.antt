@@ -16,12 +16,11 @@ use Rattle.descriptor.specs.Kinds.{segment, stack, kindOf, integerKind, charact
 use Rattle.descriptor.specs.Inverse.{targetWord, TargetFits}
 use Rattle.descriptor.proofs.Inverse.{inverse, pick}
 use Rattle.segment.specs.Cells.{Cell, undefined, indirect, value, invalid, cell, cellOfKind}
-use Rattle.segment.specs.Machine.{Frame, Machine}
 use Rattle.storage_theorems.proofs.Cells.{array-of}
 use Rattle.acceptance_storage.proofs.Tests.{never, fails, by-le}
 use Rattle.acceptance.specs.Cells.{isIndirect}
 use Rattle.acceptance.specs.Structure as onWords
-use Rattle.legality.specs.Legal.{Direct, Allowed}
+use Rattle.legality.specs.Legal.{Direct}
 
 -- ---- a word told by its kind
 
@@ -96,12 +95,6 @@ module _ (s : List ℕ) where
       let r = indirect-made w (eqb-true (w / 2 ^ 17) 0x180 e) in
       let c : cell s w ≡ indirect (r .0) = ap (cell s) (r .1) ∙ target-cell (r .0) (r .2) in
       subst Direct c h)
-
-pub direct-allowed : (regular other : List ℕ) (m : Machine Cell) (frames : List (Frame Cell)) (c : Cell) → Direct c → Allowed regular other m frames c
-direct-allowed regular other m frames undefined h = tt
-direct-allowed regular other m frames (indirect t) h = absurd h
-direct-allowed regular other m frames (value shape ravel) h = tt
-direct-allowed regular other m frames invalid h = absurd h
 
 -- ---- which words are seen so
 

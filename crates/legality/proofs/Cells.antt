@@ -22,7 +22,9 @@ use Rattle.effects.specs.Fits.{InFrames}
 use Rattle.acceptance.specs.Cells.{isIndirect}
 use Rattle.acceptance.specs.Structure as onWords
 use Rattle.legality.specs.Legal.{Direct, Leads, Allowed}
-use Rattle.legality.proofs.CellKinds.{target-cell, direct-cell, not-indirect, direct-allowed, valid-word}
+use Rattle.legality.proofs.CellKinds.{target-cell, direct-cell, not-indirect, valid-word}
+use Rattle.legality.proofs.Machines.{global-in}
+use Rattle.legality.proofs.Legal.{direct-allowed}
 use Rattle.legality.proofs.Frames.{downward-length, part-length, downward-seen, part-seen}
 use Rattle.legality.proofs.Stacked.{Stacked, stacked, variable-low, variable-seen, variable-word, variable-in, look-is}
 
@@ -39,6 +41,9 @@ module _ (s : List ℕ) where
   global-word g l h =
       let e : 8 + (g - 8) ≡ g = omega arith in
       rw e at (global-at (g - 8) (omega arith))
+
+  pub look-global : (g : ℕ) → 8 ≤ g → g < blockptr s → look undefined (Global (segment g)) (view s) ≡ cell s (getD s g 0)
+  look-global g l h = rw (global-in (view s .globals) g l) (global-word g l h)
 
   pub temporaries-length : length (view s .temporaries) ≡ ltop s - (lbase s + 1)
   unfolding view words
@@ -78,7 +83,7 @@ module _ (s regular other older : List ℕ) (chain : onWords.Chain s regular oth
           word = e;
           low = h .names .0;
           high = k;
-          direct = not-indirect s (getD s (g .0) 0) (subst Direct (global-word s (g .0) (h .names .0) k) (h .direct));
+          direct = not-indirect s (getD s (g .0) 0) (subst Direct (look-global s (g .0) (h .names .0) k) (h .direct));
         }))
     points-word w (Local a) e h =
         let v = variable-word s regular other t (a .0) (h .names) in
@@ -104,7 +109,7 @@ module _ (s regular other older : List ℕ) (chain : onWords.Chain s regular oth
           let e : cell s w ≡ indirect (Global (segment (g .target))) = ap (cell s) (g .word) ∙ target-cell s (Global (segment (g .target))) (omega (arith, g .high)) in
           subst (Allowed regular other (view s) l) (sym e) (record {
             names = (g .low, omega (arith, g .high, globals-length s));
-            direct = subst Direct (sym (global-word s (g .target) (g .low) (g .high))) (direct-cell s A (getD s (g .target) 0) (globals (g .target) (g .low) (g .high)));
+            direct = subst Direct (sym (look-global s (g .target) (g .low) (g .high))) (direct-cell s A (getD s (g .target) 0) (globals (g .target) (g .low) (g .high)));
           })
       word-allowed globals variables w (inr (inr v)) =
           let e : cell s w ≡ indirect (Local (stack (v .target))) = ap (cell s) (v .word) ∙ target-cell s (Local (stack (v .target))) (fits (v .target) (v .variable)) in

@@ -2,10 +2,9 @@
 use Prim.Native.Nat.{ℕ, zero, suc, _+_, _*_, _/_, _%_, _^_, _≤_, _<_}
 use mathlib.Core.Path.{_≡_, refl, sym}
 use mathlib.Core.Bool.{Bool, true, false, true≢false}
-use mathlib.Core.Logic.{⊎-elim}
 use mathlib.Core.List.{List, [], _∷_, _++_}
 use native.Mathlib.Omega.{arith}
-use lib.ListN.{getD, length, drop, replicate, length-append, length-replicate, List·getD-eq-default}
+use lib.ListN.{getD, length, drop, replicate, length-append, length-replicate}
 use lib.Seq.{getD-drop}
 use Rattle.descriptor.specs.declared.Target.{Target}
 use Rattle.descriptor.specs.declared.Target.the-variants.{Local, Global}
@@ -13,22 +12,17 @@ use Rattle.segment.specs.Cells.{Cell, undefined}
 use Rattle.segment.specs.Machine.{Frame, Machine}
 use Rattle.manual.specs.Effects.{lookFrames, look, put, withTemporaries, replace, discard, swapped, swap, enter, currentCells, older, pushIf, leave, jumpFrames, jump, setOrigin}
 use Rattle.manual.specs.Seen.{noOlder}
-use Rattle.storage_theorems.proofs.Counts.{order}
 use Rattle.acceptance.specs.Frames.{known, arguments, variables}
-use Rattle.legality.specs.Legal.{Direct, VariableOf, Names, Allowed, LegalFrame, LegalFrames, bottom, upon, Legal}
-use Rattle.legality.proofs.Alike.{look-below, LikeFrames, same-cells, same-frames, variable-low, upon-on, StayDirect, frames-on, allowed-on, Like, like-legal}
+use Rattle.effects.specs.Fits.{InFrames, AddressableIn}
+use Rattle.legality.specs.Legal.{Direct, Allowed, LegalFrame, LegalFrames, bottom, upon, Legal}
+use Rattle.legality.proofs.Machines.{look-below, in-depth}
+use Rattle.legality.proofs.Legal.{Every, every, upon-on, names-in}
+use Rattle.legality.proofs.Alike.{LikeFrames, same-cells, same-frames, StayDirect, frames-on, allowed-on, Like, like-legal}
 use Rattle.legality.proofs.Stored.{put-like}
 
 -- ---- lists of cells
 
--- Such are all cells of a list; `undefined` is what stands past its end.
-abbrev pub Every : (Cell → Type 0) → List Cell → Type 0
-Every P l = (i : ℕ) → P (getD l i undefined)
-
 module _ (P : Cell → Type 0) where
-  pub every : P undefined → (l : List Cell) → ((i : ℕ) → i < length l → P (getD l i undefined)) → Every P l
-  every none l h i = ⊎-elim (λ (b : length l ≤ i). rw (List·getD-eq-default l undefined b) none) (λ b. h i b) (order (length l) i)
-
   every-cons : (c : Cell) (l : List Cell) → P c → Every P l → Every P (c ∷ l)
   every-cons c l p h zero = p
   every-cons c l p h (suc i) = h i
@@ -59,35 +53,32 @@ new-local (suc n) l (suc i) b = new-local n l i (omega arith)
 abbrev entered : ℕ → ℕ → Machine Cell → Frame Cell
 entered n f m = record { function = f / 2 ^ 16; pctr = f % 2 ^ 16; cells = replicate n undefined ++ m .temporaries }
 
-pub enter-look : (regular other : List ℕ) (n f : ℕ) (m : Machine Cell) (t : Target) → Names regular other m (m .frames) t
-    → look undefined t (enter undefined n f m) ≡ look undefined t m
-enter-look regular other n f m (Global x) h = refl
-enter-look regular other n f m (Local a) h =
-    look-below (a .0) (entered n f m) (m .frames) (variable-low regular other (a .0) (m .frames) h)
+enter-look : (n f : ℕ) (m : Machine Cell) (t : Target) → AddressableIn t m → look undefined t (enter undefined n f m) ≡ look undefined t m
+enter-look n f m (Global x) h = refl
+enter-look n f m (Local a) h = look-below (a .0) undefined (entered n f m) (m .frames) (in-depth (a .0) (m .frames) h)
 
-older-look : (regular other : List ℕ) (a : ℕ) (l : List (Frame Cell)) → VariableOf regular other (older l) a
-    → lookFrames undefined a (older l) ≡ lookFrames undefined a l
-older-look regular other a [] h = refl
-older-look regular other a (r ∷ l) h = sym (look-below a r l (variable-low regular other a l h))
+older-look : (a : ℕ) (l : List (Frame Cell)) → InFrames a (older l) → lookFrames undefined a (older l) ≡ lookFrames undefined a l
+older-look a [] h = refl
+older-look a (r ∷ l) h = sym (look-below a undefined r l (in-depth a l h))
 
-pub leave-look : (regular other : List ℕ) (n : ℕ) (result : Bool) (m : Machine Cell) (t : Target) → Names regular other m (older (m .frames)) t
+leave-look : (n : ℕ) (result : Bool) (m : Machine Cell) (t : Target) → AddressableIn t (leave undefined n result m)
     → look undefined t (leave undefined n result m) ≡ look undefined t m
-leave-look regular other n result m (Global x) h = refl
-leave-look regular other n result m (Local a) h = older-look regular other (a .0) (m .frames) h
+leave-look n result m (Global x) h = refl
+leave-look n result m (Local a) h = older-look (a .0) (m .frames) h
 
 -- ---- each effect
 
-pub jump-like : (place : ℕ) (m : Machine Cell) → Like m (jump place m)
+jump-like : (place : ℕ) (m : Machine Cell) → Like m (jump place m)
 jump-like place m = record { frames = jumped (m .frames); globals = same-cells (m .globals) }
   where
     jumped : (l : List (Frame Cell)) → LikeFrames l (jumpFrames place l)
     jumped [] = tt
     jumped (r ∷ l) = (record { function = refl; cells = same-cells (r .cells) }, same-frames l)
 
-pub origin-like : (v : ℕ) (m : Machine Cell) → Like m (setOrigin v m)
+origin-like : (v : ℕ) (m : Machine Cell) → Like m (setOrigin v m)
 origin-like v m = record { frames = same-frames (m .frames); globals = same-cells (m .globals) }
 
-pub with-like : (ts : List Cell) (m : Machine Cell) → Like m (withTemporaries ts m)
+with-like : (ts : List Cell) (m : Machine Cell) → Like m (withTemporaries ts m)
 with-like ts m = record { frames = same-frames (m .frames); globals = same-cells (m .globals) }
 
 -- The function of a new frame is known, and its arguments stand on the stack.
@@ -131,7 +122,7 @@ module _ {regular other : List ℕ} {m : Machine Cell} (g : Legal regular other 
   pub enter-kept : (n f : ℕ) → CanEnter regular other n f m → Legal regular other (enter undefined n f m)
   enter-kept n f e =
       let after = enter undefined n f m in
-      let stay : StayDirect regular other m after refl (m .frames) = λ t h d. rw (enter-look regular other n f m t h) d in
+      let stay : StayDirect regular other m after refl (m .frames) = λ t h d. rw (enter-look n f m t (names-in m (g .frames) refl t h)) d in
       let run = length-replicate n undefined in
       let new : LegalFrame regular other after (entered n f m) (m .frames) = record {
         function = e .function;
@@ -141,7 +132,7 @@ module _ {regular other : List ℕ} {m : Machine Cell} (g : Legal regular other 
             (getD (replicate n undefined ++ m .temporaries) i undefined) (every-run Pushable n (m .temporaries) tt operands-allowed i);
       } in
       record {
-        frames = upon-on regular other new (frames-on regular other m after refl (g .frames) (m .frames) (same-frames (m .frames)) stay);
+        frames = upon-on new (frames-on regular other m after refl (g .frames) (m .frames) (same-frames (m .frames)) stay);
         globals = g .globals;
         temporaries = λ i b. absurd (omega arith);
       }
@@ -157,8 +148,8 @@ module _ {regular other : List ℕ} {m : Machine Cell} (g : Legal regular other 
       let after = leave undefined n result m in
       let cells = currentCells (m .frames) in
       let rest = older (m .frames) in
-      let stay : StayDirect regular other m after refl rest = λ t h d. rw (leave-look regular other n result m t h) d in
       let u = under (g .frames) e in
+      let stay : StayDirect regular other m after refl rest = λ t h d. rw (leave-look n result m t (names-in after (u .0) refl t h)) d in
       let P : Cell → Type 0 = λ c. Allowed regular other m rest c in
       record {
         frames = frames-on regular other m after refl (u .0) rest (same-frames rest) stay;

@@ -21,6 +21,7 @@ use Rattle.effects.specs.Sound.{Chain}
 use Rattle.effects.specs.Sound as sound
 use Rattle.legality.specs.Legal.{functionWord, Direct, Allowed, LegalFrame, LegalFrames, bottom, upon}
 use Rattle.legality.specs.Accepted.{Whole}
+use Rattle.legality.proofs.Legal.{first}
 use Rattle.legality.proofs.FunctionWord.{same-known, same-arguments, same-variables, most-arguments}
 use Rattle.legality.proofs.CellKinds.{direct-word}
 use Rattle.legality.proofs.Frames.{seenFrames, seenFrame, frame-length, frame-word, seen-bottom, seen-upon}
@@ -31,10 +32,6 @@ use Rattle.legality.proofs.Owners.{bottom-holds, first-holds, older-hol
 -- ---- legal frames taken apart
 
 module _ {regular other : List ℕ} {m : Machine Cell} {r : Frame Cell} where
-  first : {l : List (Frame Cell)} → LegalFrames regular other m (r ∷ l) → LegalFrame regular other m r l
-  first (bottom f e) = f
-  first (upon f t) = f
-
   alone : LegalFrames regular other m (r ∷ []) → length (r .cells) ≡ variables regular other (functionWord r)
   alone (bottom f e) = e
 

@@ -1,6 +1,6 @@
 -- Every effect of a plan meets a machine where it may be performed.
 use Prim.Native.Nat.{ℕ, _%_, _^_, _<_}
-use mathlib.Core.Path.{_≡_, refl, sym, subst}
+use mathlib.Core.Path.{_≡_, sym, subst}
 use mathlib.Core.Bool.{Bool, true, false, cond}
 use mathlib.Core.List.{List}
 use native.Mathlib.Omega.{arith}
@@ -22,7 +22,7 @@ use Rattle.manual.specs.Cases.{OfPlan, Reaches, calledBy, Calling, Pushed, ofLo
 use Rattle.manual.proofs.Cases.{plan-cases}
 use Rattle.legality.specs.Legal.{Direct, Leads, Allowed, Legal}
 use Rattle.legality.specs.Kept.{RunsIn}
-use Rattle.legality.proofs.Alike.{direct-allowed}
+use Rattle.legality.proofs.Legal.{direct-allowed}
 use Rattle.legality.proofs.Effects.{CanEnter}
 use Rattle.legality.proofs.Steps.{AllMeet}
 use Rattle.legality.proofs.Resolved.{reached-leads}
@@ -82,16 +82,16 @@ module _ {regular other : List ℕ} {m : Machine Cell} (g : Legal regular other 
       (record {
         unresolved = λ a class number e. tt;
         stopped = λ class number l. tt;
-        pushed = λ p r. (pushed-allowed p, tt, (tt, tt, tt));
-        result = λ {n} {v} r o c. (result-allowed v, tt, (tt, tt, tt));
-        origin = λ a b e c p t. (bit-small b, tt, (tt, tt, (tt, tt, tt)));
-        assigned = λ a x v e r c p. ((reached a x r .names, value-direct (seen .operand 0) v p), tt, (tt, tt, tt));
-        assignedNoResult = λ a x v e r c p. ((reached a x r .names, value-direct (seen .operand 0) v p), tt, (tt, tt, (tt, tt, tt)));
-        assignedElement = λ rank a x k e c p. let q = reached a x (p .reaches) in ((q .names, q .direct), tt, (tt, tt, tt));
-        interchanged = λ e c. (tt, tt, (tt, tt, tt));
-        gone = λ t. (tt, tt, tt);
-        dropped = λ c t. (tt, tt, (tt, tt, tt));
-        left = λ l. (l .below, refl, tt);
-        leftDropping = λ c l. (tt, tt, (l .below, refl, tt));
-        entered = λ arguments alternate number e c. (tt, tt, (called next arguments alternate number c, tt, tt));
+        pushed = λ p r. (pushed-allowed p, (tt, tt));
+        result = λ {n} {v} r o c. (result-allowed v, (tt, tt));
+        origin = λ a b e c p t. (bit-small b, (tt, (tt, tt)));
+        assigned = λ a x v e r c p. (value-direct (seen .operand 0) v p, (tt, tt));
+        assignedNoResult = λ a x v e r c p. (value-direct (seen .operand 0) v p, (tt, (tt, tt)));
+        assignedElement = λ rank a x k e c p. (reached a x (p .reaches) .direct, (tt, tt));
+        interchanged = λ e c. (tt, (tt, tt));
+        gone = λ t. (tt, tt);
+        dropped = λ c t. (tt, (tt, tt));
+        left = λ l. (l .below, tt);
+        leftDropping = λ c l. (tt, (l .below, tt));
+        entered = λ arguments alternate number e c. (tt, (called next arguments alternate number c, tt));
       }))
