@@ -10,13 +10,13 @@ use Rattle.segment.specs.Cells.{Cell, undefined}
 use Rattle.segment.specs.Machine.{Frame, Machine}
 use Rattle.segment.specs.View.{view}
 use Rattle.manual.specs.Effects as manual
-use Rattle.manual.specs.Effects.{NoneStoresTo, StoresTo, Effect, replaces, discards, swaps, stores, storesElement, enters, leaves, jumps, setsOrigin, look, performOn}
+use Rattle.manual.specs.Effects.{NoneStoresTo, StoresTo, Effect, replaces, discards, swaps, stores, storesElement, enters, leaves, jumps, setsOrigin, look, performOn, InFrames, AddressableIn}
+use Rattle.manual.proofs.Cellwise.{look-below, in-depth, look-other}
 use Rattle.effects.specs.Perform.{perform, performs, isFull, firstFull}
 use Rattle.effects.specs.Sound.{Sound}
-use Rattle.effects.specs.Fits.{InFrames, AddressableIn, Addressable, Fits}
+use Rattle.effects.specs.Fits.{Addressable, Fits}
 use Rattle.effects.specs.Requests.{AllFit, OneRequest}
 use Rattle.effects_theorems.specs.Theorems.{StandsThrough}
-use Rattle.effects_theorems.proofs.Cellwise.{look-below, in-depth, look-other}
 use Rattle.effects_theorems.proofs.Variables.{in-view}
 use Rattle.effects_theorems.proofs.Effects.{perform-theorem}
 use Rattle.effects_theorems.proofs.Lists.{AllServed, all-served}

@@ -12,15 +12,15 @@ use Rattle.segment.specs.Cells.{Cell, undefined}
 use Rattle.segment.specs.Machine.{Frame, Machine}
 use Rattle.segment.specs.View.{view}
 use Rattle.manual.specs.Effects as manual
-use Rattle.manual.specs.Effects.{Effect, replaces, discards, swaps, stores, storesElement, enters, leaves, jumps, setsOrigin, performOn}
+use Rattle.manual.specs.Effects.{Effect, replaces, discards, swaps, stores, storesElement, enters, leaves, jumps, setsOrigin, performOn, InFrames, AddressableIn}
+use Rattle.manual.proofs.Cellwise.{in-put}
 use Rattle.storage_theorems.proofs.Ways.{decide}
 use Rattle.effects.specs.Perform.{perform, performs, isFull, firstFull}
 use Rattle.effects.specs.Sound.{Sound}
-use Rattle.effects.specs.Fits.{InFrames, AddressableIn, Addressable, Fits}
+use Rattle.effects.specs.Fits.{Addressable, Fits}
 use Rattle.effects.specs.Requests.{AllFit, OneRequest}
 use Rattle.effects_theorems.specs.Theorems.{StandsThrough, entersFrame, leavesFrame, NoneEnters, EntersFirst}
 use Rattle.effects_theorems.proofs.Tests.{never}
-use Rattle.effects_theorems.proofs.Cellwise.{in-put}
 use Rattle.effects_theorems.proofs.Variables.{in-view}
 use Rattle.effects_theorems.proofs.Effects.{perform-theorem}
 use Rattle.effects_theorems.proofs.Lists.{AllServed, all-served}

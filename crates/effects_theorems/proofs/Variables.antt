@@ -16,7 +16,8 @@ use Rattle.segment.specs.Cells.{Cell, undefined, cell}
 use Rattle.storage.specs.Heap.{count}
 use Rattle.segment.specs.Machine.{Machine, mapMachine, allCells, depthOfFrames}
 use Rattle.segment.specs.View.{framesFrom, words, owners, view}
-use Rattle.manual.specs.Effects.{indexIn, look, putFrames, put}
+use Rattle.manual.specs.Effects.{indexIn, look, putFrames, put, InFrames, AddressableIn}
+use Rattle.manual.proofs.Cellwise.{put-here, put-below, look-put, map-look, in-map}
 use Rattle.storage_theorems.proofs.Counts.{order, hit-same, hit-cases}
 use Rattle.storage_theorems.proofs.Cells.{part-same}
 use Rattle.storage_theorems.proofs.Steps.{downward-same}
@@ -24,12 +25,11 @@ use Rattle.storage_theorems.proofs.Element.{part-set}
 use Rattle.effects.specs.Sources.{addressOf, heldAt, operandAt}
 use Rattle.effects.specs.Seen.{temporaries}
 use Rattle.effects.specs.Sound.{Chain, bottom, upon, Sound}
-use Rattle.effects.specs.Fits.{InFrames, AddressableIn, Addressable}
-use Rattle.effects_theorems.proofs.Machines.{cells-count, count-getD}
+use Rattle.effects.specs.Fits.{Addressable}
+use Rattle.effects_theorems.proofs.Counts.{cells-count, count-getD, count-put}
 use Rattle.effects_theorems.proofs.Cells.{undefined-cell}
 use Rattle.effects_theorems.proofs.Frames.{downward-length, part-length, frame, frames-bottom, frames-next, frames-same, chain-same, depth-is}
 use Rattle.effects_theorems.proofs.Sound.{bounds}
-use Rattle.effects_theorems.proofs.Cellwise.{put-here, put-below, count-put, look-put, map-look, in-map}
 
 downward-set : (s : List ℕ) (a n j w : ℕ) → j < n → a + n ≤ length s → downward (set s (a + n - 1 - j) w) a n ≡ set (downward s a n) j w
 downward-set s a zero j w h l = absurd (omega arith)

@@ -13,7 +13,7 @@ use Rattle.manual.specs.Effects.{indexIn, globalIndex, lookFrames, look}
 use Rattle.storage_theorems.proofs.Counts.{order}
 use Rattle.acceptance.specs.Frames.{known, arguments, variables}
 use Rattle.legality.specs.Legal.{functionWord, Direct, VariableOf, Names, Allowed, LegalFrame, LegalFrames, bottom, upon, Legal}
-use Rattle.legality.proofs.Machines.{look-here, look-below, index-same, global-same}
+use Rattle.manual.proofs.Cellwise.{look-here, look-below, index-same, global-same}
 use Rattle.legality.proofs.Legal.{names-more, direct-allowed, upon-on}
 
 -- ---- alike

@@ -10,12 +10,11 @@ use Rattle.descriptor.specs.declared.Target.{Target}
 use Rattle.descriptor.specs.declared.Target.the-variants.{Local, Global}
 use Rattle.segment.specs.Cells.{Cell, undefined}
 use Rattle.segment.specs.Machine.{Frame, Machine}
-use Rattle.manual.specs.Effects.{lookFrames, look, put, withTemporaries, replace, discard, swapped, swap, enter, currentCells, older, pushIf, leave, jumpFrames, jump, setOrigin}
+use Rattle.manual.specs.Effects.{InFrames, AddressableIn, lookFrames, look, put, withTemporaries, replace, discard, swapped, swap, enter, currentCells, older, pushIf, leave, jumpFrames, jump, setOrigin}
 use Rattle.manual.specs.Seen.{noOlder}
 use Rattle.acceptance.specs.Frames.{known, arguments, variables}
-use Rattle.effects.specs.Fits.{InFrames, AddressableIn}
 use Rattle.legality.specs.Legal.{Direct, Allowed, LegalFrame, LegalFrames, bottom, upon, Legal}
-use Rattle.legality.proofs.Machines.{look-below, in-depth}
+use Rattle.manual.proofs.Cellwise.{look-below, in-depth}
 use Rattle.legality.proofs.Legal.{Every, every, upon-on, names-in}
 use Rattle.legality.proofs.Alike.{LikeFrames, same-cells, same-frames, StayDirect, frames-on, allowed-on, Like, like-legal}
 use Rattle.legality.proofs.Stored.{put-like}

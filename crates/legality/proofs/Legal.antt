@@ -10,11 +10,10 @@ use Rattle.descriptor.specs.declared.Target.{Target}
 use Rattle.descriptor.specs.declared.Target.the-variants.{Local, Global}
 use Rattle.segment.specs.Cells.{Cell, undefined, indirect, value, invalid}
 use Rattle.segment.specs.Machine.{Frame, Machine, depthOfFrames}
-use Rattle.manual.specs.Effects.{indexIn, globalIndex, lookFrames, look}
+use Rattle.manual.specs.Effects.{InFrames, AddressableIn, indexIn, globalIndex, lookFrames, look}
 use Rattle.storage_theorems.proofs.Counts.{order}
-use Rattle.effects.specs.Fits.{InFrames, AddressableIn}
 use Rattle.legality.specs.Legal.{Direct, VariableOf, Names, Allowed, LegalFrame, LegalFrames, bottom, upon, Legal}
-use Rattle.legality.proofs.Machines.{look-here, look-below}
+use Rattle.manual.proofs.Cellwise.{look-here, look-below}
 
 -- ---- lists of cells
 

@@ -1,5 +1,4 @@
 -- Accepted segments and legal machines: from words to cells and back; laws of legal machines, and the theorems of specs/.
-pub mod Machines
 pub mod Legal
 pub mod FunctionWord
 pub mod CellKinds

@@ -17,8 +17,8 @@ use Rattle.procedure.specs.Accepted as table
 use Rattle.procedure.proofs.Accepting.{acceptance}
 use Rattle.segment.specs.View.{words, view}
 use Rattle.effects.specs.Sources.{heldAt}
-use Rattle.manual.specs.Effects.{look}
-use Rattle.effects.specs.Fits.{AddressableIn, Addressable}
+use Rattle.manual.specs.Effects.{AddressableIn, look}
+use Rattle.effects.specs.Fits.{Addressable}
 use Rattle.effects.specs.Alike.{HasFrame}
 use Rattle.acceptance_storage.proofs.Tests.{never, both}
 use Rattle.acceptance.specs.Frames.{segmentOf, known, variables}
@@ -26,7 +26,8 @@ use Rattle.acceptance.specs.Structure.{Chain, Accepted}
 use Rattle.legality.specs.Accepted.{currentVariables, currentResult}
 use Rattle.legality.proofs.Stacked.{current-room}
 use Rattle.legality.proofs.Cells.{globals-length, look-global, whole, look-local}
-use Rattle.legality.proofs.Machines.{in-map, current-map}
+use Rattle.manual.proofs.Machines.{current-map}
+use Rattle.manual.proofs.Cellwise.{in-map}
 use Rattle.legality.proofs.Legal.{held-in}
 use Rattle.legality.proofs.Split.{split}
 

@@ -8,12 +8,11 @@ use lib.ListN.{length}
 use Rattle.segment.specs.Stack.{stackAt, codeWordAt}
 use Rattle.segment.specs.Cells.{Cell, undefined, cell}
 use Rattle.segment.specs.Machine.{Frame, depthOfFrames}
-use Rattle.manual.specs.Effects.{indexIn, lookFrames, currentCells}
-use Rattle.effects.specs.Fits.{InFrames}
+use Rattle.manual.specs.Effects.{indexIn, lookFrames, currentCells, InFrames}
 use Rattle.acceptance.specs.Frames.{variables}
 use Rattle.acceptance.specs.Structure as onWords
 use Rattle.legality.specs.Legal.{VariableOf}
-use Rattle.legality.proofs.Machines.{look-here, look-below, index-in, in-depth}
+use Rattle.manual.proofs.Cellwise.{look-here, look-below, index-in, in-depth}
 use Rattle.legality.proofs.FunctionWord.{same-variables}
 use Rattle.legality.proofs.Frames.{seenFrames, seenFrame, frame-length, frame-word, seen-bottom, seen-upon}
 

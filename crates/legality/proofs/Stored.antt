@@ -11,7 +11,7 @@ use Rattle.segment.specs.Machine.{Frame, Machine, depthOfFrames}
 use Rattle.manual.specs.Effects.{indexIn, globalIndex, putFrames, put}
 use Rattle.storage_theorems.proofs.Counts.{order}
 use Rattle.legality.specs.Legal.{Direct}
-use Rattle.legality.proofs.Machines.{put-here, put-below}
+use Rattle.manual.proofs.Cellwise.{put-here, put-below}
 use Rattle.legality.proofs.Alike.{LikeCells, LikeFrames, same-cells, same-frames, Like}
 
 set-each : (l : List Cell) (j i : ℕ) (c : Cell) → Direct c

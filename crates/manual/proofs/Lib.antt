@@ -1,4 +1,6 @@
--- The one walk over all plans, and the theorem that a plan's trap is one of the table.
+-- Laws of machines of cells; the one walk over all plans, and the theorem that a plan's trap is one of the table.
+pub mod Machines
+pub mod Cellwise
 pub mod Lists
 pub mod Operators
 pub mod Values
