@@ -228,7 +228,7 @@ module _ (s : List ℕ) (g : Sound s) (n f : ℕ) (fit : sbase s + ltop s + n + 
   enter-sound = rw enter-is sound2
 
   enter-map : {A : Type 0} (h : ℕ → A) (m : Machine ℕ) → mapMachine h (manual.enter undefinedWord n f m) ≡ manual.enter (h undefinedWord) n f (mapMachine h m)
-  enter-map h m = rw (map-run n undefinedWord (m .temporaries) h)
+  enter-map h m = rw (map-run h n undefinedWord (m .temporaries))
 
   view2 : view s2 ≡ manual.enter undefined n f (view s)
   unfolding view

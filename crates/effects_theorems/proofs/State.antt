@@ -104,7 +104,7 @@ module _ (s : List ℕ) (g : Sound s) (place : ℕ) (small : place < 2 ^ 16) whe
   unfolding setPctr view
   jump-view =
       ap (mapMachine (cell s′)) jumped-words
-      ∙ rw (jump-map place (cell s′) (words s .frames))
+      ∙ rw (map-jump (cell s′) place (words s .frames))
       (ap (manual.jump place) (machine-agree (cell s′) (cell s) (words s) (λ w k. cell-elsewhere moved (g .own) w k)))
 
 -- the flags, or the trap's word

@@ -1,6 +1,7 @@
 -- Laws of machines of cells; the one walk over all plans, and the theorem that a plan's trap is one of the table.
 pub mod Machines
 pub mod Cellwise
+pub mod Performed
 pub mod Lists
 pub mod Operators
 pub mod Values
