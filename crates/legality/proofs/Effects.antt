@@ -10,11 +10,11 @@ use Rattle.descriptor.specs.declared.Target.{Target}
 use Rattle.descriptor.specs.declared.Target.the-variants.{Local, Global}
 use Rattle.segment.specs.Cells.{Cell, undefined}
 use Rattle.segment.specs.Machine.{Frame, Machine}
-use Rattle.manual.specs.Effects.{InFrames, AddressableIn, lookFrames, look, put, withTemporaries, replace, discard, swapped, swap, enter, currentCells, older, pushIf, leave, jumpFrames, jump, setOrigin}
+use Rattle.manual.specs.Effects.{put, withTemporaries, replace, discard, swapped, swap, enter, currentCells, older, pushIf, leave, jumpFrames, jump, setOrigin}
 use Rattle.manual.specs.Seen.{noOlder}
 use Rattle.acceptance.specs.Frames.{known, arguments, variables}
 use Rattle.legality.specs.Legal.{Direct, Allowed, LegalFrame, LegalFrames, bottom, upon, Legal}
-use Rattle.manual.proofs.Cellwise.{look-below, in-depth}
+use Rattle.manual.proofs.Performed.{enter-look, leave-look}
 use Rattle.legality.proofs.Legal.{Every, every, upon-on, names-in}
 use Rattle.legality.proofs.Alike.{LikeFrames, same-cells, same-frames, StayDirect, frames-on, allowed-on, Like, like-legal}
 use Rattle.legality.proofs.Stored.{put-like}
@@ -47,24 +47,6 @@ new-local zero l i b = absurd (omega arith)
 new-local (suc n) l zero b = tt
 new-local (suc n) l (suc i) b = new-local n l i (omega arith)
 
--- ---- what is looked at
-
-abbrev entered : ℕ → ℕ → Machine Cell → Frame Cell
-entered n f m = record { function = f / 2 ^ 16; pctr = f % 2 ^ 16; cells = replicate n undefined ++ m .temporaries }
-
-enter-look : (n f : ℕ) (m : Machine Cell) (t : Target) → AddressableIn t m → look undefined t (enter undefined n f m) ≡ look undefined t m
-enter-look n f m (Global x) h = refl
-enter-look n f m (Local a) h = look-below (a .0) undefined (entered n f m) (m .frames) (in-depth (a .0) (m .frames) h)
-
-older-look : (a : ℕ) (l : List (Frame Cell)) → InFrames a (older l) → lookFrames undefined a (older l) ≡ lookFrames undefined a l
-older-look a [] h = refl
-older-look a (r ∷ l) h = sym (look-below a undefined r l (in-depth a l h))
-
-leave-look : (n : ℕ) (result : Bool) (m : Machine Cell) (t : Target) → AddressableIn t (leave undefined n result m)
-    → look undefined t (leave undefined n result m) ≡ look undefined t m
-leave-look n result m (Global x) h = refl
-leave-look n result m (Local a) h = older-look (a .0) (m .frames) h
-
 -- ---- each effect
 
 jump-like : (place : ℕ) (m : Machine Cell) → Like m (jump place m)
@@ -79,6 +61,9 @@ origin-like v m = record { frames = same-frames (m .frames); globals = same-cell
 
 with-like : (ts : List Cell) (m : Machine Cell) → Like m (withTemporaries ts m)
 with-like ts m = record { frames = same-frames (m .frames); globals = same-cells (m .globals) }
+
+abbrev entered : ℕ → ℕ → Machine Cell → Frame Cell
+entered n f m = record { function = f / 2 ^ 16; pctr = f % 2 ^ 16; cells = replicate n undefined ++ m .temporaries }
 
 -- The function of a new frame is known, and its arguments stand on the stack.
 pub record CanEnter (regular other : List ℕ) (n f : ℕ) (m : Machine Cell) : Type 0 where
@@ -121,7 +106,7 @@ module _ {regular other : List ℕ} {m : Machine Cell} (g : Legal regular other 
   pub enter-kept : (n f : ℕ) → CanEnter regular other n f m → Legal regular other (enter undefined n f m)
   enter-kept n f e =
       let after = enter undefined n f m in
-      let stay : StayDirect regular other m after refl (m .frames) = λ t h d. rw (enter-look n f m t (names-in m (g .frames) refl t h)) d in
+      let stay : StayDirect regular other m after refl (m .frames) = λ t h d. rw (enter-look undefined n f t m (names-in m (g .frames) refl t h)) d in
       let run = length-replicate n undefined in
       let new : LegalFrame regular other after (entered n f m) (m .frames) = record {
         function = e .function;
@@ -148,7 +133,7 @@ module _ {regular other : List ℕ} {m : Machine Cell} (g : Legal regular other 
       let cells = currentCells (m .frames) in
       let rest = older (m .frames) in
       let u = under (g .frames) e in
-      let stay : StayDirect regular other m after refl rest = λ t h d. rw (leave-look n result m t (names-in after (u .0) refl t h)) d in
+      let stay : StayDirect regular other m after refl rest = λ t h d. rw (leave-look undefined n result t m (names-in after (u .0) refl t h)) d in
       let P : Cell → Type 0 = λ c. Allowed regular other m rest c in
       record {
         frames = frames-on regular other m after refl (u .0) rest (same-frames rest) stay;
