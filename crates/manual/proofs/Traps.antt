@@ -22,7 +22,7 @@ use Rattle.manual.specs.Instructions.{Running, headerOf, codeIn, resolve
 use Rattle.manual.specs.Traps.{Line, table, among, listed, InTable, Addressed, Trapping, TrapsListed}
 use Rattle.manual.proofs.Lists.{Listed, in-table}
 use Rattle.manual.proofs.Variables.{local-listed, global-listed}
-use Rattle.manual.proofs.Decoding.{DecodedListed, instruction-listed}
+use Rattle.manual.proofs.Decoding.{Decodes, instruction-decodes}
 use Rattle.manual.proofs.Cases.{plan-cases}
 
 never : false ≡ true → ⊥
@@ -54,14 +54,14 @@ plan-listed f seen h i next =
       entered = λ arguments alternate number e c. tt;
     })
 
-decoded-listed : (f : Running) (seen : Seen) → Addressed seen → (d : Decoded) → DecodedListed d → Listed (planDecoded f seen d)
+decoded-listed : (f : Running) (seen : Seen) → Addressed seen → (d : Decoded) → Decodes (λ w. Unit {0}) d → Listed (planDecoded f seen d)
 decoded-listed f seen h (D.Instruction i next) l = plan-listed f seen h i (next .0)
 decoded-listed f seen h (D.Trap class number) l = l
 
 place-listed : (f : Running) (seen : Seen) → Addressed seen → (place : ℕ) → Listed (planAt f seen place)
 unfolding planAt
 place-listed f seen h place =
-    decoded-listed f seen h (instructionAt (codeIn f) place) (instruction-listed (codeIn f) place)
+    decoded-listed f seen h (instructionAt (codeIn f) place) (instruction-decodes (codeIn f) (λ w. Unit {0}) (λ c w next e. tt) place)
 
 -- ---- those that the table does not have
 
