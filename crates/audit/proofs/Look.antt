@@ -26,7 +26,8 @@ use Rattle.effects_theorems.proofs.Tests.{never}
 use Rattle.effects_theorems.proofs.Reading.{read-cell}
 use Rattle.plan_theorems.proofs.Given.{and-true}
 use Rattle.legality.specs.Legal.{Direct}
-use Rattle.legality.proofs.Cells.{globals-length, global-word}
+use Rattle.legality.proofs.Legal.{global-direct}
+use Rattle.legality.proofs.Cells.{look-global}
 use Rattle.legality.proofs.Owners.{global-owns}
 use Rattle.legality.proofs.Accepted.{legal-theorems}
 use Rattle.step_theorems.proofs.Again.{sound-of}
@@ -120,12 +121,10 @@ module _ (s : List ℕ) (p : Procedures) (g : ℕ) where
 
       held-is : held s g ≡ cellOfKind s v (kindOf v)
       unfolding cell
-      held-is = let b = global-within s g k in global-word s g (b .0) (b .1)
+      held-is = let b = global-within s g k in look-global s g (b .0) (b .1)
 
       held-direct : Direct (held s g)
-      held-direct =
-          let b = global-within s g k in
-          legal-theorems .split s (p .regular) (p .alternate) start .legal .globals (g - 8) (omega (arith, b, globals-length s))
+      held-direct = global-direct (legal-theorems .split s (p .regular) (p .alternate) start .legal) g
 
       held-read : readKind s v (kindOf v) ≡ cellOfKind s v (kindOf v)
       unfolding read cell

@@ -21,6 +21,7 @@ use Rattle.operations.specs.Run.{Ended, ended, ran}
 use Rattle.audit.specs.Calls.{Procedures, runAnswer, run, LentProcedures}
 use Rattle.audit.specs.Did.{Ran, Did, isRefused, hasRun}
 use Rattle.audit.proofs.Tests.{segment-told}
+use Rattle.audit.proofs.Accepts.{passes-of}
 use Rattle.audit.proofs.Runs.{answerOf, Ready, run-steps, run-ready, run-all, run-full}
 
 same-answer : (r : Answered) → runAnswer (operations.answerOf r) ≡ answerOf r
@@ -54,7 +55,7 @@ module _ (s : List ℕ) (p : Procedures) (budget : ℕ) where
         let steps = run-steps p s (start e) budget in
         let there : 3 < length s = omega (arith, start e .accepted .shortest) in
         let zero : trapWord (set s 3 0) ≡ 0 = rw getD-set-same in
-        record { steps = steps; all = run-all steps zero; full = run-full steps; accepted = run-ready p s (start e) budget .accepted }
+        record { steps = steps; all = run-all steps zero; full = run-full steps; accepted = passes-of (runOf (p .regular) (p .alternate) s budget .words) p (run-ready p s (start e) budget .accepted) }
 
     pub run-did : RunDid (ran s (p .regular) (p .alternate) budget)
     run-did =

@@ -1,6 +1,7 @@
 -- A call of one of the four operations, what it answers, and the table of document 01: "Tests go in table order, save that 20
 -- comes before 19; lay out omits 13–18." A reader must believe: each test is the sentence of its number. Assumes nothing.
 use Prim.Native.Nat.{ℕ}
+use mathlib.Core.Path.{_≡_}
 use mathlib.Core.Bool.{Bool, cond, not, _||_}
 use mathlib.Core.List.{List, [], _∷_, _++_}
 use lib.Dec.{eqb}
@@ -103,6 +104,10 @@ segmentTests s p =
     ∷ test 17 (cellsTest s (p .regular) (p .alternate))
     ∷ test 18 (countsTest s)
     ∷ [])
+
+-- Tests 10–18 pass: the segment is accepted. specs/Accepts says the same as a structure.
+abbrev pub Passes : List ℕ → Procedures → Type 0
+Passes s p = firstFailed (segmentTests s p) ≡ 0
 
 -- The value of a global.
 abbrev pub held : List ℕ → ℕ → Cell

@@ -17,11 +17,11 @@ use Rattle.audit.specs.Table.{coded, laid}
 abbrev pub code : List ℕ
 code = 0xD0 ∷ 0x08 ∷ 0x91 ∷ 0xD0 ∷ 0x09 ∷ 0x40 ∷ 0x00 ∷ 0x40 ∷ 0x02 ∷ 0x81 ∷ 0xD0 ∷ 0x09 ∷ 0xA1 ∷ []
 
-abbrev pub listed : List ℕ
-listed = loaded (laid code) (coded code) (coded code) 8 (3 ∷ []) (10 ∷ 20 ∷ 30 ∷ [])
+abbrev pub withList : List ℕ
+withList = loaded (laid code) (coded code) (coded code) 8 (3 ∷ []) (10 ∷ 20 ∷ 30 ∷ [])
 
 abbrev pub copied : Ended
-copied = ran listed (coded code) (coded code) 2
+copied = ran withList (coded code) (coded code) 2
 
 abbrev pub written : Ended
 written = ran (copied .words) (coded code) (coded code) 4

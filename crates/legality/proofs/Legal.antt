@@ -8,6 +8,7 @@ use native.Mathlib.Omega.{arith}
 use lib.ListN.{getD, length, List·getD-eq-default}
 use Rattle.descriptor.specs.declared.Target.{Target}
 use Rattle.descriptor.specs.declared.Target.the-variants.{Local, Global}
+use Rattle.descriptor.specs.Kinds.{segment}
 use Rattle.segment.specs.Cells.{Cell, undefined, indirect, value, invalid}
 use Rattle.segment.specs.Machine.{Frame, Machine, depthOfFrames}
 use Rattle.manual.specs.Effects.{InFrames, AddressableIn, indexIn, globalIndex, lookFrames, look}
@@ -86,10 +87,11 @@ module _ {regular other : List ℕ} {m : Machine Cell} where
   names-in n h e (Local a) k = variable-in h (a .0) k
 
   module _ (h : Legal regular other m) where
+    pub global-direct : (g : ℕ) → Direct (look undefined (Global (segment g)) m)
+    global-direct g = every Direct tt (m .globals) (h .globals) (globalIndex (m .globals) g)
+
     pub look-allowed : (t : Target) → Allowed regular other m (m .frames) (look undefined t m)
-    look-allowed (Global x) =
-        let i = globalIndex (m .globals) (x .0) in
-        direct-allowed regular other m (m .frames) (getD (m .globals) i undefined) (every Direct tt (m .globals) (h .globals) i)
+    look-allowed (Global x) = direct-allowed regular other m (m .frames) (look undefined (Global x) m) (global-direct (x .0))
     look-allowed (Local a) = frames-allowed (h .frames) (a .0)
 
     -- what a variable names that holds an indirect word
