@@ -1,14 +1,13 @@
 -- The demands: what `Did` and `Step` say of each call and each instruction, and by induction of every list of calls.
 use Prim.Native.Nat.{ℕ, _-_, _≤_}
 use mathlib.Core.Path.{_≡_, refl, sym, _∙_, ap, subst}
-use mathlib.Core.Bool.{Bool, true, false, cond, _&&_}
+use mathlib.Core.Bool.{true, false}
 use mathlib.Core.Logic.{_↔_, _≢_, _⊎_, inl, inr, ⊎-elim}
 use mathlib.Core.List.{List, [], _∷_, map}
 use native.Mathlib.Omega.{arith}
-use lib.Dec.{eqb}
 use lib.ListN.{length}
 use borrow.Author.Tests.{ne-eqb}
-use Rattle.segment.specs.State.{sbase, stepFlag, fcnctrc, fcnrtrc, flags}
+use Rattle.segment.specs.State.{sbase, flags}
 use Rattle.segment.specs.Cells.{Cell}
 use Rattle.segment.specs.View.{view}
 use Rattle.storage_theorems.proofs.HeapTheorems.{heap-theorems}
@@ -17,10 +16,7 @@ use Rattle.manual.specs.OrTrap.{gives, trap}
 use Rattle.manual.specs.Effects.{Effect}
 use Rattle.manual.specs.Traps.{listed}
 use Rattle.effects_theorems.proofs.Tests.{never}
-use Rattle.effects.specs.declared.Outcome.{Outcome as Turn}
-use Rattle.effects.specs.declared.Outcome.the-variants as T
 use Rattle.effects.specs.Carried.{outcomeOf}
-use Rattle.procedure.specs.declared.header.Header.{Header}
 use Rattle.effects.specs.Step.{stepOf}
 use Rattle.step_theorems.specs.Planned.{planned, headerIn}
 use Rattle.step_theorems.proofs.Planned.{plan-listed}
@@ -32,13 +28,13 @@ use Rattle.operations.specs.Answers as operations
 use Rattle.plan_theorems.specs.Fitting.{Words}
 use Rattle.plan_theorems.specs.Lent.{Lent}
 use Rattle.audit.specs.Calls.{Procedures, Call, layOut, run, load, look, Answer, refused, done, ran, trapped, scalar, array, answerOf, runAnswer, lookAnswer, firstFailed, tests, Passes, held, LentProcedures, LentCall}
-use Rattle.audit.specs.Steps.{StepOutcome, trapsBy, finishes, Step, traps, full, does, EffectsDone, inVain, dueAfter}
+use Rattle.audit.specs.Steps.{StepOutcome, trapsBy, finishes, Step, traps, full, does, EffectsDone, inVain}
 use Rattle.audit.specs.Runs.{Runs}
 use Rattle.audit.specs.Did.{LaidOut, Ran, Loaded, Tells, Did, isRefused, isLaidOut, hasRun, isLoaded, hasTold}
 use Rattle.audit.specs.Lists.{refusalOf, Answers, Kept, LoadInVain, FullExactly, Event, Happened, AllLent}
 use Rattle.audit.specs.Demands.{Demand1, Demand2, AllHold, Demand3, Demands}
 use Rattle.audit.proofs.Accepts.{accepted-of, passes-of}
-use Rattle.audit.proofs.Steps.{outcomeFrom, step-done, step-accepted}
+use Rattle.audit.proofs.Steps.{due-small, outcomeFrom, step-done, step-accepted}
 use Rattle.audit.proofs.Runs.{step-left, run-answers, vain-traps}
 use Rattle.audit.proofs.LayOut.{lay-out-did, lay-out-words}
 use Rattle.audit.proofs.Run.{run-did, run-words}
@@ -111,17 +107,6 @@ instruction s p words bytes k =
     let h = accepted-of s p k in
     let r = stepOf (p .regular) (p .alternate) s in
     (outcomeFrom (r .answer), r .words, step-done s p lent h .0, passes-of (r .words) p (step-accepted s p lent h))
-
--- what is due is (2,1), (2,2) or (2,3)
-due-low : (b : Bool) (n f : ℕ) → n ≤ 3 → cond b n (stepFlag f) ≤ 3
-due-low true n f h = h
-due-low false n f h = omega arith
-
-due-small : (turn : Turn) (f : ℕ) (called left : Header) → dueAfter turn f called left ≤ 3
-due-small T.Finished f called left = omega arith
-due-small T.Entered f called left = due-low (eqb (fcnctrc f) 1 && called .calltrace) 2 f (omega arith)
-due-small T.Left f called left = due-low (eqb (fcnrtrc f) 1 && left .rtntrace) 3 f (omega arith)
-due-small (T.Trapped class number) f called left = omega arith
 
 abbrev Low : StepOutcome → Type 0
 Low (trapsBy class n) = class ≡ 2 → n ≡ 4

@@ -66,14 +66,14 @@ unfolding laidOut layOutRefusal functionTest partsTest fresh freshHead freshStor
 computed = (
   record {
     m1 = record { word0 = refl; word1 = refl; word12 = refl; word13 = refl; word33 = refl; word34 = refl };
-    m2 = record { leaves = record { done = refl; top = refl }; free = refl; array = refl; roverAt = refl };
-    m3 = record { leaves = record { done = refl; top = refl }; free = refl; array = refl; roverAt = refl };
-    m4 = record { leaves = record { done = refl; top = refl }; free = refl; array = refl; roverAt = refl };
-    m5 = record { leaves = record { done = refl; top = refl }; value = refl };
+    m2 = record { onTop = record { done = refl; top = refl }; free = refl; array = refl; roverAt = refl };
+    m3 = record { onTop = record { done = refl; top = refl }; free = refl; array = refl; roverAt = refl };
+    m4 = record { onTop = record { done = refl; top = refl }; free = refl; array = refl; roverAt = refl };
+    m5 = record { onTop = record { done = refl; top = refl }; value = refl };
     m6 = record { done = refl; top = refl };
     m7 = record { trapped = refl; trap = refl };
-    m8 = record { leaves = record { done = refl; top = refl }; value = refl };
-    m9 = record { leaves = record { done = refl; top = refl }; value = refl };
+    m8 = record { onTop = record { done = refl; top = refl }; value = refl };
+    m9 = record { onTop = record { done = refl; top = refl }; value = refl };
     m10 = (record { done = refl; top = refl }, record { done = refl; top = refl }, record { done = refl; top = refl });
   },
   record {

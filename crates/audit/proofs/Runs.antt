@@ -18,7 +18,6 @@ use Rattle.manual.proofs.Traps.{traps-listed}
 use Rattle.effects.specs.declared.Stepped.{Stepped}
 use Rattle.effects.specs.declared.Stepped.the-variants as S
 use Rattle.effects.specs.declared.Ran.{Ran}
-use Rattle.effects.specs.declared.Ran.the-variants as R
 use Rattle.effects.specs.Step.{stepOf}
 use Rattle.effects.specs.Run as stepping
 use Rattle.effects.specs.Run.{following, stepsFrom, runOf}
@@ -26,17 +25,17 @@ use Rattle.effects_theorems.proofs.Tests.{never}
 use Rattle.plan_theorems.specs.Fitting.{Words}
 use Rattle.plan_theorems.specs.Lent.{Lent}
 use Rattle.plan_theorems.proofs.BoundedWords.{words-set}
+use Rattle.operations.specs.Run as operations
 use Rattle.step_theorems.proofs.Again.{trap-accepted}
 use Rattle.step_theorems.proofs.Planned.{plan-listed}
-use Rattle.audit.specs.Calls.{Procedures, Answer, ran, trapped, Passes}
+use Rattle.audit.specs.Calls.{Procedures, Answer, ran, trapped, runAnswer, Passes}
 use Rattle.audit.specs.Steps.{StepOutcome, trapsBy, finishes, Step, traps, full, does, inVain}
 use Rattle.audit.specs.Runs.{Runs, over, goesOn, traced, stops, RequestInVain, SomeRequestInVain, ReportsFull}
 use Rattle.audit.proofs.Accepts.{accepted-of, passes-of}
 use Rattle.audit.proofs.Steps.{outcomeFrom, Some, step-done, step-accepted, step-words}
 
 abbrev pub answerOf : Ran → Answer
-answerOf (R.Done steps) = ran steps
-answerOf (R.Trapped steps) = trapped steps
+answerOf r = runAnswer (operations.answerOf r)
 
 -- What a segment must be for its steps to be the manual's.
 pub record Ready (s : List ℕ) (p : Procedures) : Type 0 where

@@ -1,14 +1,14 @@
 -- A step of an accepted segment is a `Step`, by the cases of its plan.
 use Prim.Native.Nat.{ℕ, _-_, _/_, _%_, _^_, _<_, _≤_}
 use mathlib.Core.Path.{_≡_, refl, sym, _∙_, ap, subst}
-use mathlib.Core.Bool.{Bool, true, false, cond}
+use mathlib.Core.Bool.{Bool, true, false, cond, _&&_}
 use mathlib.Core.List.{List}
 use mathlib.Core.Logic.{_≢_}
 use native.Mathlib.Omega.{arith}
 use lib.Dec.{eqb}
 use lib.ListN.{getD, set, length, length-set}
 use lib.Seq.{getD-set-same, getD-set-other}
-use borrow.Author.Tests.{eqb-true, eqb-false, eq-eqb, ne-eqb}
+use borrow.Author.Tests.{eq-eqb, ne-eqb}
 use Rattle.descriptor.specs.declared.Target.{Target}
 use Rattle.procedure.specs.declared.header.Header.{Header}
 use Rattle.segment.specs.State.{sbase, flags, fcnctrc, fcnrtrc, stepFlag, trapWord, trap as trapOf, blockptr, setTrap}
@@ -41,7 +41,7 @@ use Rattle.step_theorems.specs.Planned.{planned, headerIn}
 use Rattle.step_theorems.proofs.Current.{current-function, step-is, header-seen, header-running}
 use Rattle.step_theorems.proofs.Planned.{Known, plan-known, plan-listed}
 use Rattle.step_theorems.proofs.Again.{sound-of, view-flags, trap-accepted, effects-accepted}
-use Rattle.step_theorems.proofs.Settled.{settled-effects, due-small, finished-keeps}
+use Rattle.step_theorems.proofs.Settled.{settled-effects, finished-by, finished-keeps}
 use Rattle.audit.specs.Calls.{Procedures}
 use Rattle.audit.specs.Steps.{StepOutcome, trapsBy, finishes, inVain, dueAfter, EffectsDone, Step, traps, full, does}
 use Rattle.audit.proofs.Full.{vain-full}
@@ -71,6 +71,17 @@ due-told regular other left T.Finished t = refl
 due-told regular other left T.Entered t = refl
 due-told regular other left T.Left t = refl
 due-told regular other left (T.Trapped class number) t = refl
+
+due-low : (b : Bool) (n f : ℕ) → n ≤ 3 → cond b n (stepFlag f) ≤ 3
+due-low true n f h = h
+due-low false n f h = omega arith
+
+-- (2,1), (2,2) or (2,3)
+pub due-small : (turn : Turn) (f : ℕ) (called left : Header) → dueAfter turn f called left ≤ 3
+due-small T.Finished f called left = omega arith
+due-small T.Entered f called left = due-low (eqb (fcnctrc f) 1 && called .calltrace) 2 f (omega arith)
+due-small T.Left f called left = due-low (eqb (fcnrtrc f) 1 && left .rtntrace) 3 f (omega arith)
+due-small (T.Trapped class number) f called left = omega arith
 
 -- ---- what a step's answer comes to
 
@@ -171,7 +182,7 @@ module _ (s : List ℕ) (p : Procedures) (lent : Lent s (p .regular) (p .alterna
           ∙ ap (dueAfter (outcomeOf es) (flags s) (currentHeader regular other t)) (sym (header-running s regular other))
 
       small : d ≤ 3
-      small = due-small regular other (headerOf f .rtntrace) t es
+      small = subst (λ (n : ℕ). n ≤ 3) (sym (due-told regular other (headerOf f) (outcomeOf es) t)) (due-small (outcomeOf es) (flags t) (currentHeader regular other t) (headerOf f))
 
       -- whether or not a trap is due, and its word written
       module _ (u : List ℕ) (same : view u ≡ view t) (long : length u ≡ length t) (rest : (i : ℕ) → i ≢ 3 → getD u i 0 ≡ getD t i 0)
@@ -204,11 +215,7 @@ module _ (s : List ℕ) (p : Procedures) (lent : Lent s (p .regular) (p .alterna
           (word ∙ rw (ne-eqb d 0 n)))
 
       done-is : StepOf (finished d t)
-      done-is = go (eqb d 0) refl
-        where
-          go : (b : Bool) → eqb d 0 ≡ b → StepOf (finished d t)
-          go true z = rw z (silent (eqb-true d 0 z), tt)
-          go false z = rw z (traced (eqb-false d 0 z), eqb-false d 0 z)
+      done-is = finished-by d t StepOf (λ z. (silent z, tt)) (λ n. (traced n, n))
 
   -- ---- the step
 
@@ -238,7 +245,7 @@ module _ (s : List ℕ) (p : Procedures) (lent : Lent s (p .regular) (p .alterna
       gone es e true q = stopped 1 2 (full-step es e q)
       gone es e false q =
           rw (done-step es e q)
-          (finished-keeps (d es e) (small es e q) (t es e) P (trapping (t es e) (effects es e q)) (effects es e q))
+          (finished-keeps (d es e) (t es e) (small es e q) P (trapping (t es e) (effects es e q)) (effects es e q))
 
       go : (q : Plan) → plan ≡ q → P (stepOf regular other s .words)
       go (gives es) e = gone es e (firstFull s es) refl

@@ -37,20 +37,20 @@ pub record Lays (s : List ℕ) : Type 0 where
   pub word34 : getD s 34 0 ≡ 0x000C_000C
 
 -- So many instructions were done, and that word is on top of the stack.
-pub record Leaves (e : Ended) (steps w : ℕ) : Type 0 where
+pub record OnTop (e : Ended) (steps w : ℕ) : Type 0 where
   pub done : e .answer ≡ Done steps
   pub top : getD (e .words) (sbase (e .words) + ltop (e .words)) 0 ≡ w
 
 -- INDEXGEN made an array: its descriptor, the first words of the free block at 12 and of its own block, ROVER.
 pub record Makes (e : Ended) (descriptor word12 block first : ℕ) : Type 0 where
-  pub leaves : Leaves e 2 descriptor
+  pub onTop : OnTop e 2 descriptor
   pub free : getD (e .words) 12 0 ≡ word12
   pub array : getD (e .words) block 0 ≡ first
   pub roverAt : rover (e .words) ≡ 33
 
 -- That word is on top, and its value is that of the integer.
 pub record Sums (e : Ended) (w integer : ℕ) : Type 0 where
-  pub leaves : Leaves e 3 w
+  pub onTop : OnTop e 3 w
   pub value : units w ≡ units integer
 
 -- An instruction trapped, after so many.
@@ -72,7 +72,7 @@ pub record Table : Type 0 where
   -- 1 as a float: 1 divided by 1
   pub m5 : Sums (ranAfter 3 (0x40 ∷ 0x01 ∷ 0x40 ∷ 0x01 ∷ 0x6B ∷ [])) 0x6000_0000 1
   -- 1 divided by 2
-  pub m6 : Leaves (ranAfter 3 (0x40 ∷ 0x02 ∷ 0x40 ∷ 0x01 ∷ 0x6B ∷ [])) 3 0x5FC0_0000
+  pub m6 : OnTop (ranAfter 3 (0x40 ∷ 0x02 ∷ 0x40 ∷ 0x01 ∷ 0x6B ∷ [])) 3 0x5FC0_0000
   -- 8,388,607 + 1: (8,1)
   pub m7 : Traps (ranAfter 3 (0xAA ∷ 0x00 ∷ 0x7F ∷ 0xFF ∷ 0xFF ∷ 0x40 ∷ 0x01 ∷ 0x68 ∷ [])) 2 0x0801
   -- 4,194,304 + 0.5 is 4,194,304
@@ -80,4 +80,4 @@ pub record Table : Type 0 where
   -- 4,194,305 + 0.5 is 4,194,306
   pub m9 : Sums (ranAfter 3 (0xAA ∷ 0x00 ∷ 0x40 ∷ 0x00 ∷ 0x01 ∷ 0xAA ∷ 0x5F ∷ 0xC0 ∷ 0x00 ∷ 0x00 ∷ 0x68 ∷ [])) 0x6580_0002 4194306
   -- 0x4005 pushes 5, 0x5005 −5, 0x5000 0
-  pub m10 : Leaves (ranAfter 1 (0x40 ∷ 0x05 ∷ [])) 1 5 × Leaves (ranAfter 1 (0x50 ∷ 0x05 ∷ [])) 1 0x8000_0005 × Leaves (ranAfter 1 (0x50 ∷ 0x00 ∷ [])) 1 0
+  pub m10 : OnTop (ranAfter 1 (0x40 ∷ 0x05 ∷ [])) 1 5 × OnTop (ranAfter 1 (0x50 ∷ 0x05 ∷ [])) 1 0x8000_0005 × OnTop (ranAfter 1 (0x50 ∷ 0x00 ∷ [])) 1 0

@@ -1,5 +1,5 @@
 -- Frames that differ in PCTR and in cells that are direct now: they have the same variables, and what was legal stays legal.
-use Prim.Native.Nat.{ℕ, _-_, _*_, _^_, _≤_, _<_}
+use Prim.Native.Nat.{ℕ, _*_, _^_, _≤_, _<_}
 use mathlib.Core.Path.{_≡_, refl, _∙_, ap}
 use mathlib.Core.Logic.{_⊎_, inl, inr, ⊎-elim}
 use mathlib.Core.List.{List, [], _∷_}
@@ -12,7 +12,7 @@ use Rattle.segment.specs.Machine.{Frame, Machine, depthOfFrames}
 use Rattle.manual.specs.Effects.{indexIn, globalIndex, lookFrames, look}
 use Rattle.storage_theorems.proofs.Counts.{order}
 use Rattle.acceptance.specs.Frames.{known, arguments, variables}
-use Rattle.legality.specs.Legal.{functionWord, Direct, VariableOf, Names, Allowed, LegalFrame, LegalFrames, bottom, upon, Legal}
+use Rattle.legality.specs.Legal.{functionWord, DirectCell, VariableIn, MayName, Allowed, LegalFrame, LegalFrames, bottom, upon, Legal}
 use Rattle.manual.proofs.Cellwise.{look-here, look-below, index-same, global-same}
 use Rattle.legality.proofs.Legal.{names-more, direct-allowed, upon-on}
 
@@ -20,7 +20,7 @@ use Rattle.legality.proofs.Legal.{names-more, direct-allowed, upon-on}
 
 pub record LikeCells (l k : List Cell) : Type 0 where
   pub size : length k ≡ length l
-  pub each : (i : ℕ) → (getD k i undefined ≡ getD l i undefined) ⊎ Direct (getD k i undefined)
+  pub each : (i : ℕ) → (getD k i undefined ≡ getD l i undefined) ⊎ DirectCell (getD k i undefined)
 
 pub record LikeFrame (r q : Frame Cell) : Type 0 where
   pub function : q .function ≡ r .function
@@ -39,7 +39,7 @@ pub same-frames : (l : List (Frame Cell)) → LikeFrames l l
 same-frames [] = tt
 same-frames (r ∷ l) = (record { function = refl; cells = same-cells (r .cells) }, same-frames l)
 
-direct-on : {l k : List Cell} → LikeCells l k → (i : ℕ) → Direct (getD l i undefined) → Direct (getD k i undefined)
+direct-on : {l k : List Cell} → LikeCells l k → (i : ℕ) → DirectCell (getD l i undefined) → DirectCell (getD k i undefined)
 direct-on e i h = ⊎-elim (λ (p : _ ≡ _). rw p h) (λ d. d) (e .each i)
 
 pub depth-on : (l k : List (Frame Cell)) → LikeFrames l k → depthOfFrames k ≡ depthOfFrames l
@@ -48,14 +48,14 @@ depth-on [] (q ∷ k) e = absurd e
 depth-on (r ∷ l) [] e = absurd e
 depth-on (r ∷ l) (q ∷ k) e = omega (arith, e .0 .cells .size, depth-on l k (e .1))
 
-look-on : (a : ℕ) (l k : List (Frame Cell)) → LikeFrames l k → Direct (lookFrames undefined a l) → Direct (lookFrames undefined a k)
+look-on : (a : ℕ) (l k : List (Frame Cell)) → LikeFrames l k → DirectCell (lookFrames undefined a l) → DirectCell (lookFrames undefined a k)
 look-on a [] [] e h = tt
 look-on a [] (q ∷ k) e h = absurd e
 look-on a (r ∷ l) [] e h = absurd e
 look-on a (r ∷ l) (q ∷ k) e h = go (λ p. look-on a l k (e .1) p) (order (depthOfFrames l) a)
   where
-    go : (Direct (lookFrames undefined a l) → Direct (lookFrames undefined a k)) → (depthOfFrames l ≤ a) ⊎ (a < depthOfFrames l)
-        → Direct (lookFrames undefined a (q ∷ k))
+    go : (DirectCell (lookFrames undefined a l) → DirectCell (lookFrames undefined a k)) → (depthOfFrames l ≤ a) ⊎ (a < depthOfFrames l)
+        → DirectCell (lookFrames undefined a (q ∷ k))
     go more (inl p) =
         let d = depth-on l k (e .1) in
         rw (look-here a undefined q k (omega arith), index-same (r .cells) (q .cells) l k a (e .0 .cells .size) d)
@@ -68,7 +68,7 @@ module _ (regular other : List ℕ) where
   like-variables : {r q : Frame Cell} → LikeFrame r q → variables regular other (functionWord q) ≡ variables regular other (functionWord r)
   like-variables e = ap (λ (f : ℕ). variables regular other (f * 2 ^ 16)) (e .function)
 
-  variable-on : (a : ℕ) (l k : List (Frame Cell)) → LikeFrames l k → VariableOf regular other l a → VariableOf regular other k a
+  variable-on : (a : ℕ) (l k : List (Frame Cell)) → LikeFrames l k → VariableIn regular other l a → VariableIn regular other k a
   variable-on a [] [] e h = h
   variable-on a [] (q ∷ k) e h = absurd e
   variable-on a (r ∷ l) [] e h = absurd e
@@ -81,12 +81,12 @@ module _ (regular other : List ℕ) where
 
   -- two machines that have as many globals, where what is named and direct in the one is direct in the other
   module _ (m n : Machine Cell) (globals : length (n .globals) ≡ length (m .globals)) where
-    pub names-on : (l k : List (Frame Cell)) → LikeFrames l k → (t : Target) → Names regular other m l t → Names regular other n k t
+    pub names-on : (l k : List (Frame Cell)) → LikeFrames l k → (t : Target) → MayName regular other m l t → MayName regular other n k t
     names-on l k e (Global g) h = (h .0, omega (arith, h))
     names-on l k e (Local a) h = variable-on (a .0) l k e h
 
     abbrev pub StayDirect : List (Frame Cell) → Type 0
-    StayDirect l = (t : Target) → Names regular other m l t → Direct (look undefined t m) → Direct (look undefined t n)
+    StayDirect l = (t : Target) → MayName regular other m l t → DirectCell (look undefined t m) → DirectCell (look undefined t n)
 
     pub allowed-on : (l k : List (Frame Cell)) → LikeFrames l k → StayDirect l → (c : Cell) → Allowed regular other m l c → Allowed regular other n k c
     allowed-on l k e d undefined h = tt
@@ -131,7 +131,7 @@ pub record Like (m n : Machine Cell) : Type 0 where
   pub frames : LikeFrames (m .frames) (n .frames)
   pub globals : LikeCells (m .globals) (n .globals)
 
-like-look : {m n : Machine Cell} → Like m n → (t : Target) → Direct (look undefined t m) → Direct (look undefined t n)
+like-look : {m n : Machine Cell} → Like m n → (t : Target) → DirectCell (look undefined t m) → DirectCell (look undefined t n)
 like-look {m} {n} e (Global g) h =
     rw (global-same (m .globals) (n .globals) (g .0) (e .globals .size)) (direct-on (e .globals) (globalIndex (m .globals) (g .0)) h)
 like-look {m} {n} e (Local a) h = look-on (a .0) (m .frames) (n .frames) (e .frames) h
@@ -147,6 +147,6 @@ like-legal {regular} {other} {m} {n} g e h =
       temporaries = λ i b. allowed-on regular other m n (e .globals .size) (m .frames) (n .frames) (e .frames) d (getD (n .temporaries) i undefined) (h i b);
     }
 
-pub like-names : (regular other : List ℕ) {m n : Machine Cell} → Like m n → (t : Target) → Names regular other m (m .frames) t
-    → Names regular other n (n .frames) t
+pub like-names : (regular other : List ℕ) {m n : Machine Cell} → Like m n → (t : Target) → MayName regular other m (m .frames) t
+    → MayName regular other n (n .frames) t
 like-names regular other {m} {n} e t h = names-on regular other m n (e .globals .size) (m .frames) (n .frames) (e .frames) t h

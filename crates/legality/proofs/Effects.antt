@@ -1,6 +1,6 @@
 -- Each effect keeps a machine legal, where what it pushes is allowed, what it stores is direct, and the function that it enters is known.
 use Prim.Native.Nat.{ℕ, zero, suc, _+_, _*_, _/_, _%_, _^_, _≤_, _<_}
-use mathlib.Core.Path.{_≡_, refl, sym}
+use mathlib.Core.Path.{_≡_, refl}
 use mathlib.Core.Bool.{Bool, true, false, true≢false}
 use mathlib.Core.List.{List, [], _∷_, _++_}
 use native.Mathlib.Omega.{arith}
@@ -13,7 +13,7 @@ use Rattle.segment.specs.Machine.{Frame, Machine}
 use Rattle.manual.specs.Effects.{put, withTemporaries, replace, discard, swapped, swap, enter, currentCells, older, pushIf, leave, jumpFrames, jump, setOrigin}
 use Rattle.manual.specs.Seen.{noOlder}
 use Rattle.acceptance.specs.Frames.{known, arguments, variables}
-use Rattle.legality.specs.Legal.{Direct, Allowed, LegalFrame, LegalFrames, bottom, upon, Legal}
+use Rattle.legality.specs.Legal.{DirectCell, Allowed, LegalFrame, LegalFrames, bottom, upon, Legal}
 use Rattle.manual.proofs.Performed.{enter-look, leave-look}
 use Rattle.legality.proofs.Legal.{Every, every, upon-on, names-in}
 use Rattle.legality.proofs.Alike.{LikeFrames, same-cells, same-frames, StayDirect, frames-on, allowed-on, Like, like-legal}
@@ -42,7 +42,7 @@ module _ (P : Cell → Type 0) where
   every-push true c l p h = every-cons c l p h
   every-push false c l p h = h
 
-new-local : (n : ℕ) (l : List Cell) (i : ℕ) → i < n → Direct (getD (replicate n undefined ++ l) i undefined)
+new-local : (n : ℕ) (l : List Cell) (i : ℕ) → i < n → DirectCell (getD (replicate n undefined ++ l) i undefined)
 new-local zero l i b = absurd (omega arith)
 new-local (suc n) l zero b = tt
 new-local (suc n) l (suc i) b = new-local n l i (omega arith)
@@ -92,7 +92,7 @@ module _ {regular other : List ℕ} {m : Machine Cell} (g : Legal regular other 
   pub swap-kept : Legal regular other (swap m)
   swap-kept = with-kept (swapped (m .temporaries)) (every-swapped Pushable (m .temporaries) operands-allowed)
 
-  pub put-kept : (t : Target) (c : Cell) → Direct c → Legal regular other (put t c m)
+  pub put-kept : (t : Target) (c : Cell) → DirectCell c → Legal regular other (put t c m)
   put-kept (Global x) c d = like-legal g (put-like (Global x) c m d) (g .temporaries)
   put-kept (Local a) c d = like-legal g (put-like (Local a) c m d) (g .temporaries)
 

@@ -2,7 +2,7 @@
 -- the machine.
 use Prim.Native.Nat.{ℕ, _≤_, _<_}
 use mathlib.Core.Path.{_≡_, refl, subst}
-use mathlib.Core.List.{List, [], _∷_}
+use mathlib.Core.List.{List, _∷_}
 use mathlib.Core.Logic.{inl, inr, ⊎-elim}
 use native.Mathlib.Omega.{arith}
 use lib.ListN.{getD, length, List·getD-eq-default}
@@ -13,7 +13,7 @@ use Rattle.segment.specs.Cells.{Cell, undefined, indirect, value, invalid}
 use Rattle.segment.specs.Machine.{Frame, Machine, depthOfFrames}
 use Rattle.manual.specs.Effects.{InFrames, AddressableIn, indexIn, globalIndex, lookFrames, look}
 use Rattle.storage_theorems.proofs.Counts.{order}
-use Rattle.legality.specs.Legal.{Direct, VariableOf, Names, Allowed, LegalFrame, LegalFrames, bottom, upon, Legal}
+use Rattle.legality.specs.Legal.{DirectCell, VariableIn, MayName, Allowed, LegalFrame, LegalFrames, bottom, upon, Legal}
 use Rattle.manual.proofs.Cellwise.{look-here, look-below}
 
 -- ---- lists of cells
@@ -29,7 +29,7 @@ every P none l h i = ⊎-elim (λ (b : length l ≤ i). rw (List·getD-eq-defaul
 
 module _ (regular other : List ℕ) (m : Machine Cell) where
   -- more frames have more variables
-  pub names-more : (r : Frame Cell) (l : List (Frame Cell)) (t : Target) → Names regular other m l t → Names regular other m (r ∷ l) t
+  pub names-more : (r : Frame Cell) (l : List (Frame Cell)) (t : Target) → MayName regular other m l t → MayName regular other m (r ∷ l) t
   names-more r l (Global g) h = h
   names-more r l (Local a) h = inr h
 
@@ -39,7 +39,7 @@ module _ (regular other : List ℕ) (m : Machine Cell) where
   allowed-more r l (value shape ravel) h = tt
   allowed-more r l invalid h = h
 
-  pub direct-allowed : (l : List (Frame Cell)) (c : Cell) → Direct c → Allowed regular other m l c
+  pub direct-allowed : (l : List (Frame Cell)) (c : Cell) → DirectCell c → Allowed regular other m l c
   direct-allowed l undefined h = tt
   direct-allowed l (indirect t) h = absurd h
   direct-allowed l (value shape ravel) h = tt
@@ -74,7 +74,7 @@ module _ {regular other : List ℕ} {m : Machine Cell} where
 
   -- ---- what is named stands in the machine
 
-  variable-in : {l : List (Frame Cell)} → LegalFrames regular other m l → (a : ℕ) → VariableOf regular other l a → InFrames a l
+  variable-in : {l : List (Frame Cell)} → LegalFrames regular other m l → (a : ℕ) → VariableIn regular other l a → InFrames a l
   variable-in (bottom f n) a (inl v) = inl (omega (arith, v, f .cells), v .1)
   variable-in (bottom f n) a (inr v) = absurd v
   variable-in (upon f t) a (inl v) = inl (omega (arith, v, f .cells), v .1)
@@ -82,13 +82,13 @@ module _ {regular other : List ℕ} {m : Machine Cell} where
 
   -- also in a machine of fewer frames
   pub names-in : (n : Machine Cell) → LegalFrames regular other m (n .frames) → length (n .globals) ≡ length (m .globals)
-      → (u : Target) → Names regular other m (n .frames) u → AddressableIn u n
+      → (u : Target) → MayName regular other m (n .frames) u → AddressableIn u n
   names-in n h e (Global g) k = (k .0, omega (arith, k, e))
   names-in n h e (Local a) k = variable-in h (a .0) k
 
   module _ (h : Legal regular other m) where
-    pub global-direct : (g : ℕ) → Direct (look undefined (Global (segment g)) m)
-    global-direct g = every Direct tt (m .globals) (h .globals) (globalIndex (m .globals) g)
+    pub global-direct : (g : ℕ) → DirectCell (look undefined (Global (segment g)) m)
+    global-direct g = every DirectCell tt (m .globals) (h .globals) (globalIndex (m .globals) g)
 
     pub look-allowed : (t : Target) → Allowed regular other m (m .frames) (look undefined t m)
     look-allowed (Global x) = direct-allowed regular other m (m .frames) (look undefined (Global x) m) (global-direct (x .0))

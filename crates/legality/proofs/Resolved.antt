@@ -1,7 +1,7 @@
 -- The variable that an address leads to in a legal machine is one, and holds no indirect word.
-use Prim.Native.Nat.{ℕ, _+_, _-_, _≤_, _<_}
+use Prim.Native.Nat.{ℕ, _+_, _-_, _≤_}
 use mathlib.Core.Path.{_≡_, refl, subst}
-use mathlib.Core.Bool.{Bool, true, false, _||_, true≢false}
+use mathlib.Core.Bool.{_||_}
 use mathlib.Core.Logic.{inl}
 use mathlib.Core.List.{List}
 use native.Mathlib.Omega.{arith}
@@ -11,6 +11,7 @@ use borrow.Author.Tests.{ltb-false, leb-false}
 use Rattle.descriptor.specs.declared.Target.{Target}
 use Rattle.descriptor.specs.declared.Target.the-variants.{Local, Global}
 use Rattle.descriptor.specs.Kinds.{segment, stack}
+use Rattle.descriptor.proofs.Truth.{neither}
 use Rattle.segment.specs.Cells.{Cell, undefined, indirect, value, invalid}
 use Rattle.segment.specs.Machine.{Frame, Machine, depthOfFrames}
 use Rattle.instruction.specs.declared.Address.{Address}
@@ -21,25 +22,21 @@ use Rattle.manual.specs.Seen.{Variable, followed, follow, variablesOf, seenOf}
 use Rattle.manual.specs.Instructions.{Running, headerOf, resolve}
 use Rattle.manual.specs.Cases.{OfPlan, Reaches}
 use Rattle.manual.proofs.Lists.{stops}
-use Rattle.legality.specs.Legal.{VariableOf, Names, Leads, Allowed, LegalFrames, Legal}
+use Rattle.legality.specs.Legal.{VariableIn, MayName, NamesDirect, Allowed, LegalFrames, Legal}
 use Rattle.legality.specs.Kept.{RunsIn}
 use Rattle.legality.proofs.Legal.{first, look-allowed}
 
-neither : (a b : Bool) → (a || b) ≡ false → (a ≡ false) × (b ≡ false)
-neither true b h = absurd (true≢false h)
-neither false b h = (refl, h)
-
 module _ {regular other : List ℕ} {m : Machine Cell} (g : Legal regular other m) where
   abbrev Variables : OrTrap Variable → Type 0
-  Variables x = OfPlan (λ v. Leads regular other m (m .frames) (v .place)) (λ class number. Unit {0}) x
+  Variables x = OfPlan (λ v. NamesDirect regular other m (m .frames) (v .place)) (λ class number. Unit {0}) x
 
-  followed-leads : (t : Target) (c : Cell) → Leads regular other m (m .frames) t → Variables (followed t c)
+  followed-leads : (t : Target) (c : Cell) → NamesDirect regular other m (m .frames) t → Variables (followed t c)
   followed-leads t undefined h = h
   followed-leads t (indirect u) h = tt
   followed-leads t (value shape ravel) h = h
   followed-leads t invalid h = h
 
-  follow-leads : (t : Target) (c : Cell) → look undefined t m ≡ c → Names regular other m (m .frames) t → Allowed regular other m (m .frames) c
+  follow-leads : (t : Target) (c : Cell) → look undefined t m ≡ c → MayName regular other m (m .frames) t → Allowed regular other m (m .frames) c
       → Variables (follow (λ u. look undefined u m) t c)
   follow-leads t undefined e n a = record { names = n; direct = rw e tt }
   follow-leads t (indirect u) e n a = followed-leads u (look undefined u m) a
@@ -48,7 +45,7 @@ module _ {regular other : List ℕ} {m : Machine Cell} (g : Legal regular other 
 
   -- The words below LBASE are the current frame's variables.
   local-names : (f : Running) → RunsIn regular other f m → (v : ℕ) → 1 ≤ v → v ≤ variablesOf (headerOf f)
-      → VariableOf regular other (m .frames) (depthOfFrames (m .frames) - 2 - v)
+      → VariableIn regular other (m .frames) (depthOfFrames (m .frames) - 2 - v)
   local-names f runs v low high =
       let k = first (subst (λ (l : List (Frame Cell)). LegalFrames regular other m l) (runs .frames) (g .frames)) .cells in
       rw (runs .frames) (inl (omega (arith, runs .size, k), omega (arith, runs .size, k)))
@@ -67,5 +64,5 @@ module _ {regular other : List ℕ} {m : Machine Cell} (g : Legal regular other 
       follow-leads t (look undefined t m) refl (ltb-false (x .0) 8 (c .0), leb-false (8 + length (m .globals)) (x .0) (c .1)) (look-allowed g t))
 
   pub reached-leads : (words : ℕ) (f : Running) → RunsIn regular other f m → (a : Address) (x : Variable) → Reaches f (seenOf words m) a x
-      → Leads regular other m (m .frames) (x .place)
+      → NamesDirect regular other m (m .frames) (x .place)
   reached-leads words f runs a x r = subst Variables r (address-leads words f runs a)

@@ -19,7 +19,7 @@ use Rattle.acceptance.specs.Cells.{isIndirect}
 use Rattle.acceptance.specs.Structure.{startOf, localsOf, VariableOf, DirectOrIndirect, FrameCells, StackCells, Accepted}
 use Rattle.acceptance.specs.Structure as onWords
 use Rattle.effects.specs.Sound as sound
-use Rattle.legality.specs.Legal.{Direct, Allowed, LegalFrame, LegalFrames, bottom, Legal}
+use Rattle.legality.specs.Legal.{DirectCell, Allowed, LegalFrame, LegalFrames, bottom, Legal}
 use Rattle.legality.specs.Accepted.{Whole}
 use Rattle.legality.proofs.Legal.{upon-on}
 use Rattle.legality.proofs.FunctionWord.{same-known, same-arguments, same-variables}
@@ -74,7 +74,7 @@ module _ (A : ℕ → Type 0) (s regular other : List ℕ) (m : Machine Cell) (s
       record {
         function = same-known (codeWordAt s base) regular other ∙ has;
         cells = omega (arith, v, n, room);
-        locals = λ i k. subst Direct (sym (frame-at s base start i (omega (arith, k, v, a, room))))
+        locals = λ i k. subst DirectCell (sym (frame-at s base start i (omega (arith, k, v, a, room))))
             (direct-cell s A (stackAt s (base - 1 - i)) (c .locals (base - 1 - i) (omega (arith, k, v, a, room)) (omega (arith, k, v, a, room))));
         others = λ i k. subst (Allowed regular other m l) (sym (frame-at s base start i (omega (arith, k, n))))
             (allow (stackAt s (base - 1 - i)) (each (base - 1 - i) (omega (arith, k, n)) (omega (arith, k, n))));
@@ -121,7 +121,7 @@ module _ (s regular other : List ℕ) (h : Accepted s regular other) where
   unfolding view words
   legal = record {
     frames = legal-frames (h .older) (suc (lbase s)) (lbase s) (ltop s + 1) (omega arith) (h .chain) (h .cells) (λ a v. v);
-    globals = λ i k. subst Direct (sym (global-at s i (omega (arith, k, globals-length s))))
+    globals = λ i k. subst DirectCell (sym (global-at s i (omega (arith, k, globals-length s))))
         (direct-cell s A (getD s (8 + i) 0) (h .globals (8 + i) (omega arith) (omega (arith, k, globals-length s))));
     temporaries = λ i k. subst (Allowed regular other (view s) (view s .frames)) (sym (temporary-at s i (omega (arith, k, temporaries-length s))))
         (allow frames (λ a v. v) (stackAt s (ltop s - i))

@@ -11,7 +11,7 @@ use Rattle.segment.specs.Machine.{Frame, depthOfFrames}
 use Rattle.manual.specs.Effects.{indexIn, lookFrames, currentCells, InFrames}
 use Rattle.acceptance.specs.Frames.{variables}
 use Rattle.acceptance.specs.Structure as onWords
-use Rattle.legality.specs.Legal.{VariableOf}
+use Rattle.legality.specs.Legal.{VariableIn}
 use Rattle.manual.proofs.Cellwise.{look-here, look-below, index-in, in-depth}
 use Rattle.legality.proofs.FunctionWord.{same-variables}
 use Rattle.legality.proofs.Frames.{seenFrames, seenFrame, frame-length, frame-word, seen-bottom, seen-upon}
@@ -42,7 +42,7 @@ module _ (s regular other : List ℕ) where
   -- ---- the same variables
 
   pub variable-seen : {d : ℕ} {frames : List ℕ} {l : List (Frame Cell)} → Stacked s regular other d frames l → (a : ℕ)
-      → onWords.VariableOf s regular other frames a → VariableOf regular other l a
+      → onWords.VariableOf s regular other frames a → VariableIn regular other l a
   variable-seen none a v = absurd v
   variable-seen (frame {start = start} base h t) a (inl v) =
       let e = same-variables (codeWordAt s base) regular other in
@@ -50,7 +50,7 @@ module _ (s regular other : List ℕ) where
   variable-seen (frame base h t) a (inr v) = inr (variable-seen t a v)
 
   pub variable-word : {d : ℕ} {frames : List ℕ} {l : List (Frame Cell)} → Stacked s regular other d frames l → (a : ℕ)
-      → VariableOf regular other l a → onWords.VariableOf s regular other frames a
+      → VariableIn regular other l a → onWords.VariableOf s regular other frames a
   variable-word none a v = absurd v
   variable-word (frame {start = start} base h t) a (inl v) =
       let e = same-variables (codeWordAt s base) regular other in

@@ -8,14 +8,14 @@ use Rattle.descriptor.specs.declared.Target.{Target}
 use Rattle.descriptor.specs.declared.Target.the-variants.{Local, Global}
 use Rattle.segment.specs.Cells.{Cell, undefined, indirect, value, invalid}
 use Rattle.segment.specs.Machine.{Machine}
-use Rattle.manual.specs.Effects.{Effect, replaces, discards, swaps, stores, storesElement, enters, leaves, jumps, setsOrigin, look, put, meant, withElement, performOn, performAll}
+use Rattle.manual.specs.Effects.{Effect, replaces, discards, swaps, stores, storesElement, enters, leaves, jumps, setsOrigin, look, put, meant, withElement, performOn}
 use Rattle.manual.specs.Seen.{noOlder}
-use Rattle.legality.specs.Legal.{Direct, Allowed, Legal}
+use Rattle.legality.specs.Legal.{DirectCell, Allowed, Legal}
 use Rattle.legality.specs.Kept.{KeepsLegal}
 use Rattle.legality.proofs.Legal.{direct-allowed}
 use Rattle.legality.proofs.Effects.{CanEnter, replace-kept, discard-kept, swap-kept, put-kept, jump-kept, origin-kept, enter-kept, leave-kept}
 
-element-direct : (place w : ℕ) (c : Cell) → Direct c → Direct (withElement place w c)
+element-direct : (place w : ℕ) (c : Cell) → DirectCell c → DirectCell (withElement place w c)
 element-direct place w undefined d = tt
 element-direct place w (indirect t) d = absurd d
 element-direct place w (value shape ravel) d = tt
@@ -35,8 +35,8 @@ module _ (regular other : List ℕ) where
   Meets (replaces n source) m = Allowed regular other m (m .frames) (meant source m)
   Meets (discards n) m = Unit {0}
   Meets swaps m = Unit {0}
-  Meets (stores t source) m = Direct (meant source m)
-  Meets (storesElement t place w n) m = Direct (look undefined t m)
+  Meets (stores t source) m = DirectCell (meant source m)
+  Meets (storesElement t place w n) m = DirectCell (look undefined t m)
   Meets (enters n f) m = CanEnter regular other n f m
   Meets (leaves n result) m = noOlder (m .frames) ≡ false
   Meets (jumps place) m = Unit {0}
@@ -53,7 +53,7 @@ module _ (regular other : List ℕ) where
   legal-on (stores t source) m g h = put-kept g t (meant source m) h
   legal-on (storesElement t place w n) m g h =
       let c = withElement place w (look undefined t m) in
-      let d : Direct c = element-direct place w (look undefined t m) h in
+      let d : DirectCell c = element-direct place w (look undefined t m) h in
       replace-kept (put-kept g t c d) n c (direct-allowed regular other (put t c m) (put t c m .frames) c d)
   legal-on (enters n f) m g h = enter-kept g n f h
   legal-on (leaves n result) m g h = leave-kept g n result h
