@@ -1,7 +1,7 @@
 -- Effects one after the other, and when storage is full for them.
 use Prim.Native.Nat.{ℕ, _+_, _<_, _≤_}
 use mathlib.Core.Path.{_≡_, refl, sym, _∙_, ap}
-use mathlib.Core.Bool.{true, false}
+use mathlib.Core.Bool.{true, false, true≢false}
 use mathlib.Core.Logic.{_↔_, _≢_, _⊎_, inl, inr, ⊎-elim}
 use mathlib.Core.List.{List, [], _∷_}
 use native.Mathlib.Omega.{arith}
@@ -13,6 +13,7 @@ use Rattle.storage.specs.Request.{requestAt}
 use Rattle.storage.specs.Heap.{Block, free, array, over}
 use Rattle.storage_theorems.specs.Words.{HasRoom}
 use Rattle.manual.specs.Effects.{Source, variable, operand, word, undefinedValue, reference, made, Effect, replaces, discards, swaps, stores, storesElement, enters, leaves, jumps, setsOrigin, performAll}
+use Rattle.manual.proofs.Tests.{one-holds, second-holds}
 use Rattle.storage_theorems.proofs.Counts.{order}
 use Rattle.storage_theorems.proofs.Walks.{over-le}
 use Rattle.storage_theorems.proofs.Ways.{decide}
@@ -23,7 +24,6 @@ use Rattle.effects.specs.Sound.{Sound}
 use Rattle.effects.specs.Fits.{Available, Fits}
 use Rattle.effects.specs.Requests.{AllFit, FirstFits, NoneAsks, OneRequest}
 use Rattle.effects_theorems.specs.Theorems.{StateKept, PerformedAll, AsksInVain}
-use Rattle.effects_theorems.proofs.Tests.{never, one-holds, second-holds}
 use Rattle.effects_theorems.proofs.StateWords.{state-none, state-on}
 use Rattle.effects_theorems.proofs.Element.{array-proper}
 use Rattle.effects_theorems.proofs.Effects.{x-is, x-small, perform-theorem, kept-theorem}
@@ -107,7 +107,7 @@ module _ (s : List ℕ) (g : Sound s) (e : Effect) (h : Fits s e) where
   full-vain f = ⊎-elim none some (wanted-size s g e h)
     where
       none : wanted s e ≡ 0 → (wanted s e ≢ 0) × (HasRoom (g .own .blocks) (wanted s e) → ⊥)
-      none z = never (sym f ∙ not-full s e z)
+      none z = absurd (true≢false (sym f ∙ not-full s e z))
 
       some : 3 ≤ wanted s e → (wanted s e ≢ 0) × (HasRoom (g .own .blocks) (wanted s e) → ⊥)
       some l =
@@ -131,5 +131,5 @@ module _ (s : List ℕ) (g : Sound s) (e : Effect) (h : Fits s e) where
           (decide (eqb (requestAt s (wanted s e)) 0))
 
 pub full-theorem : (s : List ℕ) (g : Sound s) (es : List Effect) → FirstFits s es → (firstFull s es ≡ true) ↔ AsksInVain s (g .own .blocks) es
-full-theorem s g [] h = (λ f. never (sym f), λ f. absurd f)
+full-theorem s g [] h = (λ f. absurd (true≢false (sym f)), λ f. absurd f)
 full-theorem s g (e ∷ es) h = (full-vain s g e h, λ f. vain-full s g e h (f .0) (f .1))

@@ -8,19 +8,17 @@ use lib.ListN.{getD, set, length, drop, length-set}
 use lib.Seq.{getD-set-same, getD-set-other}
 use Rattle.descriptor.specs.Fields.{arrayWord}
 use Rattle.segment.specs.State.{sbase, ltop, lbase, blockptr, setLtop}
-use Rattle.segment.specs.Blocks.{part}
 use Rattle.segment.specs.Stack.{downward}
 use Rattle.segment.specs.Cells.{Cell, cell}
 use Rattle.storage.specs.Arrays.{drops}
 use Rattle.storage.specs.Heap.{count}
 use Rattle.storage.specs.Owned.{Owned, Kept, Step}
 use Rattle.segment.specs.Machine.{Machine, mapMachine, allCells}
-use Rattle.segment.specs.View.{framesFrom, words, owners, view}
+use Rattle.segment.specs.View.{words, owners, view}
 use Rattle.manual.specs.Effects as manual
 use Rattle.manual.proofs.Machines.{map-drop}
 use Rattle.storage_theorems.proofs.Counts.{count-append}
 use Rattle.storage_theorems.specs.Elsewhere.{Elsewhere}
-use Rattle.storage_theorems.proofs.Cells.{part-same}
 use Rattle.storage_theorems.proofs.Owners.{reown}
 use Rattle.storage_theorems.proofs.Steps.{kept-on, downward-same, downward-split, drops-own}
 use Rattle.storage_theorems.proofs.Elsewhere.{own-elsewhere, cell-elsewhere}
@@ -31,8 +29,8 @@ use Rattle.effects.specs.Fits.{CanReplace}
 use Rattle.effects_theorems.specs.Theorems.{StateKept}
 use Rattle.effects_theorems.proofs.StateWords.{state-on, state-step, state-set, state-top}
 use Rattle.effects_theorems.proofs.Counts.{machine-agree, cells-count}
-use Rattle.effects_theorems.proofs.Frames.{drop-downward, frames-same, chain-same, words-kept}
-use Rattle.effects_theorems.proofs.Sound.{Bounds, bounds, Regs, kept-regs}
+use Rattle.effects_theorems.proofs.Frames.{drop-downward, chain-same, words-kept, words-left}
+use Rattle.effects_theorems.proofs.Sound.{Bounds, bounds, Regs, kept-regs, Done}
 use Rattle.effects_theorems.proofs.Sources.{Put}
 
 pub replace-map : {A : Type 0} (f : ℕ → A) (n w : ℕ) (m : Machine ℕ) → mapMachine f (manual.replace n w m) ≡ manual.replace n (f w) (mapMachine f m)
@@ -85,15 +83,10 @@ module _ (s : List ℕ) (n w b : ℕ) (at : b + n ≡ sbase s + ltop s + 1) (som
   finish-words : words s′ ≡ manual.replace n w (words s)
   unfolding words
   finish-words =
-      let bp : blockptr s′ ≡ blockptr s = finish-elsewhere .start in
-      let st : sbase s′ ≡ sbase s = finish-elsewhere .bound in
       let lt : ltop s′ ≡ ltop s + 1 - n = omega (arith, zero-word) in
       let fl : getD s′ 2 0 ≡ getD s 2 0 = finish-other 2 (omega arith) (omega arith) in
-      let lb : lbase s′ ≡ lbase s = ap (λ (v : ℕ). v / 2 ^ 16) (finish-other 1 (omega arith) (omega arith)) in
-      let gl : part s′ 8 (blockptr s - 8) ≡ part s 8 (blockptr s - 8) = part-same s s′ 8 (blockptr s - 8) (λ i p q. finish-other i (omega arith) (omega arith)) in
-      let fr : framesFrom (suc (lbase s)) s′ (lbase s) ≡ framesFrom (suc (lbase s)) s (lbase s) = frames-same (suc (lbase s)) s s′ (lbase s) st
-      (λ i p q. finish-other i (omega arith) (omega arith)) in
-      rw (fl, st, lb, lt, bp, gl, fr, tops)
+      words-left s s′ low (finish-regs .0) (finish-regs .2) (λ i p q. finish-other i (omega arith) (omega arith)) (λ i p q. finish-other i (omega arith) (omega arith))
+      ∙ rw (fl, lt, tops)
     where
       tops : downward s′ (sbase s + lbase s + 2) (ltop s + 1 - n - (lbase s + 1)) ≡ w ∷ drop n (downward s (sbase s + lbase s + 2) (ltop s - (lbase s + 1)))
       tops =
@@ -199,7 +192,7 @@ module _ (s : List ℕ) (g : Sound s) (n w : ℕ) (c : Cell) (s1 : List ℕ) (fi
       finish-other s2 n w b at2 some2 fit2 short2 low2 mid2 above2 i (omega (arith, low)) (omega (arith, low, can))
       ∙ kept2 .rest i (omega (arith, low)) (inr l)
 
-  pub finish-state : StateKept s (finish s2 b w)
+  finish-state : StateKept s (finish s2 b w)
   unfolding finish setLtop
   finish-state =
       state-on (state-step kept2 (low .low))
@@ -210,7 +203,7 @@ module _ (s : List ℕ) (g : Sound s) (n w : ℕ) (c : Cell) (s1 : List ℕ) (fi
   left3 : (v : ℕ) → 0 < count v vs → cell (finish s2 b w) v ≡ cell s1 v
   left3 v k = cell-elsewhere moved (second .own) v k ∙ second .same v (omega (arith, k, count-append v (downward s1 b n) vs)) k
 
-  pub finish-view : view (finish s2 b w) ≡ manual.replace n c (view s)
+  finish-view : view (finish s2 b w) ≡ manual.replace n c (view s)
   unfolding view
   finish-view =
       ap (mapMachine (cell (finish s2 b w))) words3
@@ -219,10 +212,13 @@ module _ (s : List ℕ) (g : Sound s) (n w : ℕ) (c : Cell) (s1 : List ℕ) (fi
       ∙ ap (λ (d : Cell). manual.replace n d (mapMachine (cell s1) m)) (first .shown)
       ∙ ap (manual.replace n c) (machine-agree (cell s1) (cell s) m (λ v k. first .step .same v k (omega (arith, k))))
 
-  pub finish-sound : Sound (finish s2 b w)
+  finish-sound : Sound (finish s2 b w)
   finish-sound = record {
     own = rw words3 (own-elsewhere moved (second .own));
     fits = omega (arith, regs3, can, low);
     above = omega (arith, regs3, can, low);
     chain = rw (regs3 .2) (chain-same (finish s2 b w) (g .chain) (regs3 .0) (λ i p q. same3 i p (omega arith)));
   }
+
+  pub finish-done : Done s (finish s2 b w) (manual.replace n c (view s))
+  finish-done = record { sound = finish-sound; seen = finish-view; state = finish-state }

@@ -21,13 +21,13 @@ use Rattle.manual.specs.Effects.{currentCells, lookFrames, look, indexIn, InFra
 use Rattle.manual.specs.Seen.{Variable, at, followed, follow, localAt, globalAt, noOlder, seenOf}
 use Rattle.manual.proofs.Machines.{depth-map, map-current}
 use Rattle.manual.proofs.Cellwise.{index-in, look-here}
+use Rattle.manual.proofs.Tests.{none-holds}
 use Rattle.storage_theorems.proofs.Counts.{order}
 use Rattle.effects.specs.Sources.{heldAt, operandAt}
 use Rattle.effects.specs.Seen.{read, temporaries, seen}
 use Rattle.effects.specs.Sound.{Chain, bottom, upon, Sound}
 use Rattle.effects.specs.Fits.{Addressable}
 use Rattle.effects.specs.Alike.{seenBy, HasFrame, Resolved}
-use Rattle.effects_theorems.proofs.Tests.{none-holds}
 use Rattle.effects_theorems.proofs.Frames.{downward-length, part-length, frame, frames-bottom, frames-next, depth-is}
 use Rattle.effects_theorems.proofs.Sound.{bounds}
 use Rattle.effects_theorems.proofs.Variables.{variable-owner, look-view, operand-owner, operand-view}

@@ -2,7 +2,9 @@
 pub mod Machines
 pub mod Cellwise
 pub mod Performed
+pub mod Tests
 pub mod Lists
+pub mod Elements
 pub mod Operators
 pub mod Values
 pub mod Variables

@@ -1,7 +1,7 @@
 -- Effects one after the other that fit, and what they need that a sound segment has.
 use Prim.Native.Nat.{ℕ, suc, _+_, _-_, _≤_}
 use mathlib.Core.Path.{_≡_, refl, sym, _∙_, ap}
-use mathlib.Core.Bool.{Bool, true, false}
+use mathlib.Core.Bool.{Bool, true, false, true≢false}
 use mathlib.Core.List.{List, [], _∷_}
 use native.Mathlib.Omega.{arith}
 use lib.ListN.{length}
@@ -19,7 +19,6 @@ use Rattle.effects.specs.Perform.{perform, wanted}
 use Rattle.effects.specs.Seen.{temporaries}
 use Rattle.effects.specs.Sound.{Chain, bottom, upon, Sound}
 use Rattle.effects.specs.Fits.{Addressable, CanReplace, CanLeave, Fits}
-use Rattle.effects_theorems.proofs.Tests.{never}
 use Rattle.effects_theorems.proofs.Frames.{downward-length, frames-bottom, frames-next}
 use Rattle.effects_theorems.proofs.Sound.{bounds}
 use Rattle.effects_theorems.proofs.Variables.{variable-place}
@@ -64,7 +63,7 @@ module _ (s : List ℕ) (g : Sound s) (n : ℕ) (inner : noOlder (view s .frames
       go : Chain s (lbase s) → lastLbaseAt s (lbase s) + 2 + n ≤ lbase s
       go (bottom q) =
           let e = frames-bottom (lbase s) s (lbase s) (sbase s) (lastLbaseAt s (lbase s)) (codeWordAt s (lbase s)) refl refl refl (omega arith) in
-          never (ap noOlder (sym e) ∙ sym (older-map (cell s) (framesFrom (suc (lbase s)) s (lbase s))) ∙ inner)
+          absurd (true≢false (ap noOlder (sym e) ∙ sym (older-map (cell s) (framesFrom (suc (lbase s)) s (lbase s))) ∙ inner))
       go (upon q c) =
           let e = frames-next (lbase s) s (lbase s) (sbase s) (lastLbaseAt s (lbase s)) (codeWordAt s (lbase s)) refl refl refl (omega arith) in
           omega (
