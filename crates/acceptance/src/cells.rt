@@ -21,6 +21,7 @@ ghost use Rattle.acceptance.specs.Tables.{Gains, lacking, meet, Met};
 use super::frames::frame_at;
 use super::variables::mark_variables;
 use super::variables::unmark;
+use acceptance_storage::marks::mark_at;
 use descriptor::Descriptor;
 use descriptor::address::SegmentAddress;
 use descriptor::address::StackAddress;
@@ -30,7 +31,6 @@ use segment::state::blockptr;
 use segment::state::lbase;
 use segment::state::ltop;
 use segment::state::sbase;
-use acceptance_storage::marks::mark_at;
 
 // Test 17, where `arrays` has a mark at each array and `marks` is clear.
 pub fn cells_test(

@@ -1,28 +1,22 @@
 -- The demands: what `Did` and `Step` say of each call and each instruction, and by induction of every list of calls.
-use Prim.Native.Nat.{ℕ, suc, _+_, _-_, _≤_}
+use Prim.Native.Nat.{ℕ, _-_, _≤_}
 use mathlib.Core.Path.{_≡_, refl, sym, _∙_, ap, subst}
-use mathlib.Core.Bool.{Bool, true, false, cond, _&&_}
-use mathlib.Core.Logic.{_↔_, _≢_, _⊎_, inl, inr}
+use mathlib.Core.Bool.{true, false}
+use mathlib.Core.Logic.{_↔_, _≢_, _⊎_, inl, inr, ⊎-elim}
 use mathlib.Core.List.{List, [], _∷_, map}
 use native.Mathlib.Omega.{arith}
-use lib.Dec.{eqb}
 use lib.ListN.{length}
 use borrow.Author.Tests.{ne-eqb}
-use Rattle.segment.specs.State.{sbase, stepFlag, fcnctrc, fcnrtrc, flags}
+use Rattle.segment.specs.State.{sbase, flags}
 use Rattle.segment.specs.Cells.{Cell}
 use Rattle.segment.specs.View.{view}
 use Rattle.storage_theorems.proofs.HeapTheorems.{heap-theorems}
 use Rattle.acceptance_storage.proofs.Tests.{by-eq}
-use Rattle.acceptance.specs.Structure.{Accepted}
-use Rattle.acceptance.proofs.Structure.{structure}
 use Rattle.manual.specs.OrTrap.{gives, trap}
 use Rattle.manual.specs.Effects.{Effect}
 use Rattle.manual.specs.Traps.{listed}
 use Rattle.effects_theorems.proofs.Tests.{never}
-use Rattle.effects.specs.declared.Outcome.{Outcome as Turn}
-use Rattle.effects.specs.declared.Outcome.the-variants as T
 use Rattle.effects.specs.Carried.{outcomeOf}
-use Rattle.procedure.specs.declared.header.Header.{Header}
 use Rattle.effects.specs.Step.{stepOf}
 use Rattle.step_theorems.specs.Planned.{planned, headerIn}
 use Rattle.step_theorems.proofs.Planned.{plan-listed}
@@ -33,109 +27,58 @@ use Rattle.operations.specs.Run.{ran as ranOf}
 use Rattle.operations.specs.Answers as operations
 use Rattle.plan_theorems.specs.Fitting.{Words}
 use Rattle.plan_theorems.specs.Lent.{Lent}
-use Rattle.audit.specs.Calls.{Procedures, Call, layOut, run, load, look, Answer, refused, done, ran, trapped, scalar, array, answerOf, runAnswer, lookAnswer, firstFailed, segmentTests, tests, held, LentCall}
-use Rattle.audit.specs.Steps as step
-use Rattle.audit.specs.Steps.{Step, traps, full, does, Done, inVain, dueAfter}
-use Rattle.audit.specs.Runs.{Runs, over, goesOn, traced, stops}
+use Rattle.audit.specs.Calls.{Procedures, Call, layOut, run, load, look, Answer, refused, done, ran, trapped, scalar, array, answerOf, runAnswer, lookAnswer, firstFailed, tests, Passes, held, LentProcedures, LentCall}
+use Rattle.audit.specs.Steps.{StepOutcome, trapsBy, finishes, Step, traps, full, does, EffectsDone, inVain}
+use Rattle.audit.specs.Runs.{Runs}
 use Rattle.audit.specs.Did.{LaidOut, Ran, Loaded, Tells, Did, isRefused, isLaidOut, hasRun, isLoaded, hasTold}
 use Rattle.audit.specs.Lists.{refusalOf, Answers, Kept, LoadInVain, FullExactly, Event, Happened, AllLent}
 use Rattle.audit.specs.Demands.{Demand1, Demand2, AllHold, Demand3, Demands}
-use Rattle.audit.proofs.Tests.{segment-told}
-use Rattle.audit.proofs.Steps.{outcomeFrom, step-done, step-accepted}
-use Rattle.audit.proofs.Runs.{step-left, vain-traps}
+use Rattle.audit.proofs.Accepts.{accepted-of, passes-of}
+use Rattle.audit.proofs.Steps.{due-small, outcomeFrom, step-done, step-accepted}
+use Rattle.audit.proofs.Runs.{step-left, run-answers, vain-traps}
 use Rattle.audit.proofs.LayOut.{lay-out-did, lay-out-words}
 use Rattle.audit.proofs.Run.{run-did, run-words}
 use Rattle.audit.proofs.Look.{look-did}
 use Rattle.audit.proofs.Load.{load-did, load-words, load-full}
 
--- ---- the table
+-- ---- what is answered that is not refused
 
-accepts : (s : List ℕ) (p : Procedures) → (firstFailed (segmentTests s p) ≡ 0) ↔ Accepted s (p .regular) (p .alternate)
-accepts s p = (
-  λ e. structure .sound s (p .regular) (p .alternate) (sym (segment-told s p) ∙ e),
-  λ a. segment-told s p ∙ structure .complete s (p .regular) (p .alternate) a,
-)
+told : (s : List ℕ) (a : Answer) (c : Cell) → Tells s a c → ((w : ℕ) × (a ≡ scalar w)) ⊎ ((block : ℕ) × (a ≡ array block))
+told s (scalar w) c h = inl (w, refl)
+told s (array block) c h = inr (block, refl)
+told s (refused n) c h = absurd h
+told s done c h = absurd h
+told s (ran n) c h = absurd h
+told s (trapped n) c h = absurd h
 
--- ---- a run counts no more than it was asked
+told-unrefused : (s : List ℕ) (a : Answer) (c : Cell) → Tells s a c → refusalOf a ≡ 0
+told-unrefused s a c h = ⊎-elim (λ k. ap refusalOf (k .1)) (λ k. ap refusalOf (k .1)) (told s a c h)
 
-abbrev Counted : ℕ → ℕ → Answer → Type 0
-Counted budget steps (ran n) = n ≡ steps + budget
-Counted budget steps (trapped n) = n ≤ steps + budget
-Counted budget steps (refused n) = ⊥
-Counted budget steps done = ⊥
-Counted budget steps (scalar w) = ⊥
-Counted budget steps (array block) = ⊥
-
-more-counted : (budget steps : ℕ) (a : Answer) → Counted budget (steps + 1) a → Counted (suc budget) steps a
-more-counted budget steps (ran n) h = omega arith
-more-counted budget steps (trapped n) h = omega arith
-more-counted budget steps (refused n) h = h
-more-counted budget steps done h = h
-more-counted budget steps (scalar w) h = h
-more-counted budget steps (array block) h = h
-
-counted : {p : Procedures} {budget steps : ℕ} {s t : List ℕ} {a : Answer} → Runs p budget steps s a t → Counted budget steps a
-counted over = omega arith
-counted (goesOn {budget = budget} {steps = steps} {answer = answer} accepted e rest) = more-counted budget steps answer (counted rest)
-counted (traced accepted some e) = omega arith
-counted (stops accepted e) = omega arith
-
-counted-answers : (budget : ℕ) (a : Answer) → Counted budget 0 a → (a ≡ ran budget) ⊎ ((n : ℕ) × (a ≡ trapped n) × (n ≤ budget))
-counted-answers budget (ran n) h = inl (ap ran (omega arith))
-counted-answers budget (trapped n) h = inr (n, refl, omega arith)
-counted-answers budget (refused n) h = absurd h
-counted-answers budget done h = absurd h
-counted-answers budget (scalar w) h = absurd h
-counted-answers budget (array block) h = absurd h
-
-run-unrefused : (budget : ℕ) (a : Answer) → Counted budget 0 a → refusalOf a ≡ 0
-run-unrefused budget (ran n) h = refl
-run-unrefused budget (trapped n) h = refl
-run-unrefused budget (refused n) h = absurd h
-run-unrefused budget done h = absurd h
-run-unrefused budget (scalar w) h = absurd h
-run-unrefused budget (array block) h = absurd h
-
--- ---- what a look tells
-
-tells-unrefused : (s : List ℕ) (a : Answer) (c : Cell) → Tells s a c → refusalOf a ≡ 0
-tells-unrefused s (scalar w) c h = refl
-tells-unrefused s (array block) c h = refl
-tells-unrefused s (refused n) c h = absurd h
-tells-unrefused s done c h = absurd h
-tells-unrefused s (ran n) c h = absurd h
-tells-unrefused s (trapped n) c h = absurd h
-
-tells-answers : (s : List ℕ) (a : Answer) (c : Cell) → Tells s a c → ((w : ℕ) × (a ≡ scalar w)) ⊎ ((block : ℕ) × (a ≡ array block))
-tells-answers s (scalar w) c h = inl (w, refl)
-tells-answers s (array block) c h = inr (block, refl)
-tells-answers s (refused n) c h = absurd h
-tells-answers s done c h = absurd h
-tells-answers s (ran n) c h = absurd h
-tells-answers s (trapped n) c h = absurd h
+run-unrefused : {p : Procedures} {budget : ℕ} {s t : List ℕ} {a : Answer} → Runs p budget 0 s a t → refusalOf a ≡ 0
+run-unrefused r = ⊎-elim (λ k. ap refusalOf k) (λ k. ap refusalOf (k .1)) (run-answers r)
 
 -- ---- demand 1
 
 number : {s t : List ℕ} {c : Call} {a : Answer} → Did s c a t → refusalOf a ≡ firstFailed (tests s c)
 number (isRefused d e) = sym e
 number (isLaidOut e h) = sym e
-number (hasRun {budget = budget} {answer = answer} e h) = run-unrefused budget answer (counted (h .steps)) ∙ sym e
+number (hasRun e h) = run-unrefused (h .steps) ∙ sym e
 number (isLoaded e h) = sym e
-number {s = s} (hasTold {g = g} {answer = answer} e h) = tells-unrefused s answer (held s g) h ∙ sym e
+number {s = s} (hasTold {g = g} {answer = answer} e h) = told-unrefused s answer (held s g) h ∙ sym e
 
 unchanged : {s t : List ℕ} {c : Call} {a : Answer} → Did s c a t → refusalOf a ≢ 0 → t ≡ s
 unchanged (isRefused d e) n = refl
 unchanged (isLaidOut e h) n = absurd (n refl)
-unchanged (hasRun {budget = budget} {answer = answer} e h) n = absurd (n (run-unrefused budget answer (counted (h .steps))))
+unchanged (hasRun e h) n = absurd (n (run-unrefused (h .steps)))
 unchanged (isLoaded e h) n = absurd (n refl)
 unchanged (hasTold e h) n = refl
 
 answers : {s t : List ℕ} {c : Call} {a : Answer} → Did s c a t → refusalOf a ≡ 0 → Answers c a
 answers (isRefused d e) z = absurd (d z)
 answers (isLaidOut e h) z = refl
-answers (hasRun {budget = budget} {answer = answer} e h) z = counted-answers budget answer (counted (h .steps))
+answers (hasRun e h) z = run-answers (h .steps)
 answers (isLoaded e h) z = refl
-answers {s = s} (hasTold {g = g} {answer = answer} e h) z = tells-answers s answer (held s g) h
+answers {s = s} (hasTold {g = g} {answer = answer} e h) z = told s answer (held s g) h
 
 -- what a call leaves, by the definitions
 abbrev Made : List ℕ → Call → Type 0
@@ -158,31 +101,22 @@ ends s words (load p g lengths ravel) lent = (
 )
 ends s words (look p g) lent = (lookAnswer (looked s (p .regular) (p .alternate) g), s, look-did s p g, words)
 
-instruction : (s : List ℕ) (p : Procedures) → Lent s (p .regular) (p .alternate) → Accepted s (p .regular) (p .alternate)
-    → (o : step.Outcome) × (t : List ℕ) × Step p s o t × Accepted t (p .regular) (p .alternate)
-instruction s p lent h =
-    (outcomeFrom (stepOf (p .regular) (p .alternate) s .answer), stepOf (p .regular) (p .alternate) s .words, step-done s p lent h .0, step-accepted s p lent h)
+instruction : (s : List ℕ) (p : Procedures) → Words s → LentProcedures p → Passes s p → (o : StepOutcome) × (t : List ℕ) × Step p s o t × Passes t p
+instruction s p words bytes k =
+    let lent : Lent s (p .regular) (p .alternate) = record { words = words; regularBytes = bytes .0; otherBytes = bytes .1 } in
+    let h = accepted-of s p k in
+    let r = stepOf (p .regular) (p .alternate) s in
+    (outcomeFrom (r .answer), r .words, step-done s p lent h .0, passes-of (r .words) p (step-accepted s p lent h))
 
--- what is due is (2,1), (2,2) or (2,3)
-due-low : (b : Bool) (n f : ℕ) → n ≤ 3 → cond b n (stepFlag f) ≤ 3
-due-low true n f h = h
-due-low false n f h = omega arith
-
-due-small : (turn : Turn) (f : ℕ) (called left : Header) → dueAfter turn f called left ≤ 3
-due-small T.Finished f called left = omega arith
-due-small T.Entered f called left = due-low (eqb (fcnctrc f) 1 && called .calltrace) 2 f (omega arith)
-due-small T.Left f called left = due-low (eqb (fcnrtrc f) 1 && left .rtntrace) 3 f (omega arith)
-due-small (T.Trapped class number) f called left = omega arith
-
-abbrev Low : step.Outcome → Type 0
-Low (step.trapped class n) = class ≡ 2 → n ≡ 4
-Low (step.done d) = d ≤ 3
+abbrev Low : StepOutcome → Type 0
+Low (trapsBy class n) = class ≡ 2 → n ≡ 4
+Low (finishes d) = d ≤ 3
 
 breakpoint-alone : (number : ℕ) → listed 2 number ≡ true → number ≡ 4
 unfolding listed
 breakpoint-alone number h = by-eq number 4 (λ e. e) (λ d. never (sym h ∙ rw (ne-eqb number 4 d)))
 
-low : {p : Procedures} {s t : List ℕ} {o : step.Outcome} → Step p s o t → Low o
+low : {p : Procedures} {s t : List ℕ} {o : StepOutcome} → Step p s o t → Low o
 low {p = p} {s = s} (traps {class = class} {number = n} e) = λ c.
     breakpoint-alone n (rw c at (plan-listed (p .regular) (p .alternate) (length s - sbase s) (view s) class n e))
 low (full e v) = λ c. absurd (omega (arith, c))
@@ -192,7 +126,6 @@ low {p = p} {s = s} {t = t} (does {es = es} e v k) =
 
 pub demand-1 : Demand1
 demand-1 = record {
-  accepts = accepts;
   number = number;
   unchanged = unchanged;
   ends = ends;
@@ -205,17 +138,17 @@ demand-1 = record {
 
 -- ---- demand 2
 
-trap-told : {s t : List ℕ} {p : Procedures} {o : step.Outcome} → Step p s o t → (class number : ℕ)
-    → planned s (p .regular) (p .alternate) ≡ trap class number → (o ≡ step.trapped class number) × (listed class number ≡ true)
+trap-told : {s t : List ℕ} {p : Procedures} {o : StepOutcome} → Step p s o t → (class number : ℕ)
+    → planned s (p .regular) (p .alternate) ≡ trap class number → (o ≡ trapsBy class number) × (listed class number ≡ true)
 trap-told {s = s} {p = p} (traps e) class number q = (cc, plan-listed (p .regular) (p .alternate) (length s - sbase s) (view s) class number q)
 trap-told (full e v) class number q = let z : _≡_ {A = ℕ} 0 1 = cc in absurd (omega arith)
 trap-told (does e v k) class number q = let z : _≡_ {A = ℕ} 0 1 = cc in absurd (omega arith)
 
-done-told : {s t : List ℕ} {p : Procedures} {o : step.Outcome} → Step p s o t → (es : List Effect)
-    → planned s (p .regular) (p .alternate) ≡ gives es → inVain s es ≡ false → (d : ℕ) × (o ≡ step.done d) × Done p s es d t
+done-told : {s t : List ℕ} {p : Procedures} {o : StepOutcome} → Step p s o t → (es : List Effect)
+    → planned s (p .regular) (p .alternate) ≡ gives es → inVain s es ≡ false → (d : ℕ) × (o ≡ finishes d) × EffectsDone p s es d t
 done-told (traps e) es q v = let z : _≡_ {A = ℕ} 0 1 = cc in absurd (omega arith)
 done-told {s = s} (full {es = fs} e w) es q v = let same : fs ≡ es = cc in never (sym w ∙ ap (inVain s) same ∙ v)
-done-told {s = s} {t = t} {p = p} (does {es = fs} {d = d} e w k) es q v = let same : fs ≡ es = cc in (d, refl, subst (λ (l : List Effect). Done p s l d t) same k)
+done-told {s = s} {t = t} {p = p} (does {es = fs} {d = d} e w k) es q v = let same : fs ≡ es = cc in (d, refl, subst (λ (l : List Effect). EffectsDone p s l d t) same k)
 
 laid-out : {s t : List ℕ} {p : Procedures} {l : _} {a : Answer} → Did s (layOut p l) a t → refusalOf a ≡ 0 → LaidOut s p l t
 laid-out (isRefused d e) z = absurd (d z)
@@ -250,11 +183,11 @@ demand-2 = record {
 -- accepted beside some procedure segments
 record Good (s : List ℕ) : Type 0 where
   beside : Procedures
-  accepted : Accepted s (beside .regular) (beside .alternate)
+  accepted : Passes s beside
 
 kept : {s : List ℕ} → Good s → Kept s
 kept {s} g =
-    let o = g .accepted .owned in
+    let o = accepted-of s (g .beside) (g .accepted) .owned in
     record { blocks = o .blocks; ring = o .ring; heap = o .heap; tiling = heap-theorems .tiling s (o .blocks) (o .ring) (o .heap); named = o .named; counts = o .counts }
 
 -- a call that is not refused leaves what is accepted beside its own procedure segments
@@ -299,7 +232,7 @@ happens s words (c ∷ calls) lent =
 
 pub demand-3 : Demand3
 demand-3 = record {
-  list = λ s p e. hold s (record { beside = p; accepted = accepts s p .0 e });
+  list = λ s p e. hold s (record { beside = p; accepted = e });
   happens = happens;
 }
 

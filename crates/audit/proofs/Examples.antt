@@ -9,7 +9,7 @@ use Rattle.scalar.specs.Reading.{wholeUnits, wholeOf}
 use Rattle.procedure.specs.Bytes.{wordAt}
 use Rattle.procedure.specs.Headers.{headerAt, codeOf}
 use Rattle.procedure.specs.Directory.{hasFunction, functionOf}
-use Rattle.procedure.specs.Refusal.{lengthRefused, headerFault, functionFault, functionsFault, entriesRefused, contentsFault, procedureRefusal}
+use Rattle.procedure.specs.Refusal.{segmentLengthTest, entriesTest, headerTest, blockTest, blocksTest as functionsTest, contentsTest, procedureRefusal}
 use Rattle.instruction.specs.Families.{familyIn, familyOf}
 use Rattle.instruction.specs.Reading.{fetchByte, fetchHalf, fetchWord}
 use Rattle.instruction.specs.Tables.{etcOf, memoryOf}
@@ -50,7 +50,7 @@ use Rattle.audit.specs.Story.{Story}
 
 computed : Table × Story
 unfolding laidOut layOutRefusal functionTest partsTest fresh freshHead freshStorage freshFrame hasFunction headerAt wordAt
-    procedureRefusal lengthRefused contentsFault entriesRefused functionsFault functionFault headerFault refusal dataRefusal
+    procedureRefusal segmentLengthTest contentsTest entriesTest functionsTest blockTest headerTest refusal dataRefusal
     headTest blocksTest freeSpan blockSpan walkFrom walkTest startsFrom freeStarts arrayStarts linked roundFrom ringTest known
     arguments variables framesFrom framesTest direct frameCells cellsFrom cellsTest countsTest tests.words view.words
     view.framesFrom hit isScalar kindOf integerKind undefinedKind unsignedKind ran runOf stepsFrom stepOf stepIn functionOf
@@ -66,14 +66,14 @@ unfolding laidOut layOutRefusal functionTest partsTest fresh freshHead freshStor
 computed = (
   record {
     m1 = record { word0 = refl; word1 = refl; word12 = refl; word13 = refl; word33 = refl; word34 = refl };
-    m2 = record { leaves = record { done = refl; top = refl }; free = refl; array = refl; roverAt = refl };
-    m3 = record { leaves = record { done = refl; top = refl }; free = refl; array = refl; roverAt = refl };
-    m4 = record { leaves = record { done = refl; top = refl }; free = refl; array = refl; roverAt = refl };
-    m5 = record { leaves = record { done = refl; top = refl }; value = refl };
+    m2 = record { onTop = record { done = refl; top = refl }; free = refl; array = refl; roverAt = refl };
+    m3 = record { onTop = record { done = refl; top = refl }; free = refl; array = refl; roverAt = refl };
+    m4 = record { onTop = record { done = refl; top = refl }; free = refl; array = refl; roverAt = refl };
+    m5 = record { onTop = record { done = refl; top = refl }; value = refl };
     m6 = record { done = refl; top = refl };
     m7 = record { trapped = refl; trap = refl };
-    m8 = record { leaves = record { done = refl; top = refl }; value = refl };
-    m9 = record { leaves = record { done = refl; top = refl }; value = refl };
+    m8 = record { onTop = record { done = refl; top = refl }; value = refl };
+    m9 = record { onTop = record { done = refl; top = refl }; value = refl };
     m10 = (record { done = refl; top = refl }, record { done = refl; top = refl }, record { done = refl; top = refl });
   },
   record {

@@ -21,6 +21,7 @@ use Rattle.operations.specs.Answers as operations
 use Rattle.audit.specs.Calls.{Procedures, answerOf, layOut}
 use Rattle.audit.specs.Did.{LaidOut, Did, isRefused, isLaidOut}
 use Rattle.audit.proofs.Tests.{lay-out-told}
+use Rattle.audit.proofs.Accepts.{passes-of}
 
 -- ---- the words of a fresh segment
 
@@ -80,8 +81,7 @@ module _ (s : List ℕ) (p : Procedures) (l : Layout) where
   lay-out-laid : layOutRefusal s (p .regular) (p .alternate) l ≡ 0 → LaidOut s p l (laidOut s (p .regular) (p .alternate) l)
   lay-out-laid e = record {
     words = fresh-said .said s (p .regular) (p .alternate) l e;
-    seen = fresh-theorem .seen s (p .regular) (p .alternate) l e;
-    accepted = fresh-theorem .accepted s (p .regular) (p .alternate) l e;
+    accepted = passes-of (laidOut s (p .regular) (p .alternate) l) p (fresh-theorem .accepted s (p .regular) (p .alternate) l e);
   }
 
   abbrev number : ℕ

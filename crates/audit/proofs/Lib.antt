@@ -3,6 +3,7 @@ pub mod Full
 pub mod Steps
 pub mod Runs
 pub mod Tests
+pub mod Accepts
 pub mod LayOut
 pub mod Run
 pub mod Look

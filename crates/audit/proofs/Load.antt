@@ -1,35 +1,35 @@
 -- A load does what `Did` says: it is one store of a value to a global.
-use Prim.Native.Nat.{ℕ, _≤_, _<_}
+use Prim.Native.Nat.{ℕ, zero, suc, _≤_, _<_}
 use mathlib.Core.Path.{_≡_, refl, sym, _∙_, ap, subst}
-use mathlib.Core.Bool.{Bool, true, false, cond, not}
-use mathlib.Core.Logic.{_≢_, _↔_, _⊎_, inl, ⊎-elim}
+use mathlib.Core.Bool.{Bool, true, false, cond, not, _&&_, _||_}
+use mathlib.Core.Logic.{_≢_, _↔_, ⊎-elim}
 use mathlib.Core.List.{List, [], _∷_}
 use native.Mathlib.Omega.{arith}
 use lib.Dec.{leb, ltb, eqb}
 use lib.ListN.{length}
-use borrow.Author.Tests.{leb-true, ltb-true, ltb-false, eqb-true, eqb-false, not-true, not-false, eq-eqb, ne-eqb, lt-ltb}
+use borrow.Author.Tests.{leb-true, ltb-false, eqb-true, eqb-false, not-true, not-false, eq-eqb, ne-eqb, lt-ltb}
 use Rattle.descriptor.specs.declared.Target.{Target}
 use Rattle.descriptor.specs.declared.Target.the-variants.{Global}
 use Rattle.descriptor.specs.Kinds.{segment, isScalar}
 use Rattle.segment.specs.Blocks.{product, need}
-use Rattle.segment.specs.Cells.{Cell, value}
-use Rattle.storage.specs.Heap.{Block, count}
+use Rattle.segment.specs.Cells.{Cell, undefined, value}
+use Rattle.storage.specs.Heap.{count}
 use Rattle.segment.specs.View.{view}
-use Rattle.storage_theorems.specs.Words.{HasRoom}
 use Rattle.storage_theorems.proofs.Counts.{hit-cases, hit-same}
 use Rattle.acceptance_storage.specs.Room.{longEnough}
-use Rattle.acceptance_storage.proofs.Tests.{fails, by-eq, both}
+use Rattle.acceptance_storage.proofs.Tests.{by-eq, both}
 use Rattle.acceptance.specs.Refusal.{refusal}
 use Rattle.acceptance.specs.Structure.{Accepted}
 use Rattle.acceptance.proofs.Structure.{line, structure}
 use Rattle.manual.specs.Values.{any}
-use Rattle.manual.specs.Effects.{Source, Effect, stores, meant, put}
+use Rattle.manual.specs.Effects.{Source, Effect, stores, meant, look, put}
+use Rattle.manual.proofs.Cellwise.{look-other}
 use Rattle.effects.specs.Sound.{Sound}
 use Rattle.effects.specs.Fits.{Available, Fits}
 use Rattle.effects.specs.Perform.{noneFor, store, perform, sourceNeed}
 use Rattle.effects.specs.Perform as performing
-use Rattle.effects_theorems.specs.Theorems.{Performed, AsksInVain}
-use Rattle.effects_theorems.proofs.Tests.{never, none-holds, one-holds, first-holds}
+use Rattle.effects_theorems.specs.Theorems.{Performed}
+use Rattle.effects_theorems.proofs.Tests.{none-holds}
 use Rattle.effects_theorems.proofs.Variables.{in-view}
 use Rattle.effects_theorems.proofs.Theorems.{effects-theorems}
 use Rattle.plan_theorems.specs.Fitting.{Words}
@@ -44,8 +44,9 @@ use Rattle.operations.specs.Load.{isGlobal, isValue, sourceOf, isFull, loadRefu
 use Rattle.audit.specs.Calls.{Procedures, answerOf, load, test, firstFailed, tests, hasRoom}
 use Rattle.audit.specs.Did.{Loaded, Did, isRefused, isLoaded}
 use Rattle.audit.specs.Lists.{LoadInVain}
-use Rattle.audit.proofs.Full.{has-room}
-use Rattle.audit.proofs.Tests.{further-told, segment-below}
+use Rattle.audit.proofs.Full.{vain-full}
+use Rattle.audit.proofs.Tests.{segment-told, further-told, segment-below}
+use Rattle.audit.proofs.Accepts.{passes-of}
 use Rattle.audit.proofs.Look.{global-within}
 
 -- ---- what may be loaded
@@ -105,10 +106,26 @@ full-asked : (b : Bool) (n : ℕ) → n ≢ 0 → (s : List ℕ) → cond (eqb (
 full-asked true n some s = rw (ne-eqb n 0 some)
 full-asked false n some s = refl
 
-vain-asked : (b : Bool) (n : ℕ) → n ≢ 0 → (blocks : List Block)
-    → ((cond b n 0 ≢ 0) × (HasRoom blocks (cond b n 0) → ⊥)) ↔ ((b ≡ true) × (HasRoom blocks n → ⊥))
-vain-asked true n some blocks = (λ h. (refl, h .1), λ h. (some, h .1))
-vain-asked false n some blocks = (λ h. absurd (h .0 refl), λ h. never (sym (h .0)))
+-- a request for so much is in vain where a load has no room
+vain-asked : (n w : ℕ) → w ≢ 0 → (s : List ℕ) → (ltb 0 (cond (ltb 0 n) w 0) && not (longEnough s (cond (ltb 0 n) w 0))) ≡ not (eqb n 0 || longEnough s w)
+vain-asked zero w some s = refl
+vain-asked (suc n) w some s = rw (lt-ltb 0 (suc n) (omega arith), ne-eqb (suc n) 0 (omega arith), lt-ltb 0 w (omega arith))
+
+-- ---- the table
+
+-- tests 21, 23 and 24, with either way of test 24
+same-ways : (global good room full : Bool) → (global ≡ true → good ≡ true → full ≡ not room)
+    → _≡_ {A = ℕ} (cond global (cond good (cond room 0 24) 23) 21) (cond global (cond good (cond full 24 0) 23) 21)
+same-ways true true true full h = rw (h refl refl)
+same-ways true true false full h = rw (h refl refl)
+same-ways true false room full h = refl
+same-ways false good room full h = refl
+
+full-ways : (global good room : Bool) → _≡_ {A = ℕ} (cond global (cond good (cond room 0 24) 23) 21) 24 → (global ≡ true) × (good ≡ true) × (room ≡ false)
+full-ways true true true e = absurd (omega (arith, e))
+full-ways true true false e = (refl, refl, refl)
+full-ways true false room e = absurd (omega (arith, e))
+full-ways false good room e = absurd (omega (arith, e))
 
 -- ---- the call
 
@@ -119,6 +136,10 @@ room-left false e = refl
 module _ (s : List ℕ) (p : Procedures) (g : ℕ) (lengths ravel : List ℕ) where
   abbrev number : ℕ
   number = loadRefusal s (p .regular) (p .alternate) g lengths ravel
+
+  -- of tests 10–18
+  abbrev judgement : ℕ
+  judgement = refusal s (p .regular) (p .alternate)
 
   abbrev target : Target
   target = Global (segment g)
@@ -135,9 +156,9 @@ module _ (s : List ℕ) (p : Procedures) (g : ℕ) (lengths ravel : List ℕ) wh
   load-done h = simp (eq-eqb number 0 h)
 
   -- what is left of the table where the segment is accepted, and the address and the value are good
-  number-left : refusal s (p .regular) (p .alternate) ≡ 0 → isGlobal s g ≡ true → isValue lengths ravel ≡ true → number ≡ cond (isFull s lengths ravel) 24 0
+  number-left : judgement ≡ 0 → isGlobal s g ≡ true → isValue lengths ravel ≡ true → number ≡ cond (isFull s lengths ravel) 24 0
   unfolding loadRefusal
-  number-left h k v = simp (eq-eqb (refusal s (p .regular) (p .alternate)) 0 h, k, v)
+  number-left h k v = simp (eq-eqb judgement 0 h, k, v)
 
   -- The first tests pass.
   record Loadable : Type 0 where
@@ -148,12 +169,12 @@ module _ (s : List ℕ) (p : Procedures) (g : ℕ) (lengths ravel : List ℕ) wh
   loadable : number ≡ 0 → Loadable
   unfolding loadRefusal
   loadable h =
-      by-eq (refusal s (p .regular) (p .alternate)) 0
+      by-eq judgement 0
       (λ e.
-      let a = line (isGlobal s g) _ 20 (simp (eq-eqb (refusal s (p .regular) (p .alternate)) 0 e) at h) in
+      let a = line (isGlobal s g) _ 20 (simp (eq-eqb judgement 0 e) at h) in
       let b = line (isValue lengths ravel) _ 22 (a .1) in
       record { start = structure .sound s (p .regular) (p .alternate) e; global = a .0; good = b .0 })
-      (λ e. absurd (e (simp (ne-eqb (refusal s (p .regular) (p .alternate)) 0 e) at h)))
+      (λ e. absurd (e (simp (ne-eqb judgement 0 e) at h)))
 
   module _ (h : Loadable) where
     number-is : number ≡ cond (isFull s lengths ravel) 24 0
@@ -169,112 +190,48 @@ module _ (s : List ℕ) (p : Procedures) (g : ℕ) (lengths ravel : List ℕ) wh
     unfolding isFull
     same-full = rw (source .asks) (full-asked (ltb 0 (length lengths)) (need lengths ravel) (omega arith) s)
 
-    abbrev blocks : List Block
-    blocks = h .start .owned .blocks
-
-    vain : (AsksInVain s blocks (effect ∷ [])) ↔ ((ltb 0 (length lengths) ≡ true) × (HasRoom blocks (need lengths ravel) → ⊥))
-    vain =
-        let e = vain-asked (ltb 0 (length lengths)) (need lengths ravel) (omega arith) blocks in
-        rw (source .asks) (λ k. ⊎-elim (e .0) (λ q. absurd q) k, λ k. inl (e .1 k))
-
-    full : (isFull s lengths ravel ≡ true) ↔ ((0 < length lengths) × (HasRoom blocks (need lengths ravel) → ⊥))
-    full =
-        let t = effects-theorems .full s (sound-of (h .start)) (effect ∷ []) fits tt in (
-          λ e. let q = vain .0 (t .0 (first-holds (performing.isFull s effect) false (same-full ∙ e))) in (ltb-true 0 (length lengths) (q .0), q .1),
-          λ k. sym same-full
-              ∙ ⊎-elim (λ q. q) (λ q. never (sym q)) (one-holds (performing.isFull s effect) false (t .1 (vain .1 (lt-ltb 0 (length lengths) (k .0), k .1)))),
-        )
-
     -- test 24, by the words and by the free blocks
     judged : isFull s lengths ravel ≡ not (hasRoom s lengths ravel)
-    judged = go (hasRoom s lengths ravel) refl
-      where
-        room : (longEnough s (need lengths ravel) ≡ true) ↔ HasRoom blocks (need lengths ravel)
-        room = has-room s (p .regular) (p .alternate) (h .start) (need lengths ravel)
-
-        go : (b : Bool) → hasRoom s lengths ravel ≡ b → isFull s lengths ravel ≡ not b
-        go true e =
-            fails (isFull s lengths ravel) (λ q.
-            let k = full .0 q in
-            ⊎-elim (λ z. omega (arith, eqb-true (length lengths) 0 z, k .0)) (λ z. k .1 (room .0 z)) (one-holds (eqb (length lengths) 0) _ e))
-        go false e =
-            let n = none-holds (eqb (length lengths) 0) _ e in
-            full .1 (omega (arith, eqb-false (length lengths) 0 (n .0)), λ r. never (sym (room .1 r) ∙ n .1))
+    judged =
+        sym same-full ∙ vain-full s (p .regular) (p .alternate) (h .start) (effect ∷ []) fits
+        ∙ rw (source .asks) (vain-asked (length lengths) (need lengths ravel) (omega arith) s)
 
   -- ---- the table
 
   abbrev first : ℕ
   first = firstFailed (tests s (load p g lengths ravel))
 
-  first-is : first ≡ cond (eqb (refusal s (p .regular) (p .alternate)) 0)
-      (cond (isGlobal s g) (cond (isValue lengths ravel) (cond (hasRoom s lengths ravel) 0 24) 23) 21)
-      (refusal s (p .regular) (p .alternate))
+  first-is : first
+      ≡ cond (eqb judgement 0) (cond (isGlobal s g) (cond (isValue lengths ravel) (cond (hasRoom s lengths ravel) 0 24) 23) 21) judgement
   first-is = further-told s p (test 21 (isGlobal s g) ∷ test 23 (isValue lengths ravel) ∷ test 24 (hasRoom s lengths ravel) ∷ [])
-
-  exchanged : (b : Bool) → _≡_ {A = ℕ} (cond b 0 24) (cond (not b) 24 0)
-  exchanged true = refl
-  exchanged false = refl
-
-  abbrev Same : Type 0
-  Same = cond (eqb (refusal s (p .regular) (p .alternate)) 0)
-      (cond (isGlobal s g) (cond (isValue lengths ravel) (cond (hasRoom s lengths ravel) 0 24) 23) 21)
-      (refusal s (p .regular) (p .alternate))
-      ≡ cond (eqb (refusal s (p .regular) (p .alternate)) 0)
-      (cond (isGlobal s g) (cond (isValue lengths ravel) (cond (isFull s lengths ravel) 24 0) 23) 21)
-      (refusal s (p .regular) (p .alternate))
 
   first-number : first ≡ number
   unfolding loadRefusal
-  first-number = first-is ∙ by-eq (refusal s (p .regular) (p .alternate)) 0 accepted (λ d. simp (ne-eqb (refusal s (p .regular) (p .alternate)) 0 d))
-    where
-      valued : refusal s (p .regular) (p .alternate) ≡ 0 → isGlobal s g ≡ true → (b : Bool) → isValue lengths ravel ≡ b → Same
-      valued h k true v =
-          let j = judged (record { start = structure .sound s (p .regular) (p .alternate) h; global = k; good = v }) in
-          simp (eq-eqb (refusal s (p .regular) (p .alternate)) 0 h, k, v, j) (exchanged (hasRoom s lengths ravel))
-      valued h k false v = simp (eq-eqb (refusal s (p .regular) (p .alternate)) 0 h, k, v)
-
-      found : refusal s (p .regular) (p .alternate) ≡ 0 → (b : Bool) → isGlobal s g ≡ b → Same
-      found h true k = valued h k (isValue lengths ravel) refl
-      found h false k = simp (eq-eqb (refusal s (p .regular) (p .alternate)) 0 h, k)
-
-      accepted : refusal s (p .regular) (p .alternate) ≡ 0 → Same
-      accepted h = found h (isGlobal s g) refl
+  first-number =
+      first-is ∙ by-eq judgement 0
+      (λ h.
+      let l : isGlobal s g ≡ true → isValue lengths ravel ≡ true → isFull s lengths ravel ≡ not (hasRoom s lengths ravel)
+      = λ k v. judged (record { start = structure .sound s (p .regular) (p .alternate) h; global = k; good = v }) in
+      simp (eq-eqb judgement 0 h) (same-ways (isGlobal s g) (isValue lengths ravel) (hasRoom s lengths ravel) (isFull s lengths ravel) l))
+      (λ d. simp (ne-eqb judgement 0 d))
 
   -- 24 exactly where the load comes to a request, and no free block is long enough
   pub load-full : (first ≡ 24) ↔ LoadInVain s p g lengths ravel
-  load-full = (λ e. by-eq (refusal s (p .regular) (p .alternate)) 0 (λ h. found h (isGlobal s g) refl e) (λ d. absurd (early d e)), in-vain)
+  load-full = (λ e. by-eq judgement 0 (λ h. in-vain h (full-ways _ _ (hasRoom s lengths ravel) (sym (left h) ∙ e))) (λ d. absurd (early d e)), full)
     where
-      early : refusal s (p .regular) (p .alternate) ≢ 0 → first ≡ 24 → ⊥
-      early d e =
-          let q : first ≡ refusal s (p .regular) (p .alternate) = first-is ∙ simp (ne-eqb (refusal s (p .regular) (p .alternate)) 0 d) in
-          omega (arith, segment-below s p, e, q)
+      early : judgement ≢ 0 → first ≡ 24 → ⊥
+      early d e = let q : first ≡ judgement = first-is ∙ simp (ne-eqb judgement 0 d) in omega (arith, segment-below s p, e, q)
 
-      left : refusal s (p .regular) (p .alternate) ≡ 0 → isGlobal s g ≡ true → isValue lengths ravel ≡ true → first ≡ cond (hasRoom s lengths ravel) 0 24
-      left h k v = first-is ∙ simp (eq-eqb (refusal s (p .regular) (p .alternate)) 0 h, k, v)
+      left : judgement ≡ 0 → first ≡ cond (isGlobal s g) (cond (isValue lengths ravel) (cond (hasRoom s lengths ravel) 0 24) 23) 21
+      left h = first-is ∙ simp (eq-eqb judgement 0 h)
 
-      judging : refusal s (p .regular) (p .alternate) ≡ 0 → isGlobal s g ≡ true → isValue lengths ravel ≡ true → (b : Bool) → hasRoom s lengths ravel ≡ b → first ≡ 24
-          → LoadInVain s p g lengths ravel
-      judging h k v true r e = absurd (omega (arith, e, left h k v ∙ ap (λ (t : Bool). cond {A = ℕ} t 0 24) r))
-      judging h k v false r e =
-          let n = none-holds (eqb (length lengths) 0) _ r in
-          record { accepted = structure .sound s (p .regular) (p .alternate) h; global = k; value = v; asks = eqb-false (length lengths) 0 (n .0); none = n .1 }
+      in-vain : judgement ≡ 0 → (isGlobal s g ≡ true) × (isValue lengths ravel ≡ true) × (hasRoom s lengths ravel ≡ false) → LoadInVain s p g lengths ravel
+      in-vain h k =
+          let n = none-holds (eqb (length lengths) 0) (longEnough s (need lengths ravel)) (k .2) in
+          record { accepted = segment-told s p ∙ h; global = k .0; value = k .1; asks = eqb-false (length lengths) 0 (n .0); none = n .1 }
 
-      valued : refusal s (p .regular) (p .alternate) ≡ 0 → isGlobal s g ≡ true → (b : Bool) → isValue lengths ravel ≡ b → first ≡ 24 → LoadInVain s p g lengths ravel
-      valued h k true v e = judging h k v (hasRoom s lengths ravel) refl e
-      valued h k false v e =
-          let q : first ≡ 23 = first-is ∙ simp (eq-eqb (refusal s (p .regular) (p .alternate)) 0 h, k, v) in
-          absurd (omega (arith, e, q))
-
-      found : refusal s (p .regular) (p .alternate) ≡ 0 → (b : Bool) → isGlobal s g ≡ b → first ≡ 24 → LoadInVain s p g lengths ravel
-      found h true k e = valued h k (isValue lengths ravel) refl e
-      found h false k e =
-          let q : first ≡ 21 = first-is ∙ simp (eq-eqb (refusal s (p .regular) (p .alternate)) 0 h, k) in
-          absurd (omega (arith, e, q))
-
-      in-vain : LoadInVain s p g lengths ravel → first ≡ 24
-      in-vain k =
-          left (structure .complete s (p .regular) (p .alternate) (k .accepted)) (k .global) (k .value)
-          ∙ rw (ne-eqb (length lengths) 0 (k .asks), k .none)
+      full : LoadInVain s p g lengths ravel → first ≡ 24
+      full k = left (sym (segment-told s p) ∙ k .accepted) ∙ rw (k .global, k .value, ne-eqb (length lengths) 0 (k .asks), k .none)
 
   module _ (e : number ≡ 0) where
     able : Loadable
@@ -310,13 +267,13 @@ module _ (s : List ℕ) (p : Procedures) (g : ℕ) (lengths ravel : List ℕ) wh
         let kept = effects-theorems .kept s sound effect (fits able) has-room-left in
         record {
           seen = load-view;
-          others = λ u before after apart. effects-theorems .others s sound effect (fits able) has-room-left u before after apart;
+          others = λ u apart. ap (look undefined u) load-view ∙ look-other undefined (value lengths ravel) target u (view s) apart;
           length = kept .long;
           sbase = kept .base;
           blockptr = kept .rest 4 (omega arith) (omega arith);
           flags = effects-theorems .flagsKept s sound effect (fits able) has-room-left (λ k. k);
           trapWord = kept .rest 3 (omega arith) (omega arith);
-          accepted = load-accepted;
+          accepted = passes-of (perform s effect) p load-accepted;
         }
 
   pub load-did : Did s (load p g lengths ravel) (answerOf (operations.answerOf number)) (loaded s (p .regular) (p .alternate) g lengths ravel)

@@ -1,5 +1,5 @@
 -- A look does what `Did` says: the parts handed back are the shape and the ravel of what the global is seen as.
-use Prim.Native.Nat.{ℕ, _+_, _-_, _≤_, _<_}
+use Prim.Native.Nat.{ℕ, _+_, _≤_, _<_}
 use mathlib.Core.Path.{_≡_, refl, sym, _∙_, subst}
 use mathlib.Core.Bool.{Bool, true, false, cond, not}
 use mathlib.Core.Logic.{_≢_}
@@ -25,8 +25,9 @@ use Rattle.effects.specs.Seen.{whole, readKind, read}
 use Rattle.effects_theorems.proofs.Tests.{never}
 use Rattle.effects_theorems.proofs.Reading.{read-cell}
 use Rattle.plan_theorems.proofs.Given.{and-true}
-use Rattle.legality.specs.Legal.{Direct}
-use Rattle.legality.proofs.Cells.{globals-length, global-word}
+use Rattle.legality.specs.Legal.{DirectCell}
+use Rattle.legality.proofs.Legal.{global-direct}
+use Rattle.legality.proofs.Cells.{look-global}
 use Rattle.legality.proofs.Owners.{global-owns}
 use Rattle.legality.proofs.Accepted.{legal-theorems}
 use Rattle.step_theorems.proofs.Again.{sound-of}
@@ -61,7 +62,7 @@ module _ (s : List ℕ) (a : ℕ) where
 -- ---- what is told of a word, by its kind
 
 module _ (s : List ℕ) (v : ℕ) where
-  tells : (k : Kind) → Direct (cellOfKind s v k) → isUndefined (cellOfKind s v k) ≡ false → readKind s v k ≡ cellOfKind s v k
+  tells : (k : Kind) → DirectCell (cellOfKind s v k) → isUndefined (cellOfKind s v k) ≡ false → readKind s v k ≡ cellOfKind s v k
       → Tells s (lookAnswer (seenAs v k)) (cellOfKind s v k)
   tells (K.Scalar k) d u r = refl
   tells (K.Array a) d u r = parts-seen s (a .0) (read-whole (whole s (a .0)) (shapeAt s (a .0)) (elementsAt s (a .0)) r)
@@ -120,12 +121,10 @@ module _ (s : List ℕ) (p : Procedures) (g : ℕ) where
 
       held-is : held s g ≡ cellOfKind s v (kindOf v)
       unfolding cell
-      held-is = let b = global-within s g k in global-word s g (b .0) (b .1)
+      held-is = let b = global-within s g k in look-global s g (b .0) (b .1)
 
-      held-direct : Direct (held s g)
-      held-direct =
-          let b = global-within s g k in
-          legal-theorems .split s (p .regular) (p .alternate) start .legal .globals (g - 8) (omega (arith, b, globals-length s))
+      held-direct : DirectCell (held s g)
+      held-direct = global-direct (legal-theorems .split s (p .regular) (p .alternate) start .legal) g
 
       held-read : readKind s v (kindOf v) ≡ cellOfKind s v (kindOf v)
       unfolding read cell

@@ -1,6 +1,6 @@
 -- A run does what `Did` says, and leaves words of 32 bits.
 use Prim.Native.Nat.{ℕ, _<_}
-use mathlib.Core.Path.{_≡_, refl, sym, _∙_, subst}
+use mathlib.Core.Path.{_≡_, sym, _∙_, subst}
 use mathlib.Core.Logic.{_≢_}
 use mathlib.Core.List.{List}
 use native.Mathlib.Omega.{arith}
@@ -11,8 +11,6 @@ use Rattle.segment.specs.State.{trapWord}
 use Rattle.acceptance_storage.proofs.Tests.{by-eq}
 use Rattle.acceptance.specs.Refusal.{refusal}
 use Rattle.acceptance.proofs.Structure.{structure}
-use Rattle.effects.specs.declared.Ran.{Ran as Answered}
-use Rattle.effects.specs.declared.Ran.the-variants as machine
 use Rattle.effects.specs.Run.{runOf}
 use Rattle.plan_theorems.specs.Fitting.{Words}
 use Rattle.operations.specs.declared.Run.the-variants as answers
@@ -21,11 +19,8 @@ use Rattle.operations.specs.Run.{Ended, ended, ran}
 use Rattle.audit.specs.Calls.{Procedures, runAnswer, run, LentProcedures}
 use Rattle.audit.specs.Did.{Ran, Did, isRefused, hasRun}
 use Rattle.audit.proofs.Tests.{segment-told}
+use Rattle.audit.proofs.Accepts.{passes-of}
 use Rattle.audit.proofs.Runs.{answerOf, Ready, run-steps, run-ready, run-all, run-full}
-
-same-answer : (r : Answered) → runAnswer (operations.answerOf r) ≡ answerOf r
-same-answer (machine.Done steps) = refl
-same-answer (machine.Trapped steps) = refl
 
 module _ (s : List ℕ) (p : Procedures) (budget : ℕ) where
   abbrev number : ℕ
@@ -54,12 +49,12 @@ module _ (s : List ℕ) (p : Procedures) (budget : ℕ) where
         let steps = run-steps p s (start e) budget in
         let there : 3 < length s = omega (arith, start e .accepted .shortest) in
         let zero : trapWord (set s 3 0) ≡ 0 = rw getD-set-same in
-        record { steps = steps; all = run-all steps zero; full = run-full steps; accepted = run-ready p s (start e) budget .accepted }
+        record { steps = steps; all = run-all steps zero; full = run-full steps; accepted = passes-of (runOf (p .regular) (p .alternate) s budget .words) p (run-ready p s (start e) budget .accepted) }
 
     pub run-did : RunDid (ran s (p .regular) (p .alternate) budget)
     run-did =
         by-eq number 0
-        (λ e. subst RunDid (sym (run-done e)) (rw (same-answer (runOf (p .regular) (p .alternate) s budget .answer)) (hasRun (segment-told s p ∙ e) (has-run e))))
+        (λ e. subst RunDid (sym (run-done e)) (hasRun (segment-told s p ∙ e) (has-run e)))
         (λ d. subst RunDid (sym (run-refused d)) (isRefused d (segment-told s p)))
 
     pub run-words : Words (ran s (p .regular) (p .alternate) budget .words)

@@ -1,8 +1,8 @@
 -- A run of an accepted segment, one step after the other.
-use Prim.Native.Nat.{ℕ, zero, suc, _+_, _-_, _<_}
-use mathlib.Core.Path.{_≡_, refl, sym, _∙_, ap, subst}
+use Prim.Native.Nat.{ℕ, zero, suc, _+_, _-_, _<_, _≤_}
+use mathlib.Core.Path.{_≡_, refl, sym, _∙_, ap}
 use mathlib.Core.Bool.{true, cond}
-use mathlib.Core.Logic.{_↔_, _⊎_, inr, ⊎-elim}
+use mathlib.Core.Logic.{_↔_, _⊎_, inl, inr, ⊎-elim}
 use mathlib.Core.List.{List}
 use native.Mathlib.Omega.{arith}
 use lib.Dec.{eqb}
@@ -18,7 +18,6 @@ use Rattle.manual.proofs.Traps.{traps-listed}
 use Rattle.effects.specs.declared.Stepped.{Stepped}
 use Rattle.effects.specs.declared.Stepped.the-variants as S
 use Rattle.effects.specs.declared.Ran.{Ran}
-use Rattle.effects.specs.declared.Ran.the-variants as R
 use Rattle.effects.specs.Step.{stepOf}
 use Rattle.effects.specs.Run as stepping
 use Rattle.effects.specs.Run.{following, stepsFrom, runOf}
@@ -26,17 +25,17 @@ use Rattle.effects_theorems.proofs.Tests.{never}
 use Rattle.plan_theorems.specs.Fitting.{Words}
 use Rattle.plan_theorems.specs.Lent.{Lent}
 use Rattle.plan_theorems.proofs.BoundedWords.{words-set}
+use Rattle.operations.specs.Run as operations
 use Rattle.step_theorems.proofs.Again.{trap-accepted}
 use Rattle.step_theorems.proofs.Planned.{plan-listed}
-use Rattle.audit.specs.Calls.{Procedures, Answer, refused, done, ran, trapped, scalar, array}
-use Rattle.audit.specs.Steps as step
-use Rattle.audit.specs.Steps.{Step, traps, full, does, Done, inVain}
+use Rattle.audit.specs.Calls.{Procedures, Answer, ran, trapped, runAnswer, Passes}
+use Rattle.audit.specs.Steps.{StepOutcome, trapsBy, finishes, Step, traps, full, does, inVain}
 use Rattle.audit.specs.Runs.{Runs, over, goesOn, traced, stops, RequestInVain, SomeRequestInVain, ReportsFull}
+use Rattle.audit.proofs.Accepts.{accepted-of, passes-of}
 use Rattle.audit.proofs.Steps.{outcomeFrom, Some, step-done, step-accepted, step-words}
 
 abbrev pub answerOf : Ran → Answer
-answerOf (R.Done steps) = ran steps
-answerOf (R.Trapped steps) = trapped steps
+answerOf r = runAnswer (operations.answerOf r)
 
 -- What a segment must be for its steps to be the manual's.
 pub record Ready (s : List ℕ) (p : Procedures) : Type 0 where
@@ -73,9 +72,9 @@ module _ (p : Procedures) where
       go : (answer : Stepped) (t : List ℕ) → Step p s (outcomeFrom answer) t × Some answer → Ready t p
           → ((u : List ℕ) → Ready u p → RanFrom budget (steps + 1) u (stepsFrom budget (steps + 1) regular other u))
           → RanFrom (suc budget) steps s (following steps answer t (λ u. stepsFrom budget (steps + 1) regular other u))
-      go S.Finished t e k more = record { runs = goesOn (r .accepted) (e .0) (more t k .runs); ready = more t k .ready }
-      go (S.Traced class number) t e k more = record { runs = traced (r .accepted) (e .1) (e .0); ready = k }
-      go (S.Trapped class number) t e k more = record { runs = stops (r .accepted) (e .0); ready = k }
+      go S.Finished t e k more = record { runs = goesOn (passes-of s p (r .accepted)) (e .0) (more t k .runs); ready = more t k .ready }
+      go (S.Traced class number) t e k more = record { runs = traced (passes-of s p (r .accepted)) (e .1) (e .0); ready = k }
+      go (S.Trapped class number) t e k more = record { runs = stops (passes-of s p (r .accepted)) (e .0); ready = k }
 
   -- a run sets word 3 to zero first
   started : (s : List ℕ) → Ready s p → Ready (set s 3 0) p
@@ -94,68 +93,65 @@ module _ (p : Procedures) where
 
 -- ---- the trap word, and what was counted
 
--- where all was done
-abbrev AllDone : ℕ → ℕ → List ℕ → Answer → List ℕ → Type 0
-AllDone budget steps s (ran n) t = (n ≡ steps + budget) × (trapWord s ≡ 0 → trapWord t ≡ 0)
-AllDone budget steps s (trapped n) t = Unit {0}
-AllDone budget steps s (refused n) t = Unit {0}
-AllDone budget steps s done t = Unit {0}
-AllDone budget steps s (scalar w) t = Unit {0}
-AllDone budget steps s (array block) t = Unit {0}
-
 -- what a step leaves in the trap word
-abbrev Left : step.Outcome → List ℕ → List ℕ → Type 0
-Left (step.trapped class number) s t = t ≡ set s 3 (state.trap class number)
-Left (step.done d) s t = trapWord t ≡ cond (eqb d 0) (trapWord s) (state.trap 2 d)
+abbrev Left : StepOutcome → List ℕ → List ℕ → Type 0
+Left (trapsBy class number) s t = t ≡ set s 3 (state.trap class number)
+Left (finishes d) s t = trapWord t ≡ cond (eqb d 0) (trapWord s) (state.trap 2 d)
 
-pub step-left : {p : Procedures} {s t : List ℕ} {o : step.Outcome} → Step p s o t → Left o s t
+pub step-left : {p : Procedures} {s t : List ℕ} {o : StepOutcome} → Step p s o t → Left o s t
 step-left (traps e) = refl
 step-left (full e v) = refl
 step-left (does e v k) = k .trapWord
 
-more-done : (budget steps : ℕ) (s t u : List ℕ) (answer : Answer) → trapWord t ≡ trapWord s → AllDone budget (steps + 1) t answer u
-    → AllDone (suc budget) steps s answer u
-more-done budget steps s t u (ran n) e h = (omega (arith, h .0), λ z. h .1 (e ∙ z))
-more-done budget steps s t u (trapped n) e h = tt
-more-done budget steps s t u (refused n) e h = tt
-more-done budget steps s t u done e h = tt
-more-done budget steps s t u (scalar w) e h = tt
-more-done budget steps s t u (array block) e h = tt
+-- all was done, and the trap word stayed; or a trap came, and no more was counted than was asked
+abbrev Ended : ℕ → ℕ → List ℕ → Answer → List ℕ → Type 0
+Ended budget steps s answer t =
+    ((answer ≡ ran (steps + budget)) × (trapWord s ≡ 0 → trapWord t ≡ 0)) ⊎ ((n : ℕ) × (answer ≡ trapped n) × (n ≤ steps + budget))
 
-all-done : {p : Procedures} {budget steps : ℕ} {s t : List ℕ} {answer : Answer} → Runs p budget steps s answer t → AllDone budget steps s answer t
-all-done over = (omega arith, λ z. z)
-all-done (goesOn {budget = budget} {steps = steps} {s = s} {t = t} {u = u} {answer = answer} accepted e rest) =
-    more-done budget steps s t u answer (step-left e) (all-done rest)
-all-done (traced accepted some e) = tt
-all-done (stops accepted e) = tt
+ended : {p : Procedures} {budget steps : ℕ} {s t : List ℕ} {answer : Answer} → Runs p budget steps s answer t → Ended budget steps s answer t
+ended over = inl (ap ran (omega arith), λ z. z)
+ended (goesOn {budget = budget} {steps = steps} {s = s} {t = t} {u = u} {answer = answer} passes e rest) = ⊎-elim all-done trapped-later (ended rest)
+  where
+    all-done : (answer ≡ ran (steps + 1 + budget)) × (trapWord t ≡ 0 → trapWord u ≡ 0) → Ended (suc budget) steps s answer u
+    all-done h = inl (h .0 ∙ ap ran (omega arith), λ z. h .1 (step-left e ∙ z))
+
+    trapped-later : (n : ℕ) × (answer ≡ trapped n) × (n ≤ steps + 1 + budget) → Ended (suc budget) steps s answer u
+    trapped-later h = inr (h .0, h .1, omega (arith, h .2))
+ended (traced {steps = steps} passes some e) = inr (steps + 1, refl, omega arith)
+ended (stops {steps = steps} passes e) = inr (steps, refl, omega arith)
+
+pub run-answers : {p : Procedures} {budget : ℕ} {s t : List ℕ} {answer : Answer} → Runs p budget 0 s answer t
+    → (answer ≡ ran budget) ⊎ ((n : ℕ) × (answer ≡ trapped n) × (n ≤ budget))
+run-answers {budget = budget} r =
+    ⊎-elim (λ h. inl (h .0 ∙ ap ran (omega arith))) (λ h. inr (h .0, h .1, omega (arith, h .2))) (ended r)
 
 pub run-all : {p : Procedures} {budget : ℕ} {s t : List ℕ} {answer : Answer} → Runs p budget 0 s answer t → trapWord s ≡ 0
     → (n : ℕ) → answer ≡ ran n → (n ≡ budget) × (trapWord t ≡ 0)
-run-all {budget = budget} {s = s} {t = t} runs z n e =
-    let h = subst (λ (a : Answer). AllDone budget 0 s a t) e (all-done runs) in (omega (arith, h .0), h .1 z)
+run-all {budget = budget} r z n e =
+    ⊎-elim (λ h. let k : n ≡ 0 + budget = cc in (omega arith, h .1 z)) (λ h. let k : _≡_ {A = ℕ} 0 1 = cc in absurd (omega arith)) (ended r)
 
 -- ---- storage full
 
 -- a step whose instruction asks in vain is (1,2), and (1,2) comes of nothing else
-abbrev Vain : Procedures → List ℕ → step.Outcome → List ℕ → Type 0
-Vain p s o t = RequestInVain p s → (o ≡ step.trapped 1 2) × (t ≡ set s 3 (state.trap 1 2))
+abbrev Vain : Procedures → List ℕ → StepOutcome → List ℕ → Type 0
+Vain p s o t = RequestInVain p s → (o ≡ trapsBy 1 2) × (t ≡ set s 3 (state.trap 1 2))
 
-pub vain-traps : {p : Procedures} {s t : List ℕ} {o : step.Outcome} → Step p s o t → Vain p s o t
+pub vain-traps : {p : Procedures} {s t : List ℕ} {o : StepOutcome} → Step p s o t → Vain p s o t
 vain-traps (traps e) k = let z : _≡_ {A = ℕ} 0 1 = cc in absurd (omega arith)
 vain-traps (full e v) k = (refl, refl)
 vain-traps {s = s} (does {es = es} e v d) k =
     let same : es ≡ k .0 = cc in
     never (sym (k .2) ∙ ap (inVain s) (sym same) ∙ v)
 
-abbrev OnlyVain : Procedures → List ℕ → step.Outcome → Type 0
-OnlyVain p s (step.trapped class number) = state.trap class number ≡ state.trap 1 2 → RequestInVain p s
-OnlyVain p s (step.done d) = Unit {0}
+abbrev OnlyVain : Procedures → List ℕ → StepOutcome → Type 0
+OnlyVain p s (trapsBy class number) = state.trap class number ≡ state.trap 1 2 → RequestInVain p s
+OnlyVain p s (finishes d) = Unit {0}
 
 never-full : listed 1 2 ≡ true → ⊥
 unfolding listed
 never-full e = never (sym e)
 
-pub only-vain : {p : Procedures} {s t : List ℕ} {o : step.Outcome} → Step p s o t → OnlyVain p s o
+pub only-vain : {p : Procedures} {s t : List ℕ} {o : StepOutcome} → Step p s o t → OnlyVain p s o
 only-vain {p = p} {s = s} (traps {class = class} {number = number} e) = λ w.
     let l = plan-listed (p .regular) (p .alternate) (length s - sbase s) (view s) class number e in
     let k = traps-listed .class class number l in
@@ -166,24 +162,24 @@ only-vain {p = p} {s = s} (traps {class = class} {number = number} e) = λ w.
 only-vain (full {es = es} e v) = λ w. (es, e, v)
 only-vain (does e v d) = tt
 
-trap-read : (s regular other : List ℕ) → Accepted s regular other → (v : ℕ) → trapWord (set s 3 v) ≡ v
-trap-read s regular other h v = let l : 3 < length s = omega (arith, h .shortest) in rw getD-set-same
+trap-read : (s : List ℕ) (p : Procedures) → Passes s p → (v : ℕ) → trapWord (set s 3 v) ≡ v
+trap-read s p h v = let l : 3 < length s = omega (arith, accepted-of s p h .shortest) in rw getD-set-same
 
 reports : {p : Procedures} {budget steps : ℕ} {s t : List ℕ} {answer : Answer} → (r : Runs p budget steps s answer t) → ReportsFull answer t → SomeRequestInVain r
 reports over f = let z : _≡_ {A = ℕ} 0 1 = cc (f .answered) in absurd (omega arith)
-reports (goesOn accepted e rest) f = inr (reports rest f)
-reports (traced {d = d} {t = t} accepted some e) f =
+reports (goesOn passes e rest) f = inr (reports rest f)
+reports (traced {d = d} {t = t} passes some e) f =
     let w : trapWord t ≡ state.trap 2 d = rw (ne-eqb d 0 some) at (step-left e) in
     absurd (omega (arith, f .trap, w))
-reports {p = p} (stops {class = class} {number = number} {s = s} accepted e) f =
-    only-vain e (sym (trap-read s (p .regular) (p .alternate) accepted (state.trap class number)) ∙ ap trapWord (sym (step-left e)) ∙ f .trap)
+reports {p = p} (stops {class = class} {number = number} {s = s} passes e) f =
+    only-vain e (sym (trap-read s p passes (state.trap class number)) ∙ ap trapWord (sym (step-left e)) ∙ f .trap)
 
 reported : {p : Procedures} {budget steps : ℕ} {s t : List ℕ} {answer : Answer} → (r : Runs p budget steps s answer t) → SomeRequestInVain r → ReportsFull answer t
 reported over k = absurd k
-reported (goesOn accepted e rest) k = ⊎-elim (λ v. let q = vain-traps e v in let z : _≡_ {A = ℕ} 0 1 = cc in absurd (omega arith)) (λ v. reported rest v) k
-reported (traced accepted some e) k = let q = vain-traps e k in let z : _≡_ {A = ℕ} 0 1 = cc in absurd (omega arith)
-reported {p = p} (stops {steps = steps} {s = s} accepted e) k =
-    record { steps = steps; answered = refl; trap = ap trapWord (vain-traps e k .1) ∙ trap-read s (p .regular) (p .alternate) accepted (state.trap 1 2) }
+reported (goesOn passes e rest) k = ⊎-elim (λ v. let q = vain-traps e v in let z : _≡_ {A = ℕ} 0 1 = cc in absurd (omega arith)) (λ v. reported rest v) k
+reported (traced passes some e) k = let q = vain-traps e k in let z : _≡_ {A = ℕ} 0 1 = cc in absurd (omega arith)
+reported {p = p} (stops {steps = steps} {s = s} passes e) k =
+    record { steps = steps; answered = refl; trap = ap trapWord (vain-traps e k .1) ∙ trap-read s p passes (state.trap 1 2) }
 
 pub run-full : {p : Procedures} {budget steps : ℕ} {s t : List ℕ} {answer : Answer} → (r : Runs p budget steps s answer t) → ReportsFull answer t ↔ SomeRequestInVain r
 run-full r = (reports r, reported r)

@@ -1,37 +1,33 @@
 -- A step of an accepted segment is a `Step`, by the cases of its plan.
-use Prim.Native.Nat.{ℕ, _+_, _-_, _*_, _/_, _%_, _^_, _<_, _≤_}
+use Prim.Native.Nat.{ℕ, _-_, _/_, _%_, _^_, _<_, _≤_}
 use mathlib.Core.Path.{_≡_, refl, sym, _∙_, ap, subst}
-use mathlib.Core.Bool.{Bool, true, false, cond}
-use mathlib.Core.List.{List, [], _∷_}
-use mathlib.Core.Logic.{_↔_, _≢_}
+use mathlib.Core.Bool.{Bool, true, false, cond, _&&_}
+use mathlib.Core.List.{List}
+use mathlib.Core.Logic.{_≢_}
 use native.Mathlib.Omega.{arith}
 use lib.Dec.{eqb}
 use lib.ListN.{getD, set, length, length-set}
 use lib.Seq.{getD-set-same, getD-set-other}
-use borrow.Author.Tests.{eqb-true, eqb-false, eq-eqb, ne-eqb}
+use borrow.Author.Tests.{eq-eqb, ne-eqb}
 use Rattle.descriptor.specs.declared.Target.{Target}
-use Rattle.descriptor.specs.declared.Target.the-variants.{Local, Global}
 use Rattle.procedure.specs.declared.header.Header.{Header}
 use Rattle.segment.specs.State.{sbase, flags, fcnctrc, fcnrtrc, stepFlag, trapWord, trap as trapOf, blockptr, setTrap}
 use Rattle.segment.specs.Cells.{Cell, undefined}
 use Rattle.segment.specs.Machine.{Machine}
-use Rattle.segment.specs.View.{words, view}
-use Rattle.acceptance_storage.proofs.Tests.{fails}
+use Rattle.segment.specs.View.{view}
 use Rattle.acceptance.specs.Structure.{Accepted}
 use Rattle.manual.specs.OrTrap.{gives, trap}
-use Rattle.manual.specs.Effects.{NoneStoresTo, Effect, replaces, discards, swaps, stores, storesElement, enters, leaves, jumps, setsOrigin, Plan, look, performOn, performAll, AddressableIn}
+use Rattle.manual.specs.Effects.{NoneStoresTo, Effect, Plan, look, AddressableIn}
 use Rattle.manual.specs.Instructions.{Running, headerOf}
 use Rattle.manual.proofs.Traps.{traps-listed}
 use Rattle.effects.specs.Sound.{Sound}
-use Rattle.effects.specs.Fits.{Addressable}
 use Rattle.effects.specs.Perform.{performs, firstFull}
 use Rattle.effects_theorems.specs.Theorems.{StateKept, PerformedAll}
-use Rattle.effects_theorems.proofs.State.{trap-sound, trap-words, trap-view}
-use Rattle.effects_theorems.proofs.Tests.{never}
+use Rattle.effects_theorems.proofs.State.{trap-view}
+use Rattle.effects_theorems.proofs.Variables.{in-view}
 use Rattle.effects_theorems.proofs.Theorems.{effects-theorems}
 use Rattle.plan_theorems.specs.Fitting.{Words}
 use Rattle.plan_theorems.specs.Lent.{Lent}
-use Rattle.plan_theorems.specs.Bounded.{Small, AllSmall}
 use Rattle.plan_theorems.proofs.BoundedWords.{words-set}
 use Rattle.plan_theorems.proofs.Bounded.{bounded-theorems}
 use Rattle.effects.specs.declared.Outcome.{Outcome as Turn}
@@ -42,39 +38,13 @@ use Rattle.effects.specs.declared.Stepped.the-variants as S
 use Rattle.effects.specs.Step as stepping
 use Rattle.effects.specs.Step.{Result, finished, due, settle, stepOf, currentHeader}
 use Rattle.step_theorems.specs.Planned.{planned, headerIn}
-use Rattle.step_theorems.proofs.Current.{running, step-is, header-seen, header-running}
+use Rattle.step_theorems.proofs.Current.{current-function, step-is, header-seen, header-running}
 use Rattle.step_theorems.proofs.Planned.{Known, plan-known, plan-listed}
-use Rattle.step_theorems.proofs.Again.{sound-of, trap-accepted, effects-accepted}
-use Rattle.step_theorems.proofs.Settled.{settled-effects, due-small, finished-keeps}
+use Rattle.step_theorems.proofs.Again.{sound-of, view-flags, trap-accepted, effects-accepted}
+use Rattle.step_theorems.proofs.Settled.{settled-effects, finished-by, finished-keeps}
 use Rattle.audit.specs.Calls.{Procedures}
-use Rattle.audit.specs.Steps.{Outcome, trapped, done, inVain, dueAfter, Done, Step, traps, full, does}
+use Rattle.audit.specs.Steps.{StepOutcome, trapsBy, finishes, inVain, dueAfter, EffectsDone, Step, traps, full, does}
 use Rattle.audit.proofs.Full.{vain-full}
-
--- ---- what an effect leaves of the flags
-
-origin-half : (f v : ℕ) → v < 2 → (f / 2 * 2 + v) / 2 ≡ f / 2
-origin-half f v h = omega arith
-
-flags-kept : (e : Effect) (m : Machine Cell) → Small e → performOn e m .flags / 2 ≡ m .flags / 2
-flags-kept (replaces n source) m h = refl
-flags-kept (discards n) m h = refl
-flags-kept swaps m h = refl
-flags-kept (stores (Local a) source) m h = refl
-flags-kept (stores (Global g) source) m h = refl
-flags-kept (storesElement (Local a) place w n) m h = refl
-flags-kept (storesElement (Global g) place w n) m h = refl
-flags-kept (enters n f) m h = refl
-flags-kept (leaves n result) m h = refl
-flags-kept (jumps place) m h = refl
-flags-kept (setsOrigin v) m h = origin-half (m .flags) v h
-
-all-flags : (es : List Effect) (m : Machine Cell) → AllSmall es → performAll es m .flags / 2 ≡ m .flags / 2
-all-flags [] m h = refl
-all-flags (e ∷ es) m h = all-flags es (performOn e m) (h .1) ∙ flags-kept e m (h .0)
-
-view-flags : (s : List ℕ) → view s .flags ≡ flags s
-unfolding view words
-view-flags s = refl
 
 -- ---- what is due
 
@@ -102,30 +72,29 @@ due-told regular other left T.Entered t = refl
 due-told regular other left T.Left t = refl
 due-told regular other left (T.Trapped class number) t = refl
 
+due-low : (b : Bool) (n f : ℕ) → n ≤ 3 → cond b n (stepFlag f) ≤ 3
+due-low true n f h = h
+due-low false n f h = omega arith
+
+-- (2,1), (2,2) or (2,3)
+pub due-small : (turn : Turn) (f : ℕ) (called left : Header) → dueAfter turn f called left ≤ 3
+due-small T.Finished f called left = omega arith
+due-small T.Entered f called left = due-low (eqb (fcnctrc f) 1 && called .calltrace) 2 f (omega arith)
+due-small T.Left f called left = due-low (eqb (fcnrtrc f) 1 && left .rtntrace) 3 f (omega arith)
+due-small (T.Trapped class number) f called left = omega arith
+
 -- ---- what a step's answer comes to
 
-abbrev pub outcomeFrom : Stepped → Outcome
-outcomeFrom S.Finished = done 0
-outcomeFrom (S.Traced class number) = done number
-outcomeFrom (S.Trapped class number) = trapped class number
+abbrev pub outcomeFrom : Stepped → StepOutcome
+outcomeFrom S.Finished = finishes 0
+outcomeFrom (S.Traced class number) = finishes number
+outcomeFrom (S.Trapped class number) = trapsBy class number
 
 -- what is due after a traced instruction
 abbrev pub Some : Stepped → Type 0
 Some S.Finished = Unit {0}
 Some (S.Traced class number) = number ≢ 0
 Some (S.Trapped class number) = Unit {0}
-
--- The machine is the same.
-record Unchanged (t u : List ℕ) : Type 0 where
-  sound : Sound u
-  cells : words u ≡ words t
-  seen : view u ≡ view t
-
-unchanged : {t : List ℕ} → Sound t → Unchanged t t
-unchanged g = record { sound = g; cells = refl; seen = refl }
-
-trap-unchanged : {t : List ℕ} → Sound t → (v : ℕ) → Unchanged t (set t 3 v)
-trap-unchanged {t} g v = record { sound = trap-sound t g v; cells = trap-words t g v; seen = trap-view t g v }
 
 module _ (s : List ℕ) (p : Procedures) (lent : Lent s (p .regular) (p .alternate)) (h : Accepted s (p .regular) (p .alternate)) where
   abbrev regular : List ℕ
@@ -135,7 +104,7 @@ module _ (s : List ℕ) (p : Procedures) (lent : Lent s (p .regular) (p .alterna
   other = p .alternate
 
   abbrev f : Running
-  f = running s regular other
+  f = current-function s regular other
 
   abbrev sound : Sound s
   sound = sound-of h
@@ -175,12 +144,12 @@ module _ (s : List ℕ) (p : Procedures) (lent : Lent s (p .regular) (p .alterna
     full-step q = step-of (gives es) e ∙ rw q
 
     -- the request, by the words and by the free blocks
-    vain : (firstFull s es ≡ true) ↔ (inVain s es ≡ true)
-    vain = let k = known es e .fitting in vain-full s regular other h es (k .first) (k .once)
+    vain : firstFull s es ≡ inVain s es
+    vain = vain-full s regular other h es (known es e .fitting .first)
 
     module _ (q : firstFull s es ≡ false) where
       served : inVain s es ≡ false
-      served = fails (inVain s es) (λ v. never (sym (vain .1 v) ∙ q))
+      served = sym vain ∙ q
 
       done-step : stepOf regular other s ≡ finished d t
       done-step = step-of (gives es) e ∙ rw q (settled-effects regular other (headerOf f .rtntrace) t es)
@@ -194,16 +163,16 @@ module _ (s : List ℕ) (p : Procedures) (lent : Lent s (p .regular) (p .alterna
       done-accepted : Accepted t regular other
       done-accepted = effects-accepted s regular other h es performed kept (known es e .kept)
 
-      others : (u : Target) → Addressable s u → Addressable t u → NoneStoresTo es u → look undefined u (view t) ≡ look undefined u (view s)
+      others : (u : Target) → AddressableIn u (view s) → AddressableIn u (view t) → NoneStoresTo es u → look undefined u (view t) ≡ look undefined u (view s)
       others u before after none =
           let k = known es e .fitting in
           effects-theorems .allOthers s sound es (k .all) (k .once) q u
-          (effects-theorems .stands s sound es (k .all) (k .once) q (known es e .first) u before after) none
+          (effects-theorems .stands s sound es (k .all) (k .once) q (known es e .first) u (in-view s u .1 before) (in-view t u .1 after)) none
 
       same-flags : flags t / 2 ≡ flags s / 2
       same-flags =
           ap (λ (n : ℕ). n / 2) (sym (view-flags t) ∙ ap (λ (m : Machine Cell). m .flags) (performed .seen))
-          ∙ all-flags es (view s) (known es e .small)
+          ∙ known es e .kept .flags
           ∙ ap (λ (n : ℕ). n / 2) (view-flags s)
 
       is-due : d ≡ dueAfter (outcomeOf es) (flags s) (currentHeader regular other t) (headerIn regular other (view s))
@@ -213,17 +182,17 @@ module _ (s : List ℕ) (p : Procedures) (lent : Lent s (p .regular) (p .alterna
           ∙ ap (dueAfter (outcomeOf es) (flags s) (currentHeader regular other t)) (sym (header-running s regular other))
 
       small : d ≤ 3
-      small = due-small regular other (headerOf f .rtntrace) t es
+      small = subst (λ (n : ℕ). n ≤ 3) (sym (due-told regular other (headerOf f) (outcomeOf es) t)) (due-small (outcomeOf es) (flags t) (currentHeader regular other t) (headerOf f))
 
       -- whether or not a trap is due, and its word written
-      module _ (u : List ℕ) (same : Unchanged t u) (long : length u ≡ length t) (rest : (i : ℕ) → i ≢ 3 → getD u i 0 ≡ getD t i 0)
+      module _ (u : List ℕ) (same : view u ≡ view t) (long : length u ≡ length t) (rest : (i : ℕ) → i ≢ 3 → getD u i 0 ≡ getD t i 0)
           (written : trapWord u ≡ cond (eqb d 0) (trapWord t) (trapOf 2 d)) where
-        done-as : Done p s es d u
+        done-as : EffectsDone p s es d u
         done-as = record {
-          seen = same .seen ∙ performed .seen;
-          others = λ v before after none. ap (look undefined v) (same .seen) ∙ others v before (subst (AddressableIn v) (same .cells) after) none;
+          seen = same ∙ performed .seen;
+          others = λ v before after none. ap (look undefined v) same ∙ others v before (subst (AddressableIn v) same after) none;
           due = is-due ∙ ap (λ (c : Header). dueAfter (outcomeOf es) (flags s) c (headerIn regular other (view s)))
-              (sym (header-seen regular other t) ∙ ap (headerIn regular other) (sym (same .seen)));
+              (sym (header-seen regular other t) ∙ ap (headerIn regular other) (sym same));
           trapWord = written ∙ ap (λ (w : ℕ). cond (eqb d 0) w (trapOf 2 d)) (kept .rest 3 (omega arith) (omega arith));
           length = long ∙ kept .long;
           sbase = ap (λ (w : ℕ). w / 2 ^ 16) (rest 0 (omega arith)) ∙ kept .base;
@@ -231,26 +200,22 @@ module _ (s : List ℕ) (p : Procedures) (lent : Lent s (p .regular) (p .alterna
           flags = ap (λ (w : ℕ). w / 2) (rest 2 (omega arith)) ∙ same-flags;
         }
 
-      silent : d ≡ 0 → Step p s (done 0) t
+      silent : d ≡ 0 → Step p s (finishes 0) t
       silent z =
-          subst (λ (n : ℕ). Step p s (done n) t) z
-          (does e served (done-as t (unchanged (performed .sound)) refl (λ i n. refl) (rw (eq-eqb d 0 z))))
+          subst (λ (n : ℕ). Step p s (finishes n) t) z
+          (does e served (done-as t refl refl (λ i n. refl) (rw (eq-eqb d 0 z))))
 
-      traced : d ≢ 0 → Step p s (done d) (setTrap t 2 d)
+      traced : d ≢ 0 → Step p s (finishes d) (setTrap t 2 d)
       unfolding setTrap
       traced n =
           let there : 3 < length t = omega (arith, kept .long, h .shortest) in
           let word : trapWord (set t 3 (trapOf 2 d)) ≡ trapOf 2 d = rw getD-set-same in
           does e served
-          (done-as (set t 3 (trapOf 2 d)) (trap-unchanged (performed .sound) (trapOf 2 d)) (length-set t 3 (trapOf 2 d)) (λ i k. rw getD-set-other)
+          (done-as (set t 3 (trapOf 2 d)) (trap-view t (performed .sound) (trapOf 2 d)) (length-set t 3 (trapOf 2 d)) (λ i k. rw getD-set-other)
           (word ∙ rw (ne-eqb d 0 n)))
 
       done-is : StepOf (finished d t)
-      done-is = go (eqb d 0) refl
-        where
-          go : (b : Bool) → eqb d 0 ≡ b → StepOf (finished d t)
-          go true z = rw z (silent (eqb-true d 0 z), tt)
-          go false z = rw z (traced (eqb-false d 0 z), eqb-false d 0 z)
+      done-is = finished-by d t StepOf (λ z. (silent z, tt)) (λ n. (traced n, n))
 
   -- ---- the step
 
@@ -258,7 +223,7 @@ module _ (s : List ℕ) (p : Procedures) (lent : Lent s (p .regular) (p .alterna
   step-done = go plan refl
     where
       gone : (es : List Effect) → plan ≡ gives es → (b : Bool) → firstFull s es ≡ b → StepOf (stepOf regular other s)
-      gone es e true q = subst StepOf (sym (full-step es e q ∙ trap-small 1 2 (omega arith) (omega arith))) (full e (vain es e .0 q), tt)
+      gone es e true q = subst StepOf (sym (full-step es e q ∙ trap-small 1 2 (omega arith) (omega arith))) (full e (sym (vain es e) ∙ q), tt)
       gone es e false q = subst StepOf (sym (done-step es e q)) (done-is es e q)
 
       go : (q : Plan) → plan ≡ q → StepOf (stepOf regular other s)
@@ -280,7 +245,7 @@ module _ (s : List ℕ) (p : Procedures) (lent : Lent s (p .regular) (p .alterna
       gone es e true q = stopped 1 2 (full-step es e q)
       gone es e false q =
           rw (done-step es e q)
-          (finished-keeps (d es e) (small es e q) (t es e) P (trapping (t es e) (effects es e q)) (effects es e q))
+          (finished-keeps (d es e) (t es e) (small es e q) P (trapping (t es e) (effects es e q)) (effects es e q))
 
       go : (q : Plan) → plan ≡ q → P (stepOf regular other s .words)
       go (gives es) e = gone es e (firstFull s es) refl

@@ -1,13 +1,13 @@
 -- The table as a list of tests is the table that the operations' definitions cite.
 use Prim.Native.Nat.{ℕ, _<_}
 use mathlib.Core.Path.{_≡_, refl, sym, _∙_, ap, subst}
-use mathlib.Core.Bool.{Bool, true, false, cond, not, _||_}
+use mathlib.Core.Bool.{Bool, true, false, cond, _&&_}
 use mathlib.Core.Logic.{_≢_}
 use mathlib.Core.List.{List, [], _∷_, _++_}
 use native.Mathlib.Omega.{arith}
 use lib.Dec.{eqb}
 use borrow.Author.Tests.{ne-eqb}
-use Rattle.procedure.specs.Refusal.{lengthRefused, contentsFault, refuses, procedureRefusal}
+use Rattle.procedure.specs.Refusal.{segmentLengthTest, contentsTest, procedureRefusal}
 use Rattle.acceptance.specs.Refusal.{lengthTest, dataRefusal, refusal}
 use Rattle.fresh_segment.specs.LayOut.{Layout, functionTest, partsTest, layOutRefusal}
 use Rattle.audit.specs.Calls.{Procedures, layOut, Test, firstFailed, segmentTests, tests}
@@ -41,26 +41,21 @@ first-below n (x ∷ xs) h some = either (x .passes) (first-below n xs (h .1) so
 
 -- ---- tests 11 and 12
 
-procedures-told : (a b c d : Bool) (rest : ℕ)
-    → cond (eqb (cond a 11 (cond b 11 (cond c 12 (cond d 12 0)))) 0) rest (cond a 11 (cond b 11 (cond c 12 (cond d 12 0))))
-    ≡ cond (not (a || b)) (cond (not (c || d)) rest 12) 11
-procedures-told true b c d rest = refl
-procedures-told false true c d rest = refl
-procedures-told false false true d rest = refl
-procedures-told false false false true rest = refl
-procedures-told false false false false rest = refl
+procedures-told : (lengths contents : Bool) (rest : ℕ)
+    → cond (eqb (cond lengths (cond contents 0 12) 11) 0) rest (cond lengths (cond contents 0 12) 11) ≡ cond lengths (cond contents rest 12) 11
+procedures-told true true rest = refl
+procedures-told true false rest = refl
+procedures-told false contents rest = refl
 
 module _ (s : List ℕ) (p : Procedures) where
   lent-told : (rest : ℕ) → cond (lengthTest s) (cond (eqb (procedureRefusal (p .regular) (p .alternate)) 0) rest (procedureRefusal (p .regular) (p .alternate))) 10
       ≡ cond (lengthTest s)
-      (cond (not (lengthRefused (p .regular) || lengthRefused (p .alternate)))
-      (cond (not (refuses (contentsFault (p .regular)) || refuses (contentsFault (p .alternate)))) rest 12)
-      11)
+      (cond (segmentLengthTest (p .regular) && segmentLengthTest (p .alternate)) (cond (contentsTest (p .regular) && contentsTest (p .alternate)) rest 12) 11)
       10
   unfolding procedureRefusal
   lent-told rest =
       ap (λ (n : ℕ). cond (lengthTest s) n 10)
-      (procedures-told (lengthRefused (p .regular)) (lengthRefused (p .alternate)) (refuses (contentsFault (p .regular))) (refuses (contentsFault (p .alternate))) rest)
+      (procedures-told (segmentLengthTest (p .regular) && segmentLengthTest (p .alternate)) (contentsTest (p .regular) && contentsTest (p .alternate)) rest)
 
   -- tests 10–18
   pub segment-told : firstFailed (segmentTests s p) ≡ refusal s (p .regular) (p .alternate)

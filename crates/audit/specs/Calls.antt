@@ -1,13 +1,14 @@
 -- A call of one of the four operations, what it answers, and the table of document 01: "Tests go in table order, save that 20
 -- comes before 19; lay out omits 13–18." A reader must believe: each test is the sentence of its number. Assumes nothing.
 use Prim.Native.Nat.{ℕ}
-use mathlib.Core.Bool.{Bool, cond, not, _||_}
+use mathlib.Core.Path.{_≡_}
+use mathlib.Core.Bool.{Bool, cond, not, _&&_, _||_}
 use mathlib.Core.List.{List, [], _∷_, _++_}
 use lib.Dec.{eqb}
 use lib.ListN.{length}
 use Rattle.descriptor.specs.declared.Target.the-variants.{Global}
 use Rattle.descriptor.specs.Kinds.{segment}
-use Rattle.procedure.specs.Refusal.{lengthRefused, contentsFault, refuses}
+use Rattle.procedure.specs.Refusal.{segmentLengthTest, contentsTest}
 use Rattle.segment.specs.Blocks.{need}
 use Rattle.segment.specs.Cells.{Cell, undefined}
 use Rattle.segment.specs.View.{view}
@@ -89,8 +90,8 @@ firstFailed (x ∷ tests) = cond (x .passes) (firstFailed tests) (x .number)
 abbrev pub lentTests : List ℕ → Procedures → List Test
 lentTests s p =
     test 10 (lengthTest s)
-    ∷ test 11 (not (lengthRefused (p .regular) || lengthRefused (p .alternate)))
-    ∷ test 12 (not (refuses (contentsFault (p .regular)) || refuses (contentsFault (p .alternate))))
+    ∷ test 11 (segmentLengthTest (p .regular) && segmentLengthTest (p .alternate))
+    ∷ test 12 (contentsTest (p .regular) && contentsTest (p .alternate))
     ∷ []
 
 abbrev pub segmentTests : List ℕ → Procedures → List Test
@@ -103,6 +104,10 @@ segmentTests s p =
     ∷ test 17 (cellsTest s (p .regular) (p .alternate))
     ∷ test 18 (countsTest s)
     ∷ [])
+
+-- Tests 10–18 pass: the segment is accepted. specs/Accepts says the same as a structure.
+abbrev pub Passes : List ℕ → Procedures → Type 0
+Passes s p = firstFailed (segmentTests s p) ≡ 0
 
 -- The value of a global.
 abbrev pub held : List ℕ → ℕ → Cell

@@ -2,49 +2,45 @@
 use Prim.Native.Nat.{ℕ, _≤_}
 use mathlib.Core.Path.{_≡_}
 use mathlib.Core.Bool.{true, false}
-use mathlib.Core.Logic.{_↔_, _≢_}
+use mathlib.Core.Logic.{_≢_}
 use mathlib.Core.List.{List, [], _∷_, map}
 use lib.ListN.{set}
 use Rattle.segment.specs.State as state
-use Rattle.acceptance.specs.Structure.{Accepted}
 use Rattle.manual.specs.OrTrap.{gives, trap}
 use Rattle.manual.specs.Effects.{Effect}
 use Rattle.manual.specs.Traps.{listed}
 use Rattle.fresh_segment.specs.LayOut.{Layout}
 use Rattle.plan_theorems.specs.Fitting.{Words}
-use Rattle.plan_theorems.specs.Lent.{Lent}
 use Rattle.step_theorems.specs.Planned.{planned}
-use Rattle.audit.specs.Calls.{Procedures, Call, layOut, run, load, look, Answer, firstFailed, segmentTests, tests, held, LentCall}
-use Rattle.audit.specs.Steps as step
-use Rattle.audit.specs.Steps.{Outcome, Step, Done, inVain}
+use Rattle.audit.specs.Calls.{Procedures, Call, layOut, run, load, look, Answer, firstFailed, tests, Passes, held, LentProcedures, LentCall}
+use Rattle.audit.specs.Steps.{StepOutcome, trapsBy, finishes, Step, EffectsDone, inVain}
 use Rattle.audit.specs.Did.{LaidOut, Ran, Loaded, Tells, Did}
 use Rattle.audit.specs.Lists.{refusalOf, Answers, Kept, FullExactly, Event, Happened, AllLent}
 
 pub record Demand1 : Type 0 where
   -- "A bad length, segment or number is refused with its number, changing nothing."
-  pub accepts : (s : List ℕ) (p : Procedures) → (firstFailed (segmentTests s p) ≡ 0) ↔ Accepted s (p .regular) (p .alternate)
   pub number : {s t : List ℕ} {c : Call} {a : Answer} → Did s c a t → refusalOf a ≡ firstFailed (tests s c)
   pub unchanged : {s t : List ℕ} {c : Call} {a : Answer} → Did s c a t → refusalOf a ≢ 0 → t ≡ s
   -- "Otherwise each operation ends,"
   pub ends : (s : List ℕ) → Words s → (c : Call) → LentCall c → (a : Answer) × (t : List ℕ) × Did s c a t × Words t
   pub answers : {s t : List ℕ} {c : Call} {a : Answer} → Did s c a t → refusalOf a ≡ 0 → Answers c a
   -- "and each instruction finishes, or traps by class and number"
-  pub instruction : (s : List ℕ) (p : Procedures) → Lent s (p .regular) (p .alternate) → Accepted s (p .regular) (p .alternate)
-      → (o : Outcome) × (t : List ℕ) × Step p s o t × Accepted t (p .regular) (p .alternate)
+  pub instruction : (s : List ℕ) (p : Procedures) → Words s → LentProcedures p → Passes s p
+      → (o : StepOutcome) × (t : List ℕ) × Step p s o t × Passes t p
   -- "with everything but the trap word unchanged (step and trace traps alone come after a finished instruction)."
-  pub trapped : {s t : List ℕ} {p : Procedures} {class number : ℕ} → Step p s (step.trapped class number) t → t ≡ set s 3 (state.trap class number)
-  pub after : {s t : List ℕ} {p : Procedures} {d : ℕ} → Step p s (step.done d) t → d ≤ 3
-  pub alone : {s t : List ℕ} {p : Procedures} {number : ℕ} → Step p s (step.trapped 2 number) t → number ≡ 4
+  pub trapped : {s t : List ℕ} {p : Procedures} {class number : ℕ} → Step p s (trapsBy class number) t → t ≡ set s 3 (state.trap class number)
+  pub after : {s t : List ℕ} {p : Procedures} {d : ℕ} → Step p s (finishes d) t → d ≤ 3
+  pub alone : {s t : List ℕ} {p : Procedures} {number : ℕ} → Step p s (trapsBy 2 number) t → number ≡ 4
 
 pub record Demand2 : Type 0 where
   -- "Every step does what the manual, as fixed in document 01, gives: values, frames, next PCTR, trap."
-  pub trap : {s t : List ℕ} {p : Procedures} {o : Outcome} → Step p s o t → (class number : ℕ)
-      → planned s (p .regular) (p .alternate) ≡ trap class number → (o ≡ step.trapped class number) × (listed class number ≡ true)
-  pub full : {s t : List ℕ} {p : Procedures} {o : Outcome} → Step p s o t → (es : List Effect)
-      → planned s (p .regular) (p .alternate) ≡ gives es → inVain s es ≡ true → o ≡ step.trapped 1 2
-  -- "A value that the instruction does not take, write or drop stays the same though it shares storage": `Done.others`.
-  pub does : {s t : List ℕ} {p : Procedures} {o : Outcome} → Step p s o t → (es : List Effect)
-      → planned s (p .regular) (p .alternate) ≡ gives es → inVain s es ≡ false → (d : ℕ) × (o ≡ step.done d) × Done p s es d t
+  pub trap : {s t : List ℕ} {p : Procedures} {o : StepOutcome} → Step p s o t → (class number : ℕ)
+      → planned s (p .regular) (p .alternate) ≡ trap class number → (o ≡ trapsBy class number) × (listed class number ≡ true)
+  pub full : {s t : List ℕ} {p : Procedures} {o : StepOutcome} → Step p s o t → (es : List Effect)
+      → planned s (p .regular) (p .alternate) ≡ gives es → inVain s es ≡ true → o ≡ trapsBy 1 2
+  -- "A value that the instruction does not take, write or drop stays the same though it shares storage": `EffectsDone.others`.
+  pub does : {s t : List ℕ} {p : Procedures} {o : StepOutcome} → Step p s o t → (es : List Effect)
+      → planned s (p .regular) (p .alternate) ≡ gives es → inVain s es ≡ false → (d : ℕ) × (o ≡ finishes d) × EffectsDone p s es d t
   -- and each call
   pub layOut : {s t : List ℕ} {p : Procedures} {l : Layout} {a : Answer} → Did s (layOut p l) a t → refusalOf a ≡ 0 → LaidOut s p l t
   pub run : {s t : List ℕ} {p : Procedures} {budget : ℕ} {a : Answer} → Did s (run p budget) a t → refusalOf a ≡ 0 → Ran s p budget a t
@@ -61,7 +57,7 @@ AllHold s (e ∷ events) =
 
 pub record Demand3 : Type 0 where
   -- "Over any list of lay outs, runs, loads and looks on an accepted segment": one claim about the list.
-  pub list : (s : List ℕ) (p : Procedures) → firstFailed (segmentTests s p) ≡ 0 → (events : List Event) → Happened s events → AllHold s events
+  pub list : (s : List ℕ) (p : Procedures) → Passes s p → (events : List Event) → Happened s events → AllHold s events
   -- and any list of calls may happen
   pub happens : (s : List ℕ) → Words s → (calls : List Call) → AllLent calls
       → (events : List Event) × (map (λ (e : Event). e .call) events ≡ calls) × Happened s events

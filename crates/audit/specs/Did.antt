@@ -13,22 +13,18 @@ use Rattle.segment.specs.State.{sbase, flags, trapWord, blockptr}
 use Rattle.segment.specs.Parts.{shapePart, elementsPart}
 use Rattle.segment.specs.Cells.{Cell, undefined, value}
 use Rattle.segment.specs.View.{view}
-use Rattle.acceptance.specs.Structure.{Accepted}
 use Rattle.manual.specs.Control.{frameWord}
 use Rattle.manual.specs.Effects as manual
-use Rattle.effects.specs.Fits.{Addressable}
 use Rattle.plan_theorems.specs.Fitting.{Words}
 use Rattle.fresh_segment.specs.LayOut.{Layout, localsOf}
-use Rattle.fresh_segment.specs.Fresh.{freshView}
 use Rattle.fresh_segment.specs.FreshWords.{FreshWords}
-use Rattle.audit.specs.Calls.{Procedures, Call, layOut, run, load, look, Answer, refused, done, ran, trapped, scalar, array, firstFailed, tests, held, LentCall}
+use Rattle.audit.specs.Calls.{Procedures, Call, layOut, run, load, look, Answer, refused, done, ran, trapped, scalar, array, firstFailed, tests, Passes, held, LentCall}
 use Rattle.audit.specs.Runs.{Runs, SomeRequestInVain, ReportsFull}
 
--- The fresh segment: every word of it is said, and it is seen as all undefined, with one frame at the start of its function's code.
+-- The fresh segment: every word of it is said.
 pub record LaidOut (s : List ℕ) (p : Procedures) (l : Layout) (t : List ℕ) : Type 0 where
   pub words : FreshWords (length s) (localsOf (p .regular) (p .alternate) l) (frameWord (eqb (l .selector) 1) (l .function)) l t
-  pub seen : view t ≡ freshView (localsOf (p .regular) (p .alternate) l) l
-  pub accepted : Accepted t (p .regular) (p .alternate)
+  pub accepted : Passes t p
 
 -- "A run sets word 3 to zero first"; then its steps.
 pub record Ran (s : List ℕ) (p : Procedures) (budget : ℕ) (answer : Answer) (t : List ℕ) : Type 0 where
@@ -36,19 +32,18 @@ pub record Ran (s : List ℕ) (p : Procedures) (budget : ℕ) (answer : Answer) 
   pub all : (n : ℕ) → answer ≡ ran n → (n ≡ budget) × (trapWord t ≡ 0)
   -- (1,2) is reported exactly where an instruction comes to a request for which no free block is long enough
   pub full : ReportsFull answer t ↔ SomeRequestInVain steps
-  pub accepted : Accepted t (p .regular) (p .alternate)
+  pub accepted : Passes t p
 
 -- The global has the value, and every other variable the one it had, though it shares storage.
 pub record Loaded (s : List ℕ) (p : Procedures) (g : ℕ) (lengths ravel : List ℕ) (t : List ℕ) : Type 0 where
   pub seen : view t ≡ manual.put (Global (segment g)) (value lengths ravel) (view s)
-  pub others : (u : Target) → Addressable s u → Addressable t u → u ≢ Global (segment g)
-      → manual.look undefined u (view t) ≡ manual.look undefined u (view s)
+  pub others : (u : Target) → u ≢ Global (segment g) → manual.look undefined u (view t) ≡ manual.look undefined u (view s)
   pub length : length t ≡ length s
   pub sbase : sbase t ≡ sbase s
   pub blockptr : blockptr t ≡ blockptr s
   pub flags : flags t ≡ flags s
   pub trapWord : trapWord t ≡ trapWord s
-  pub accepted : Accepted t (p .regular) (p .alternate)
+  pub accepted : Passes t p
 
 -- What an answer tells of a cell: a scalar's word, or the parts of the lent segment that are its shape and ravel.
 abbrev pub Tells : List ℕ → Answer → Cell → Type 0

@@ -5,6 +5,7 @@ pub mod Runs
 pub mod Did
 pub mod Lists
 pub mod Demands
+pub mod Accepts
 pub mod ParList
 pub mod Table
 pub mod Story

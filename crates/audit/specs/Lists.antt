@@ -14,9 +14,8 @@ use Rattle.storage.specs.Owned.{ArrayIn}
 use Rattle.acceptance_storage.specs.Room.{longEnough}
 use Rattle.segment.specs.View.{owners}
 use Rattle.storage_theorems.specs.Tiling.{Tiling}
-use Rattle.acceptance.specs.Structure.{Accepted}
 use Rattle.operations.specs.Load.{isGlobal, isValue}
-use Rattle.audit.specs.Calls.{Procedures, Call, layOut, run, load, look, Answer, refused, done, ran, trapped, scalar, array, LentCall}
+use Rattle.audit.specs.Calls.{Procedures, Call, layOut, run, load, look, Answer, refused, done, ran, trapped, scalar, array, Passes, LentCall}
 use Rattle.audit.specs.Runs.{Runs, SomeRequestInVain, ReportsFull}
 use Rattle.audit.specs.Did.{Did}
 
@@ -54,7 +53,7 @@ pub record Kept (s : List ℕ) : Type 0 where
 
 -- A load comes to a request, and no free block is long enough.
 pub record LoadInVain (s : List ℕ) (p : Procedures) (g : ℕ) (lengths ravel : List ℕ) : Type 0 where
-  pub accepted : Accepted s (p .regular) (p .alternate)
+  pub accepted : Passes s p
   pub global : isGlobal s g ≡ true
   pub value : isValue lengths ravel ≡ true
   -- a scalar asks for no block

@@ -9,22 +9,20 @@ use Rattle.descriptor.specs.declared.Target.the-variants.{Global}
 use Rattle.descriptor.specs.Kinds.{segment}
 use Rattle.segment.specs.Cells.{undefined}
 use Rattle.segment.specs.View.{view}
-use Rattle.acceptance.specs.Structure.{Accepted}
 use Rattle.manual.specs.OrTrap.{gives}
-use Rattle.manual.specs.Effects.{NoneStoresTo, Effect, look}
-use Rattle.effects.specs.Fits.{Addressable}
+use Rattle.manual.specs.Effects.{Effect, NoneStoresTo, look, AddressableIn}
 use Rattle.operations.specs.Load.{isGlobal}
 use Rattle.step_theorems.specs.Planned.{planned}
-use Rattle.audit.specs.Calls.{Procedures, held}
-use Rattle.audit.specs.Steps.{Outcome, Step}
+use Rattle.audit.specs.Calls.{Procedures, Passes, held}
+use Rattle.audit.specs.Steps.{StepOutcome, Step}
 
 pub record ParList : Type 0 where
   -- A step of any instruction, finished or trapped, leaves the value of every variable that it does not store to, whatever
   -- shares storage.
-  pub unchanged : (s : List ℕ) (p : Procedures) (o : Outcome) (t : List ℕ) → Accepted s (p .regular) (p .alternate) → Step p s o t
+  pub unchanged : (s : List ℕ) (p : Procedures) (o : StepOutcome) (t : List ℕ) → Passes s p → Step p s o t
       → (es : List Effect) → planned s (p .regular) (p .alternate) ≡ gives es
-      → (u : Target) → Addressable s u → Addressable t u → NoneStoresTo es u → look undefined u (view t) ≡ look undefined u (view s)
+      → (u : Target) → AddressableIn u (view s) → AddressableIn u (view t) → NoneStoresTo es u → look undefined u (view t) ≡ look undefined u (view s)
   -- So a global that no effect of the instruction names keeps its value: what a look told of it before, a look tells after.
-  pub global : (s : List ℕ) (p : Procedures) (o : Outcome) (t : List ℕ) → Accepted s (p .regular) (p .alternate) → Step p s o t
+  pub global : (s : List ℕ) (p : Procedures) (o : StepOutcome) (t : List ℕ) → Passes s p → Step p s o t
       → (es : List Effect) → planned s (p .regular) (p .alternate) ≡ gives es
       → (g : ℕ) → isGlobal s g ≡ true → NoneStoresTo es (Global (segment g)) → held t g ≡ held s g

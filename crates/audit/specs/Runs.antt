@@ -6,26 +6,24 @@ use mathlib.Core.Bool.{true}
 use mathlib.Core.Logic.{_≢_, _⊎_}
 use mathlib.Core.List.{List}
 use Rattle.segment.specs.State as state
-use Rattle.acceptance.specs.Structure.{Accepted}
 use Rattle.manual.specs.OrTrap.{gives}
 use Rattle.manual.specs.Effects.{Effect}
 use Rattle.step_theorems.specs.Planned.{planned}
-use Rattle.audit.specs.Calls.{Procedures, Answer, ran, trapped}
-use Rattle.audit.specs.Steps as step
-use Rattle.audit.specs.Steps.{Step, inVain}
+use Rattle.audit.specs.Calls.{Procedures, Answer, ran, trapped, Passes}
+use Rattle.audit.specs.Steps.{trapsBy, finishes, Step, inVain}
 
 -- From `s`, with so many instructions left to do and so many finished, to an answer and the words after it.
 pub data Runs (p : Procedures) : ℕ → ℕ → List ℕ → Answer → List ℕ → Type 0 where
   -- the number asked was done
   over : {steps : ℕ} {s : List ℕ} → Runs p zero steps s (ran steps) s
   -- an instruction finished, nothing is due, and the run goes on from the words that it left
-  goesOn : {budget steps : ℕ} {s t u : List ℕ} {answer : Answer} → Accepted s (p .regular) (p .alternate) → Step p s (step.done 0) t
+  goesOn : {budget steps : ℕ} {s t u : List ℕ} {answer : Answer} → Passes s p → Step p s (finishes 0) t
       → Runs p budget (steps + 1) t answer u → Runs p (suc budget) steps s answer u
   -- an instruction finished, and what is due comes before answer 2
-  traced : {budget steps d : ℕ} {s t : List ℕ} → Accepted s (p .regular) (p .alternate) → d ≢ 0 → Step p s (step.done d) t
+  traced : {budget steps d : ℕ} {s t : List ℕ} → Passes s p → d ≢ 0 → Step p s (finishes d) t
       → Runs p (suc budget) steps s (trapped (steps + 1)) t
   -- an instruction trapped: it is not counted
-  stops : {budget steps class number : ℕ} {s t : List ℕ} → Accepted s (p .regular) (p .alternate) → Step p s (step.trapped class number) t
+  stops : {budget steps class number : ℕ} {s t : List ℕ} → Passes s p → Step p s (trapsBy class number) t
       → Runs p (suc budget) steps s (trapped steps) t
 
 -- ---- storage full

@@ -14,8 +14,7 @@ use Rattle.segment.specs.Cells.{undefined}
 use Rattle.segment.specs.View.{view}
 use Rattle.acceptance_storage.specs.Room.{longEnough}
 use Rattle.manual.specs.OrTrap.{gives, trap}
-use Rattle.manual.specs.Effects.{NoneStoresTo, Effect, look, performAll}
-use Rattle.effects.specs.Fits.{Addressable}
+use Rattle.manual.specs.Effects.{Effect, NoneStoresTo, look, AddressableIn, performAll}
 use Rattle.effects.specs.Perform.{wanted}
 use Rattle.effects.specs.declared.Outcome.{Outcome as Turn}
 use Rattle.effects.specs.declared.Outcome.the-variants as T
@@ -23,10 +22,10 @@ use Rattle.effects.specs.Carried.{outcomeOf}
 use Rattle.step_theorems.specs.Planned.{planned, headerIn}
 use Rattle.audit.specs.Calls.{Procedures}
 
--- A trap by class and number; or done, with the number of the class 2 trap that is due after it, 0 for none.
-pub data Outcome : Type 0 where
-  trapped : ℕ → ℕ → Outcome
-  done : ℕ → Outcome
+-- It traps by class and number; or it finishes, with the number of the class 2 trap that is due after it, 0 for none.
+pub data StepOutcome : Type 0 where
+  trapsBy : ℕ → ℕ → StepOutcome
+  finishes : ℕ → StepOutcome
 
 -- ---- storage full
 
@@ -52,11 +51,11 @@ dueAfter (T.Trapped class number) f called left = 0
 -- ---- the step
 
 -- The effects are done, and `d` is due.
-pub record Done (p : Procedures) (s : List ℕ) (es : List Effect) (d : ℕ) (t : List ℕ) : Type 0 where
+pub record EffectsDone (p : Procedures) (s : List ℕ) (es : List Effect) (d : ℕ) (t : List ℕ) : Type 0 where
   -- values, frames and the next PCTR
   pub seen : view t ≡ performAll es (view s)
   -- a variable that no effect stores to is seen as before, though it shares storage
-  pub others : (u : Target) → Addressable s u → Addressable t u → NoneStoresTo es u → look undefined u (view t) ≡ look undefined u (view s)
+  pub others : (u : Target) → AddressableIn u (view s) → AddressableIn u (view t) → NoneStoresTo es u → look undefined u (view t) ≡ look undefined u (view s)
   -- by whether a function was entered or left, and by its header
   pub due : d ≡ dueAfter (outcomeOf es) (flags s) (headerIn (p .regular) (p .alternate) (view t)) (headerIn (p .regular) (p .alternate) (view s))
   pub trapWord : trapWord t ≡ cond (eqb d 0) (trapWord s) (trapOf 2 d)
@@ -66,11 +65,11 @@ pub record Done (p : Procedures) (s : List ℕ) (es : List Effect) (d : ℕ) (t 
   -- flags but IORG
   pub flags : flags t / 2 ≡ flags s / 2
 
-pub data Step (p : Procedures) (s : List ℕ) : Outcome → List ℕ → Type 0 where
+pub data Step (p : Procedures) (s : List ℕ) : StepOutcome → List ℕ → Type 0 where
   -- a trap of the manual's lists: word 3 is the trap, and nothing else changes
   traps : {class number : ℕ} → planned s (p .regular) (p .alternate) ≡ trap class number
-      → Step p s (trapped class number) (set s 3 (trapOf class number))
+      → Step p s (trapsBy class number) (set s 3 (trapOf class number))
   -- (1,2): every other trap has passed, and a block is asked for in vain
-  full : {es : List Effect} → planned s (p .regular) (p .alternate) ≡ gives es → inVain s es ≡ true → Step p s (trapped 1 2) (set s 3 (trapOf 1 2))
-  does : {es : List Effect} {d : ℕ} {t : List ℕ} → planned s (p .regular) (p .alternate) ≡ gives es → inVain s es ≡ false → Done p s es d t
-      → Step p s (done d) t
+  full : {es : List Effect} → planned s (p .regular) (p .alternate) ≡ gives es → inVain s es ≡ true → Step p s (trapsBy 1 2) (set s 3 (trapOf 1 2))
+  does : {es : List Effect} {d : ℕ} {t : List ℕ} → planned s (p .regular) (p .alternate) ≡ gives es → inVain s es ≡ false → EffectsDone p s es d t
+      → Step p s (finishes d) t

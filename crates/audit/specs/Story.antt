@@ -14,30 +14,30 @@ use Rattle.operations.specs.Look.{looked}
 use Rattle.audit.specs.Table.{coded, laid}
 
 -- Global 8 is pushed and assigned to global 9; 0 and the subscript 2 are pushed, global 9 is assigned indexed, and the result eaten.
-abbrev pub code : List ℕ
-code = 0xD0 ∷ 0x08 ∷ 0x91 ∷ 0xD0 ∷ 0x09 ∷ 0x40 ∷ 0x00 ∷ 0x40 ∷ 0x02 ∷ 0x81 ∷ 0xD0 ∷ 0x09 ∷ 0xA1 ∷ []
+abbrev pub storyCode : List ℕ
+storyCode = 0xD0 ∷ 0x08 ∷ 0x91 ∷ 0xD0 ∷ 0x09 ∷ 0x40 ∷ 0x00 ∷ 0x40 ∷ 0x02 ∷ 0x81 ∷ 0xD0 ∷ 0x09 ∷ 0xA1 ∷ []
 
-abbrev pub listed : List ℕ
-listed = loaded (laid code) (coded code) (coded code) 8 (3 ∷ []) (10 ∷ 20 ∷ 30 ∷ [])
+abbrev pub withList : List ℕ
+withList = loaded (laid storyCode) (coded storyCode) (coded storyCode) 8 (3 ∷ []) (10 ∷ 20 ∷ 30 ∷ [])
 
-abbrev pub copied : Ended
-copied = ran listed (coded code) (coded code) 2
+abbrev pub withCopy : Ended
+withCopy = ran withList (coded storyCode) (coded storyCode) 2
 
 abbrev pub written : Ended
-written = ran (copied .words) (coded code) (coded code) 4
+written = ran (withCopy .words) (coded storyCode) (coded storyCode) 4
 
 -- A look at a global tells a vector of three.
 pub record Holds (s : List ℕ) (g block a b c : ℕ) : Type 0 where
-  pub seen : looked s (coded code) (coded code) g ≡ Array (segment block)
+  pub seen : looked s (coded storyCode) (coded storyCode) g ≡ Array (segment block)
   pub shape : shapePart s block ≡ 3 ∷ []
   pub ravel : elementsPart s block ≡ a ∷ b ∷ c ∷ []
 
 pub record Story : Type 0 where
-  pub copies : copied .answer ≡ Done 2
+  pub copies : withCopy .answer ≡ Done 2
   -- one block, which two cells point to
-  pub list : Holds (copied .words) 8 27 10 20 30
-  pub copy : Holds (copied .words) 9 27 10 20 30
-  pub count : countAt (copied .words) 27 ≡ 2
+  pub list : Holds (withCopy .words) 8 27 10 20 30
+  pub copy : Holds (withCopy .words) 9 27 10 20 30
+  pub count : countAt (withCopy .words) 27 ≡ 2
   pub writes : written .answer ≡ Done 4
   -- the copy has a block of its own now, and the list is as it was
   pub listAfter : Holds (written .words) 8 27 10 20 30

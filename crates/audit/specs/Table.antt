@@ -23,12 +23,12 @@ laid code =
     (record { selector = 0; function = 1; globals = 4; arrayWords = 24 })
 
 -- A run of so many instructions after it.
-abbrev pub after : ℕ → List ℕ → Ended
-after budget code = ran (laid code) (coded code) (coded code) budget
+abbrev pub ranAfter : ℕ → List ℕ → Ended
+ranAfter budget code = ran (laid code) (coded code) (coded code) budget
 
 -- ---- the forms of the table
 
-pub record LaidOut (s : List ℕ) : Type 0 where
+pub record Lays (s : List ℕ) : Type 0 where
   pub word0 : getD s 0 0 ≡ 0x0024_0002
   pub word1 : getD s 1 0 ≡ 0x0001_000C
   pub word12 : getD s 12 0 ≡ 0x8000_0015
@@ -37,20 +37,20 @@ pub record LaidOut (s : List ℕ) : Type 0 where
   pub word34 : getD s 34 0 ≡ 0x000C_000C
 
 -- So many instructions were done, and that word is on top of the stack.
-pub record Leaves (e : Ended) (steps w : ℕ) : Type 0 where
+pub record OnTop (e : Ended) (steps w : ℕ) : Type 0 where
   pub done : e .answer ≡ Done steps
   pub top : getD (e .words) (sbase (e .words) + ltop (e .words)) 0 ≡ w
 
 -- INDEXGEN made an array: its descriptor, the first words of the free block at 12 and of its own block, ROVER.
 pub record Makes (e : Ended) (descriptor word12 block first : ℕ) : Type 0 where
-  pub leaves : Leaves e 2 descriptor
+  pub onTop : OnTop e 2 descriptor
   pub free : getD (e .words) 12 0 ≡ word12
   pub array : getD (e .words) block 0 ≡ first
   pub roverAt : rover (e .words) ≡ 33
 
 -- That word is on top, and its value is that of the integer.
 pub record Sums (e : Ended) (w integer : ℕ) : Type 0 where
-  pub leaves : Leaves e 3 w
+  pub onTop : OnTop e 3 w
   pub value : units w ≡ units integer
 
 -- An instruction trapped, after so many.
@@ -62,22 +62,22 @@ pub record Traps (e : Ended) (steps word3 : ℕ) : Type 0 where
 
 pub record Table : Type 0 where
   -- lay out 64 words, 4 globals, 24 array words, one local
-  pub m1 : LaidOut (laid [])
+  pub m1 : Lays (laid [])
   -- then INDEXGEN of 5
-  pub m2 : Makes (after 2 (0x40 ∷ 0x05 ∷ 0xA9 ∷ [])) 0x0200_0019 0x8000_000D 25 0x4000_0008
+  pub m2 : Makes (ranAfter 2 (0x40 ∷ 0x05 ∷ 0xA9 ∷ [])) 0x0200_0019 0x8000_000D 25 0x4000_0008
   -- INDEXGEN of 15, a need of 18 from 21, splits
-  pub m3 : Makes (after 2 (0x40 ∷ 0x0F ∷ 0xA9 ∷ [])) 0x0200_000F 0x8000_0003 15 0x4000_0012
+  pub m3 : Makes (ranAfter 2 (0x40 ∷ 0x0F ∷ 0xA9 ∷ [])) 0x0200_000F 0x8000_0003 15 0x4000_0012
   -- INDEXGEN of 16, a need of 19, leaves slop 2: the whole block is given
-  pub m4 : Makes (after 2 (0x40 ∷ 0x10 ∷ 0xA9 ∷ [])) 0x0200_000C 0x0002_0013 12 0x0002_0013
+  pub m4 : Makes (ranAfter 2 (0x40 ∷ 0x10 ∷ 0xA9 ∷ [])) 0x0200_000C 0x0002_0013 12 0x0002_0013
   -- 1 as a float: 1 divided by 1
-  pub m5 : Sums (after 3 (0x40 ∷ 0x01 ∷ 0x40 ∷ 0x01 ∷ 0x6B ∷ [])) 0x6000_0000 1
+  pub m5 : Sums (ranAfter 3 (0x40 ∷ 0x01 ∷ 0x40 ∷ 0x01 ∷ 0x6B ∷ [])) 0x6000_0000 1
   -- 1 divided by 2
-  pub m6 : Leaves (after 3 (0x40 ∷ 0x02 ∷ 0x40 ∷ 0x01 ∷ 0x6B ∷ [])) 3 0x5FC0_0000
+  pub m6 : OnTop (ranAfter 3 (0x40 ∷ 0x02 ∷ 0x40 ∷ 0x01 ∷ 0x6B ∷ [])) 3 0x5FC0_0000
   -- 8,388,607 + 1: (8,1)
-  pub m7 : Traps (after 3 (0xAA ∷ 0x00 ∷ 0x7F ∷ 0xFF ∷ 0xFF ∷ 0x40 ∷ 0x01 ∷ 0x68 ∷ [])) 2 0x0801
+  pub m7 : Traps (ranAfter 3 (0xAA ∷ 0x00 ∷ 0x7F ∷ 0xFF ∷ 0xFF ∷ 0x40 ∷ 0x01 ∷ 0x68 ∷ [])) 2 0x0801
   -- 4,194,304 + 0.5 is 4,194,304
-  pub m8 : Sums (after 3 (0xAA ∷ 0x00 ∷ 0x40 ∷ 0x00 ∷ 0x00 ∷ 0xAA ∷ 0x5F ∷ 0xC0 ∷ 0x00 ∷ 0x00 ∷ 0x68 ∷ [])) 0x6580_0000 4194304
+  pub m8 : Sums (ranAfter 3 (0xAA ∷ 0x00 ∷ 0x40 ∷ 0x00 ∷ 0x00 ∷ 0xAA ∷ 0x5F ∷ 0xC0 ∷ 0x00 ∷ 0x00 ∷ 0x68 ∷ [])) 0x6580_0000 4194304
   -- 4,194,305 + 0.5 is 4,194,306
-  pub m9 : Sums (after 3 (0xAA ∷ 0x00 ∷ 0x40 ∷ 0x00 ∷ 0x01 ∷ 0xAA ∷ 0x5F ∷ 0xC0 ∷ 0x00 ∷ 0x00 ∷ 0x68 ∷ [])) 0x6580_0002 4194306
+  pub m9 : Sums (ranAfter 3 (0xAA ∷ 0x00 ∷ 0x40 ∷ 0x00 ∷ 0x01 ∷ 0xAA ∷ 0x5F ∷ 0xC0 ∷ 0x00 ∷ 0x00 ∷ 0x68 ∷ [])) 0x6580_0002 4194306
   -- 0x4005 pushes 5, 0x5005 −5, 0x5000 0
-  pub m10 : Leaves (after 1 (0x40 ∷ 0x05 ∷ [])) 1 5 × Leaves (after 1 (0x50 ∷ 0x05 ∷ [])) 1 0x8000_0005 × Leaves (after 1 (0x50 ∷ 0x00 ∷ [])) 1 0
+  pub m10 : OnTop (ranAfter 1 (0x40 ∷ 0x05 ∷ [])) 1 5 × OnTop (ranAfter 1 (0x50 ∷ 0x05 ∷ [])) 1 0x8000_0005 × OnTop (ranAfter 1 (0x50 ∷ 0x00 ∷ [])) 1 0

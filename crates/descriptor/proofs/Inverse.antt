@@ -1,19 +1,18 @@
 -- Words and kinds are inverse.
 use Prim.Native.Nat.{ℕ, _+_, _-_, _*_, _/_, _%_, _^_, _≤_, _<_}
-use mathlib.Core.Path.{_≡_, refl, sym, _∙_, ap}
+use mathlib.Core.Path.{_≡_, refl, _∙_, ap}
 use mathlib.Core.Bool.{Bool, true, false, cond}
 use mathlib.Core.Logic.{_⊎_, inl, inr}
 use native.Mathlib.Omega.{arith}
 use lib.Dec.{ltb, eqb}
-use borrow.Author.Tests.{ltb-true, ltb-false, eqb-true, eqb-false, lt-ltb, le-ltb, eq-eqb, ne-eqb}
+use borrow.Author.Tests.{ltb-false, eqb-true, eqb-false, lt-ltb, le-ltb, ne-eqb}
 use Rattle.descriptor.specs.declared.Scalar.{Scalar}
 use Rattle.descriptor.specs.declared.Scalar.the-variants.{Float, Integer, Character}
-use Rattle.descriptor.specs.declared.Target.{Target}
 use Rattle.descriptor.specs.declared.Target.the-variants.{Local, Global}
 use Rattle.descriptor.specs.declared.Kind.{Kind}
 use Rattle.descriptor.specs.declared.Kind.the-variants as K
-use Rattle.descriptor.specs.Fields.{sign, isFloat, exponent, fraction, typeNumber, rest, floatWord, integerWord, characterWord, arrayWord, localWord, globalWord, undefinedWord}
-use Rattle.descriptor.specs.Kinds.{bit, segment, stack, kindOf, integerKind, characterKind, arrayKind, indirectKind, undefinedKind, unsignedKind}
+use Rattle.descriptor.specs.Fields.{sign, exponent, fraction, typeNumber, rest, floatWord, integerWord, globalWord}
+use Rattle.descriptor.specs.Kinds.{bit, kindOf, integerKind, characterKind, arrayKind, indirectKind, undefinedKind, unsignedKind}
 use Rattle.descriptor.specs.Inverse.{wordOf, Fits, Inverse}
 
 bit-small : (t : Bool) → bit t ≤ 1

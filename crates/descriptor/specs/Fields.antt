@@ -1,7 +1,7 @@
 -- The fields of a descriptor word, as document 01 has them under "Descriptors". Bit 0 is the lowest.
 -- A reader must believe: which bits each name stands for. Assumes nothing.
 use Prim.Native.Nat.{ℕ, _+_, _*_, _/_, _%_, _^_}
-use mathlib.Core.Bool.{Bool, true, false, cond}
+use mathlib.Core.Bool.{Bool, false, cond}
 use lib.Dec.{eqb}
 
 -- Bit 31, the sign: 0 or 1 in a word of 32 bits.

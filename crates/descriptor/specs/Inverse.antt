@@ -2,7 +2,7 @@
 -- and a word that is a descriptor is made again from its kind. Proved in proofs/Inverse.antt. Assumes nothing.
 use Prim.Native.Nat.{ℕ, _^_, _≤_, _<_}
 use mathlib.Core.Path.{_≡_}
-use mathlib.Core.Bool.{Bool, true, false}
+use mathlib.Core.Bool.{false}
 use mathlib.Core.Logic.{_⊎_}
 use Rattle.descriptor.specs.declared.Scalar.{Scalar}
 use Rattle.descriptor.specs.declared.Scalar.the-variants.{Float, Integer, Character}

@@ -1,13 +1,12 @@
 -- The kind of a word: document 01's "Descriptors", with decisions 1 and 2 of docs/DECISIONS.md.
 -- A reader must believe: these cases are the document's. Assumes nothing.
-use Prim.Native.Nat.{ℕ, _+_, _-_, _*_, _/_, _%_, _^_}
+use Prim.Native.Nat.{ℕ, _-_, _^_}
 use mathlib.Core.Bool.{Bool, true, false, cond}
-use lib.Dec.{ltb, leb, eqb}
+use lib.Dec.{ltb, eqb}
 use Rattle.descriptor.specs.declared.address.SegmentAddress.{SegmentAddress}
 use Rattle.descriptor.specs.declared.address.StackAddress.{StackAddress}
 use Rattle.descriptor.specs.declared.Scalar.{Scalar}
 use Rattle.descriptor.specs.declared.Scalar.the-variants.{Float, Integer, Character}
-use Rattle.descriptor.specs.declared.Target.{Target}
 use Rattle.descriptor.specs.declared.Target.the-variants.{Local, Global}
 use Rattle.descriptor.specs.declared.Kind.{Kind}
 use Rattle.descriptor.specs.declared.Kind.the-variants as K

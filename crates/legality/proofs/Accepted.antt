@@ -1,4 +1,4 @@
--- The theorems of specs/Theorem.
+-- The theorems of specs/Accepted.
 use Rattle.legality.specs.Accepted.{LegalTheorems}
 use Rattle.legality.proofs.Split.{split}
 use Rattle.legality.proofs.Join.{join}

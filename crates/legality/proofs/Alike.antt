@@ -1,33 +1,26 @@
 -- Frames that differ in PCTR and in cells that are direct now: they have the same variables, and what was legal stays legal.
-use Prim.Native.Nat.{ℕ, _-_, _*_, _^_, _≤_, _<_}
+use Prim.Native.Nat.{ℕ, _*_, _^_, _≤_, _<_}
 use mathlib.Core.Path.{_≡_, refl, _∙_, ap}
 use mathlib.Core.Logic.{_⊎_, inl, inr, ⊎-elim}
 use mathlib.Core.List.{List, [], _∷_}
 use native.Mathlib.Omega.{arith}
 use lib.ListN.{getD, length}
-use borrow.Author.Tests.{le-leb, lt-leb}
 use Rattle.descriptor.specs.declared.Target.{Target}
 use Rattle.descriptor.specs.declared.Target.the-variants.{Local, Global}
 use Rattle.segment.specs.Cells.{Cell, undefined, indirect, value, invalid}
 use Rattle.segment.specs.Machine.{Frame, Machine, depthOfFrames}
-use Rattle.manual.specs.Effects.{indexIn, lookFrames, look}
+use Rattle.manual.specs.Effects.{indexIn, globalIndex, lookFrames, look}
 use Rattle.storage_theorems.proofs.Counts.{order}
 use Rattle.acceptance.specs.Frames.{known, arguments, variables}
-use Rattle.legality.specs.Legal.{functionWord, Direct, VariableOf, Names, Allowed, LegalFrame, LegalFrames, bottom, upon, Legal}
-
--- a variable is looked at in the first frame or in an older one
-module _ (a : ℕ) (r : Frame Cell) (l : List (Frame Cell)) where
-  pub look-here : depthOfFrames l ≤ a → lookFrames undefined a (r ∷ l) ≡ getD (r .cells) (indexIn (r .cells) l a) undefined
-  look-here h = rw (le-leb (depthOfFrames l) a h)
-
-  pub look-below : a < depthOfFrames l → lookFrames undefined a (r ∷ l) ≡ lookFrames undefined a l
-  look-below h = rw (lt-leb (depthOfFrames l) a h)
+use Rattle.legality.specs.Legal.{functionWord, DirectCell, VariableIn, MayName, Allowed, LegalFrame, LegalFrames, bottom, upon, Legal}
+use Rattle.manual.proofs.Cellwise.{look-here, look-below, index-same, global-same}
+use Rattle.legality.proofs.Legal.{names-more, direct-allowed, upon-on}
 
 -- ---- alike
 
 pub record LikeCells (l k : List Cell) : Type 0 where
   pub size : length k ≡ length l
-  pub each : (i : ℕ) → (getD k i undefined ≡ getD l i undefined) ⊎ Direct (getD k i undefined)
+  pub each : (i : ℕ) → (getD k i undefined ≡ getD l i undefined) ⊎ DirectCell (getD k i undefined)
 
 pub record LikeFrame (r q : Frame Cell) : Type 0 where
   pub function : q .function ≡ r .function
@@ -46,7 +39,7 @@ pub same-frames : (l : List (Frame Cell)) → LikeFrames l l
 same-frames [] = tt
 same-frames (r ∷ l) = (record { function = refl; cells = same-cells (r .cells) }, same-frames l)
 
-direct-on : {l k : List Cell} → LikeCells l k → (i : ℕ) → Direct (getD l i undefined) → Direct (getD k i undefined)
+direct-on : {l k : List Cell} → LikeCells l k → (i : ℕ) → DirectCell (getD l i undefined) → DirectCell (getD k i undefined)
 direct-on e i h = ⊎-elim (λ (p : _ ≡ _). rw p h) (λ d. d) (e .each i)
 
 pub depth-on : (l k : List (Frame Cell)) → LikeFrames l k → depthOfFrames k ≡ depthOfFrames l
@@ -55,27 +48,27 @@ depth-on [] (q ∷ k) e = absurd e
 depth-on (r ∷ l) [] e = absurd e
 depth-on (r ∷ l) (q ∷ k) e = omega (arith, e .0 .cells .size, depth-on l k (e .1))
 
-look-on : (a : ℕ) (l k : List (Frame Cell)) → LikeFrames l k → Direct (lookFrames undefined a l) → Direct (lookFrames undefined a k)
+look-on : (a : ℕ) (l k : List (Frame Cell)) → LikeFrames l k → DirectCell (lookFrames undefined a l) → DirectCell (lookFrames undefined a k)
 look-on a [] [] e h = tt
 look-on a [] (q ∷ k) e h = absurd e
 look-on a (r ∷ l) [] e h = absurd e
 look-on a (r ∷ l) (q ∷ k) e h = go (λ p. look-on a l k (e .1) p) (order (depthOfFrames l) a)
   where
-    go : (Direct (lookFrames undefined a l) → Direct (lookFrames undefined a k)) → (depthOfFrames l ≤ a) ⊎ (a < depthOfFrames l)
-        → Direct (lookFrames undefined a (q ∷ k))
+    go : (DirectCell (lookFrames undefined a l) → DirectCell (lookFrames undefined a k)) → (depthOfFrames l ≤ a) ⊎ (a < depthOfFrames l)
+        → DirectCell (lookFrames undefined a (q ∷ k))
     go more (inl p) =
         let d = depth-on l k (e .1) in
-        let i : indexIn (q .cells) k a ≡ indexIn (r .cells) l a = omega (arith, e .0 .cells .size) in
-        rw (look-here a q k (omega arith), i) (direct-on (e .0 .cells) (indexIn (r .cells) l a) (rw (look-here a r l p) at h))
+        rw (look-here a undefined q k (omega arith), index-same (r .cells) (q .cells) l k a (e .0 .cells .size) d)
+        (direct-on (e .0 .cells) (indexIn (r .cells) l a) (rw (look-here a undefined r l p) at h))
     go more (inr p) =
         let d = depth-on l k (e .1) in
-        rw (look-below a q k (omega arith)) (more (rw (look-below a r l p) at h))
+        rw (look-below a undefined q k (omega arith)) (more (rw (look-below a undefined r l p) at h))
 
 module _ (regular other : List ℕ) where
   like-variables : {r q : Frame Cell} → LikeFrame r q → variables regular other (functionWord q) ≡ variables regular other (functionWord r)
   like-variables e = ap (λ (f : ℕ). variables regular other (f * 2 ^ 16)) (e .function)
 
-  variable-on : (a : ℕ) (l k : List (Frame Cell)) → LikeFrames l k → VariableOf regular other l a → VariableOf regular other k a
+  variable-on : (a : ℕ) (l k : List (Frame Cell)) → LikeFrames l k → VariableIn regular other l a → VariableIn regular other k a
   variable-on a [] [] e h = h
   variable-on a [] (q ∷ k) e h = absurd e
   variable-on a (r ∷ l) [] e h = absurd e
@@ -86,42 +79,14 @@ module _ (regular other : List ℕ) where
       inl (omega (arith, h), omega (arith, h))
   variable-on a (r ∷ l) (q ∷ k) e (inr h) = inr (variable-on a l k (e .1) h)
 
-  pub variable-low : (a : ℕ) (l : List (Frame Cell)) → VariableOf regular other l a → a < depthOfFrames l
-  variable-low a [] h = absurd h
-  variable-low a (r ∷ l) (inl h) = omega (arith, h)
-  variable-low a (r ∷ l) (inr h) = omega (arith, variable-low a l h)
-
-  -- more frames have more variables
-  names-more : (m : Machine Cell) (r : Frame Cell) (l : List (Frame Cell)) (t : Target) → Names regular other m l t → Names regular other m (r ∷ l) t
-  names-more m r l (Global g) h = h
-  names-more m r l (Local a) h = inr h
-
-  pub allowed-more : (m : Machine Cell) (r : Frame Cell) (l : List (Frame Cell)) (c : Cell) → Allowed regular other m l c
-      → Allowed regular other m (r ∷ l) c
-  allowed-more m r l undefined h = tt
-  allowed-more m r l (indirect t) h = record { names = names-more m r l t (h .names); direct = h .direct }
-  allowed-more m r l (value shape ravel) h = tt
-  allowed-more m r l invalid h = h
-
-  pub direct-allowed : (m : Machine Cell) (l : List (Frame Cell)) (c : Cell) → Direct c → Allowed regular other m l c
-  direct-allowed m l undefined h = tt
-  direct-allowed m l (indirect t) h = absurd h
-  direct-allowed m l (value shape ravel) h = tt
-  direct-allowed m l invalid h = absurd h
-
-  pub upon-on : {m : Machine Cell} {r : Frame Cell} {l : List (Frame Cell)} → LegalFrame regular other m r l → LegalFrames regular other m l
-      → LegalFrames regular other m (r ∷ l)
-  upon-on g (bottom h e) = upon g (bottom h e)
-  upon-on g (upon h rest) = upon g (upon h rest)
-
   -- two machines that have as many globals, where what is named and direct in the one is direct in the other
   module _ (m n : Machine Cell) (globals : length (n .globals) ≡ length (m .globals)) where
-    pub names-on : (l k : List (Frame Cell)) → LikeFrames l k → (t : Target) → Names regular other m l t → Names regular other n k t
+    pub names-on : (l k : List (Frame Cell)) → LikeFrames l k → (t : Target) → MayName regular other m l t → MayName regular other n k t
     names-on l k e (Global g) h = (h .0, omega (arith, h))
     names-on l k e (Local a) h = variable-on (a .0) l k e h
 
     abbrev pub StayDirect : List (Frame Cell) → Type 0
-    StayDirect l = (t : Target) → Names regular other m l t → Direct (look undefined t m) → Direct (look undefined t n)
+    StayDirect l = (t : Target) → MayName regular other m l t → DirectCell (look undefined t m) → DirectCell (look undefined t n)
 
     pub allowed-on : (l k : List (Frame Cell)) → LikeFrames l k → StayDirect l → (c : Cell) → Allowed regular other m l c → Allowed regular other n k c
     allowed-on l k e d undefined h = tt
@@ -133,7 +98,7 @@ module _ (regular other : List ℕ) where
         → ((i : ℕ) → i < length x → Allowed regular other m l (getD x i undefined)) → (i : ℕ) → i < length y → Allowed regular other n k (getD y i undefined)
     allowed-cells l k e d {x} {y} c h i b =
         ⊎-elim (λ (p : getD y i undefined ≡ getD x i undefined). rw p (allowed-on l k e d (getD x i undefined) (h i (omega (arith, c .size)))))
-        (λ p. direct-allowed n k (getD y i undefined) p)
+        (λ p. direct-allowed regular other n k (getD y i undefined) p)
         (c .each i)
 
     frame-on : {r q : Frame Cell} {l k : List (Frame Cell)} → LikeFrame r q → LikeFrames l k → StayDirect l
@@ -153,12 +118,12 @@ module _ (regular other : List ℕ) where
     frames-on (bottom g s) [] e d = absurd e
     frames-on (bottom {r} g s) (q ∷ []) e d =
         let v = like-variables (e .0) in
-        bottom (frame-on (e .0) tt (λ t h. d t (names-more m r [] t h)) g) (omega (arith, e .0 .cells .size))
+        bottom (frame-on (e .0) tt (λ t h. d t (names-more regular other m r [] t h)) g) (omega (arith, e .0 .cells .size))
     frames-on (bottom g s) (q ∷ p ∷ k) e d = absurd (e .1)
     frames-on (upon g rest) [] e d = absurd e
     frames-on (upon {r} {q = s} {older = l} g rest) (q ∷ k) e d =
-        upon-on (frame-on (e .0) (e .1) (λ t h. d t (names-more m r (s ∷ l) t h)) g)
-        (frames-on rest k (e .1) (λ t h. d t (names-more m r (s ∷ l) t h)))
+        upon-on (frame-on (e .0) (e .1) (λ t h. d t (names-more regular other m r (s ∷ l) t h)) g)
+        (frames-on rest k (e .1) (λ t h. d t (names-more regular other m r (s ∷ l) t h)))
 
 -- ---- machines
 
@@ -166,8 +131,9 @@ pub record Like (m n : Machine Cell) : Type 0 where
   pub frames : LikeFrames (m .frames) (n .frames)
   pub globals : LikeCells (m .globals) (n .globals)
 
-like-look : {m n : Machine Cell} → Like m n → (t : Target) → Direct (look undefined t m) → Direct (look undefined t n)
-like-look e (Global g) h = direct-on (e .globals) (g .0 - 8) h
+like-look : {m n : Machine Cell} → Like m n → (t : Target) → DirectCell (look undefined t m) → DirectCell (look undefined t n)
+like-look {m} {n} e (Global g) h =
+    rw (global-same (m .globals) (n .globals) (g .0) (e .globals .size)) (direct-on (e .globals) (globalIndex (m .globals) (g .0)) h)
 like-look {m} {n} e (Local a) h = look-on (a .0) (m .frames) (n .frames) (e .frames) h
 
 -- A machine alike is legal where its temporaries are allowed in the one before.
@@ -181,6 +147,6 @@ like-legal {regular} {other} {m} {n} g e h =
       temporaries = λ i b. allowed-on regular other m n (e .globals .size) (m .frames) (n .frames) (e .frames) d (getD (n .temporaries) i undefined) (h i b);
     }
 
-pub like-names : (regular other : List ℕ) {m n : Machine Cell} → Like m n → (t : Target) → Names regular other m (m .frames) t
-    → Names regular other n (n .frames) t
+pub like-names : (regular other : List ℕ) {m n : Machine Cell} → Like m n → (t : Target) → MayName regular other m (m .frames) t
+    → MayName regular other n (n .frames) t
 like-names regular other {m} {n} e t h = names-on regular other m n (e .globals .size) (m .frames) (n .frames) (e .frames) t h

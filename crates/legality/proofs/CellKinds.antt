@@ -15,13 +15,12 @@ use Rattle.descriptor.specs.Fields.{sign, isFloat, typeNumber, rest, isArray, a
 use Rattle.descriptor.specs.Kinds.{segment, stack, kindOf, integerKind, characterKind, arrayKind, indirectKind, undefinedKind, unsignedKind, scalarKind, isScalar}
 use Rattle.descriptor.specs.Inverse.{targetWord, TargetFits}
 use Rattle.descriptor.proofs.Inverse.{inverse, pick}
-use Rattle.segment.specs.Cells.{Cell, undefined, indirect, value, invalid, cell, cellOfKind}
-use Rattle.segment.specs.Machine.{Frame, Machine}
+use Rattle.segment.specs.Cells.{Cell, undefined, indirect, invalid, cell, cellOfKind}
 use Rattle.storage_theorems.proofs.Cells.{array-of}
 use Rattle.acceptance_storage.proofs.Tests.{never, fails, by-le}
 use Rattle.acceptance.specs.Cells.{isIndirect}
 use Rattle.acceptance.specs.Structure as onWords
-use Rattle.legality.specs.Legal.{Direct, Allowed}
+use Rattle.legality.specs.Legal.{DirectCell}
 
 -- ---- a word told by its kind
 
@@ -71,14 +70,14 @@ module _ (s : List ℕ) where
   unfolding cell
   target-cell t h = rw (inverse .readBack (K.Indirect t) h)
 
-  scalar-direct : (w : ℕ) (k : Kind) → scalarKind k ≡ true → Direct (cellOfKind s w k)
+  scalar-direct : (w : ℕ) (k : Kind) → scalarKind k ≡ true → DirectCell (cellOfKind s w k)
   scalar-direct w (K.Scalar k) h = tt
   scalar-direct w (K.Array a) h = tt
   scalar-direct w (K.Indirect t) h = never h
   scalar-direct w K.Undefined h = tt
   scalar-direct w K.Invalid h = never h
 
-  pub direct-cell : (A : ℕ → Type 0) (w : ℕ) → onWords.Direct A w → Direct (cell s w)
+  pub direct-cell : (A : ℕ → Type 0) (w : ℕ) → onWords.Direct A w → DirectCell (cell s w)
   unfolding cell isScalar
   direct-cell A w (inl e) = scalar-direct w (kindOf w) e
   direct-cell A w (inr (inl e)) = rw (e, inverse .readBack K.Undefined tt) tt
@@ -91,17 +90,11 @@ module _ (s : List ℕ) where
       (λ b. (Global (segment (w % 2 ^ 16)), omega (arith, e, b), omega arith))
       (λ b. (Local (stack (w % 2 ^ 16)), omega (arith, e, b), omega arith))
 
-  pub not-indirect : (w : ℕ) → Direct (cell s w) → isIndirect w ≡ false
+  pub not-indirect : (w : ℕ) → DirectCell (cell s w) → isIndirect w ≡ false
   not-indirect w h = fails (isIndirect w) (λ e.
       let r = indirect-made w (eqb-true (w / 2 ^ 17) 0x180 e) in
       let c : cell s w ≡ indirect (r .0) = ap (cell s) (r .1) ∙ target-cell (r .0) (r .2) in
-      subst Direct c h)
-
-pub direct-allowed : (regular other : List ℕ) (m : Machine Cell) (frames : List (Frame Cell)) (c : Cell) → Direct c → Allowed regular other m frames c
-direct-allowed regular other m frames undefined h = tt
-direct-allowed regular other m frames (indirect t) h = absurd h
-direct-allowed regular other m frames (value shape ravel) h = tt
-direct-allowed regular other m frames invalid h = absurd h
+      subst DirectCell c h)
 
 -- ---- which words are seen so
 
@@ -124,5 +117,5 @@ module _ (A : ℕ → Type 0) (s : List ℕ) (w : ℕ) (named : isArray w ≡ tr
       go K.Undefined e d h = inl (inr (inl d))
       go K.Invalid e d h = absurd (valid h)
 
-  pub direct-word : Direct (cell s w) → onWords.Direct A w
-  direct-word h = ⊎-elim (λ d. d) (λ p. absurd (p .holds)) (valid-word Direct (λ z. z) h)
+  pub direct-word : DirectCell (cell s w) → onWords.Direct A w
+  direct-word h = ⊎-elim (λ d. d) (λ p. absurd (p .holds)) (valid-word DirectCell (λ z. z) h)

@@ -20,8 +20,10 @@ use Rattle.segment.specs.View.{words, view}
 use Rattle.manual.specs.Effects.{look, InFrames}
 use Rattle.acceptance.specs.Cells.{isIndirect}
 use Rattle.acceptance.specs.Structure as onWords
-use Rattle.legality.specs.Legal.{Direct, Leads, Allowed}
-use Rattle.legality.proofs.CellKinds.{target-cell, direct-cell, not-indirect, direct-allowed, valid-word}
+use Rattle.legality.specs.Legal.{DirectCell, NamesDirect, Allowed}
+use Rattle.legality.proofs.CellKinds.{target-cell, direct-cell, not-indirect, valid-word}
+use Rattle.manual.proofs.Cellwise.{global-in}
+use Rattle.legality.proofs.Legal.{direct-allowed}
 use Rattle.legality.proofs.Frames.{downward-length, part-length, downward-seen, part-seen}
 use Rattle.legality.proofs.Stacked.{Stacked, stacked, variable-low, variable-seen, variable-word, variable-in, look-is}
 
@@ -38,6 +40,9 @@ module _ (s : List ℕ) where
   global-word g l h =
       let e : 8 + (g - 8) ≡ g = omega arith in
       rw e at (global-at (g - 8) (omega arith))
+
+  pub look-global : (g : ℕ) → 8 ≤ g → g < blockptr s → look undefined (Global (segment g)) (view s) ≡ cell s (getD s g 0)
+  look-global g l h = rw (global-in (view s .globals) g l) (global-word g l h)
 
   pub temporaries-length : length (view s .temporaries) ≡ ltop s - (lbase s + 1)
   unfolding view words
@@ -69,7 +74,7 @@ module _ (s regular other older : List ℕ) (chain : onWords.Chain s regular oth
     seen-there : (a : ℕ) → onWords.VariableOf s regular other frames a → look undefined (Local (stack a)) (view s) ≡ cell s (stackAt s a)
     seen-there a v = look-local a (variable-in s regular other whole a (within a v))
 
-    points-word : (w : ℕ) (target : Target) → w ≡ targetWord target → Leads regular other (view s) l target → onWords.DirectOrIndirect A s regular other frames w
+    points-word : (w : ℕ) (target : Target) → w ≡ targetWord target → NamesDirect regular other (view s) l target → onWords.DirectOrIndirect A s regular other frames w
     points-word w (Global g) e h =
         let k : g .0 < blockptr s = omega (arith, h .names .1, globals-length s) in
         inr (inl (record {
@@ -77,7 +82,7 @@ module _ (s regular other older : List ℕ) (chain : onWords.Chain s regular oth
           word = e;
           low = h .names .0;
           high = k;
-          direct = not-indirect s (getD s (g .0) 0) (subst Direct (global-word s (g .0) (h .names .0) k) (h .direct));
+          direct = not-indirect s (getD s (g .0) 0) (subst DirectCell (look-global s (g .0) (h .names .0) k) (h .direct));
         }))
     points-word w (Local a) e h =
         let v = variable-word s regular other t (a .0) (h .names) in
@@ -85,7 +90,7 @@ module _ (s regular other older : List ℕ) (chain : onWords.Chain s regular oth
           target = a .0;
           word = e;
           variable = v;
-          direct = not-indirect s (stackAt s (a .0)) (subst Direct (seen-there (a .0) v) (h .direct));
+          direct = not-indirect s (stackAt s (a .0)) (subst DirectCell (seen-there (a .0) v) (h .direct));
         }))
 
     pub allowed-word : (w : ℕ) → (isArray w ≡ true → A (address w)) → Allowed regular other (view s) l (cell s w) → onWords.DirectOrIndirect A s regular other frames w
@@ -103,12 +108,12 @@ module _ (s regular other older : List ℕ) (chain : onWords.Chain s regular oth
           let e : cell s w ≡ indirect (Global (segment (g .target))) = ap (cell s) (g .word) ∙ target-cell s (Global (segment (g .target))) (omega (arith, g .high)) in
           subst (Allowed regular other (view s) l) (sym e) (record {
             names = (g .low, omega (arith, g .high, globals-length s));
-            direct = subst Direct (sym (global-word s (g .target) (g .low) (g .high))) (direct-cell s A (getD s (g .target) 0) (globals (g .target) (g .low) (g .high)));
+            direct = subst DirectCell (sym (look-global s (g .target) (g .low) (g .high))) (direct-cell s A (getD s (g .target) 0) (globals (g .target) (g .low) (g .high)));
           })
       word-allowed globals variables w (inr (inr v)) =
           let e : cell s w ≡ indirect (Local (stack (v .target))) = ap (cell s) (v .word) ∙ target-cell s (Local (stack (v .target))) (fits (v .target) (v .variable)) in
           subst (Allowed regular other (view s) l) (sym e) (record {
             names = variable-seen s regular other t (v .target) (v .variable);
-            direct = subst Direct (sym (seen-there (v .target) (v .variable)))
+            direct = subst DirectCell (sym (seen-there (v .target) (v .variable)))
                 (direct-cell s A (stackAt s (v .target)) (variables (v .target) (within (v .target) (v .variable)) (v .direct)));
           })

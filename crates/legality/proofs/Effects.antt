@@ -1,34 +1,27 @@
 -- Each effect keeps a machine legal, where what it pushes is allowed, what it stores is direct, and the function that it enters is known.
 use Prim.Native.Nat.{ℕ, zero, suc, _+_, _*_, _/_, _%_, _^_, _≤_, _<_}
-use mathlib.Core.Path.{_≡_, refl, sym}
+use mathlib.Core.Path.{_≡_, refl}
 use mathlib.Core.Bool.{Bool, true, false, true≢false}
-use mathlib.Core.Logic.{⊎-elim}
 use mathlib.Core.List.{List, [], _∷_, _++_}
 use native.Mathlib.Omega.{arith}
-use lib.ListN.{getD, length, drop, replicate, length-append, length-replicate, List·getD-eq-default}
+use lib.ListN.{getD, length, drop, replicate, length-append, length-replicate}
 use lib.Seq.{getD-drop}
 use Rattle.descriptor.specs.declared.Target.{Target}
 use Rattle.descriptor.specs.declared.Target.the-variants.{Local, Global}
 use Rattle.segment.specs.Cells.{Cell, undefined}
 use Rattle.segment.specs.Machine.{Frame, Machine}
-use Rattle.manual.specs.Effects.{lookFrames, look, put, withTemporaries, replace, discard, swapped, swap, enter, currentCells, older, pushIf, leave, jumpFrames, jump, setOrigin}
+use Rattle.manual.specs.Effects.{put, withTemporaries, replace, discard, swapped, swap, enter, currentCells, older, pushIf, leave, jumpFrames, jump, setOrigin}
 use Rattle.manual.specs.Seen.{noOlder}
-use Rattle.storage_theorems.proofs.Counts.{order}
 use Rattle.acceptance.specs.Frames.{known, arguments, variables}
-use Rattle.legality.specs.Legal.{Direct, VariableOf, Names, Allowed, LegalFrame, LegalFrames, bottom, upon, Legal}
-use Rattle.legality.proofs.Alike.{look-below, LikeFrames, same-cells, same-frames, variable-low, upon-on, StayDirect, frames-on, allowed-on, Like, like-legal}
+use Rattle.legality.specs.Legal.{DirectCell, Allowed, LegalFrame, LegalFrames, bottom, upon, Legal}
+use Rattle.manual.proofs.Performed.{enter-look, leave-look}
+use Rattle.legality.proofs.Legal.{Every, every, upon-on, names-in}
+use Rattle.legality.proofs.Alike.{LikeFrames, same-cells, same-frames, StayDirect, frames-on, allowed-on, Like, like-legal}
 use Rattle.legality.proofs.Stored.{put-like}
 
 -- ---- lists of cells
 
--- Such are all cells of a list; `undefined` is what stands past its end.
-abbrev pub Every : (Cell → Type 0) → List Cell → Type 0
-Every P l = (i : ℕ) → P (getD l i undefined)
-
 module _ (P : Cell → Type 0) where
-  pub every : P undefined → (l : List Cell) → ((i : ℕ) → i < length l → P (getD l i undefined)) → Every P l
-  every none l h i = ⊎-elim (λ (b : length l ≤ i). rw (List·getD-eq-default l undefined b) none) (λ b. h i b) (order (length l) i)
-
   every-cons : (c : Cell) (l : List Cell) → P c → Every P l → Every P (c ∷ l)
   every-cons c l p h zero = p
   every-cons c l p h (suc i) = h i
@@ -49,46 +42,28 @@ module _ (P : Cell → Type 0) where
   every-push true c l p h = every-cons c l p h
   every-push false c l p h = h
 
-new-local : (n : ℕ) (l : List Cell) (i : ℕ) → i < n → Direct (getD (replicate n undefined ++ l) i undefined)
+new-local : (n : ℕ) (l : List Cell) (i : ℕ) → i < n → DirectCell (getD (replicate n undefined ++ l) i undefined)
 new-local zero l i b = absurd (omega arith)
 new-local (suc n) l zero b = tt
 new-local (suc n) l (suc i) b = new-local n l i (omega arith)
 
--- ---- what is looked at
-
-abbrev entered : ℕ → ℕ → Machine Cell → Frame Cell
-entered n f m = record { function = f / 2 ^ 16; pctr = f % 2 ^ 16; cells = replicate n undefined ++ m .temporaries }
-
-pub enter-look : (regular other : List ℕ) (n f : ℕ) (m : Machine Cell) (t : Target) → Names regular other m (m .frames) t
-    → look undefined t (enter undefined n f m) ≡ look undefined t m
-enter-look regular other n f m (Global x) h = refl
-enter-look regular other n f m (Local a) h =
-    look-below (a .0) (entered n f m) (m .frames) (variable-low regular other (a .0) (m .frames) h)
-
-older-look : (regular other : List ℕ) (a : ℕ) (l : List (Frame Cell)) → VariableOf regular other (older l) a
-    → lookFrames undefined a (older l) ≡ lookFrames undefined a l
-older-look regular other a [] h = refl
-older-look regular other a (r ∷ l) h = sym (look-below a r l (variable-low regular other a l h))
-
-pub leave-look : (regular other : List ℕ) (n : ℕ) (result : Bool) (m : Machine Cell) (t : Target) → Names regular other m (older (m .frames)) t
-    → look undefined t (leave undefined n result m) ≡ look undefined t m
-leave-look regular other n result m (Global x) h = refl
-leave-look regular other n result m (Local a) h = older-look regular other (a .0) (m .frames) h
-
 -- ---- each effect
 
-pub jump-like : (place : ℕ) (m : Machine Cell) → Like m (jump place m)
+jump-like : (place : ℕ) (m : Machine Cell) → Like m (jump place m)
 jump-like place m = record { frames = jumped (m .frames); globals = same-cells (m .globals) }
   where
     jumped : (l : List (Frame Cell)) → LikeFrames l (jumpFrames place l)
     jumped [] = tt
     jumped (r ∷ l) = (record { function = refl; cells = same-cells (r .cells) }, same-frames l)
 
-pub origin-like : (v : ℕ) (m : Machine Cell) → Like m (setOrigin v m)
+origin-like : (v : ℕ) (m : Machine Cell) → Like m (setOrigin v m)
 origin-like v m = record { frames = same-frames (m .frames); globals = same-cells (m .globals) }
 
-pub with-like : (ts : List Cell) (m : Machine Cell) → Like m (withTemporaries ts m)
+with-like : (ts : List Cell) (m : Machine Cell) → Like m (withTemporaries ts m)
 with-like ts m = record { frames = same-frames (m .frames); globals = same-cells (m .globals) }
+
+abbrev entered : ℕ → ℕ → Machine Cell → Frame Cell
+entered n f m = record { function = f / 2 ^ 16; pctr = f % 2 ^ 16; cells = replicate n undefined ++ m .temporaries }
 
 -- The function of a new frame is known, and its arguments stand on the stack.
 pub record CanEnter (regular other : List ℕ) (n f : ℕ) (m : Machine Cell) : Type 0 where
@@ -117,7 +92,7 @@ module _ {regular other : List ℕ} {m : Machine Cell} (g : Legal regular other 
   pub swap-kept : Legal regular other (swap m)
   swap-kept = with-kept (swapped (m .temporaries)) (every-swapped Pushable (m .temporaries) operands-allowed)
 
-  pub put-kept : (t : Target) (c : Cell) → Direct c → Legal regular other (put t c m)
+  pub put-kept : (t : Target) (c : Cell) → DirectCell c → Legal regular other (put t c m)
   put-kept (Global x) c d = like-legal g (put-like (Global x) c m d) (g .temporaries)
   put-kept (Local a) c d = like-legal g (put-like (Local a) c m d) (g .temporaries)
 
@@ -131,7 +106,7 @@ module _ {regular other : List ℕ} {m : Machine Cell} (g : Legal regular other 
   pub enter-kept : (n f : ℕ) → CanEnter regular other n f m → Legal regular other (enter undefined n f m)
   enter-kept n f e =
       let after = enter undefined n f m in
-      let stay : StayDirect regular other m after refl (m .frames) = λ t h d. rw (enter-look regular other n f m t h) d in
+      let stay : StayDirect regular other m after refl (m .frames) = λ t h d. rw (enter-look undefined n f t m (names-in m (g .frames) refl t h)) d in
       let run = length-replicate n undefined in
       let new : LegalFrame regular other after (entered n f m) (m .frames) = record {
         function = e .function;
@@ -141,7 +116,7 @@ module _ {regular other : List ℕ} {m : Machine Cell} (g : Legal regular other 
             (getD (replicate n undefined ++ m .temporaries) i undefined) (every-run Pushable n (m .temporaries) tt operands-allowed i);
       } in
       record {
-        frames = upon-on regular other new (frames-on regular other m after refl (g .frames) (m .frames) (same-frames (m .frames)) stay);
+        frames = upon-on new (frames-on regular other m after refl (g .frames) (m .frames) (same-frames (m .frames)) stay);
         globals = g .globals;
         temporaries = λ i b. absurd (omega arith);
       }
@@ -157,8 +132,8 @@ module _ {regular other : List ℕ} {m : Machine Cell} (g : Legal regular other 
       let after = leave undefined n result m in
       let cells = currentCells (m .frames) in
       let rest = older (m .frames) in
-      let stay : StayDirect regular other m after refl rest = λ t h d. rw (leave-look regular other n result m t h) d in
       let u = under (g .frames) e in
+      let stay : StayDirect regular other m after refl rest = λ t h d. rw (leave-look undefined n result t m (names-in after (u .0) refl t h)) d in
       let P : Cell → Type 0 = λ c. Allowed regular other m rest c in
       record {
         frames = frames-on regular other m after refl (u .0) rest (same-frames rest) stay;

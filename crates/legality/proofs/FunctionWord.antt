@@ -13,10 +13,10 @@ module _ (w : ℕ) where
   abbrev bare : ℕ
   bare = w / 2 ^ 16 * 2 ^ 16
 
-  same-alternate : alternate bare ≡ alternate w
+  pub same-alternate : alternate bare ≡ alternate w
   same-alternate = omega arith
 
-  same-number : functionNumber bare ≡ functionNumber w
+  pub same-number : functionNumber bare ≡ functionNumber w
   same-number = omega arith
 
   same-short : ltb bare (2 ^ 28) ≡ ltb w (2 ^ 28)

@@ -19,8 +19,9 @@ use Rattle.acceptance.specs.Structure.{startOf, VariableOf, DirectOrIndirect, F
 use Rattle.acceptance.specs.Structure as onWords
 use Rattle.effects.specs.Sound.{Chain}
 use Rattle.effects.specs.Sound as sound
-use Rattle.legality.specs.Legal.{functionWord, Direct, Allowed, LegalFrame, LegalFrames, bottom, upon}
+use Rattle.legality.specs.Legal.{functionWord, DirectCell, Allowed, LegalFrame, LegalFrames, bottom, upon}
 use Rattle.legality.specs.Accepted.{Whole}
+use Rattle.legality.proofs.Legal.{first}
 use Rattle.legality.proofs.FunctionWord.{same-known, same-arguments, same-variables, most-arguments}
 use Rattle.legality.proofs.CellKinds.{direct-word}
 use Rattle.legality.proofs.Frames.{seenFrames, seenFrame, frame-length, frame-word, seen-bottom, seen-upon}
@@ -31,10 +32,6 @@ use Rattle.legality.proofs.Owners.{bottom-holds, first-holds, older-hol
 -- ---- legal frames taken apart
 
 module _ {regular other : List ℕ} {m : Machine Cell} {r : Frame Cell} where
-  first : {l : List (Frame Cell)} → LegalFrames regular other m (r ∷ l) → LegalFrame regular other m r l
-  first (bottom f e) = f
-  first (upon f t) = f
-
   alone : LegalFrames regular other m (r ∷ []) → length (r .cells) ≡ variables regular other (functionWord r)
   alone (bottom f e) = e
 
@@ -98,7 +95,7 @@ module _ (A : ℕ → Type 0) (s regular other : List ℕ) (m : Machine Cell) (s
         temporaries = temporaries;
         arguments = λ i k u. cell-word i (omega (arith, room, k)) (omega (arith, room, u, most-arguments (codeWordAt s base) regular other));
         locals = λ i k u. direct-word A s (stackAt s i) (arrays i (omega (arith, room, k)) u)
-            (subst Direct (frame-word s base start i (omega (arith, room, k)) u) (f .locals (base - 1 - i) (omega (arith, room, k, u, v, a))));
+            (subst DirectCell (frame-word s base start i (omega (arith, room, k)) u) (f .locals (base - 1 - i) (omega (arith, room, k, u, v, a))));
       }
 
 module _ (s regular other : List ℕ) (h : Whole s regular other) where
@@ -150,7 +147,7 @@ module _ (s regular other : List ℕ) (h : Whole s regular other) where
         older = r .0;
         chain = r .1;
         globals = λ i l u. direct-word A s (getD s i 0) (named s (h .sound .own) (getD s i 0) (global-owns s i l u))
-            (subst Direct (global-word s i l u) (h .legal .globals (i - 8) (omega (arith, globals-length s))));
+            (subst DirectCell (global-word s i l u) (h .legal .globals (i - 8) (omega (arith, globals-length s))));
         cells = stack-cells (r .0) (r .1) (r .0) (suc (lbase s)) (lbase s) (ltop s + 1) (omega arith) (r .1) (h .legal .frames) (λ a v. v) (frames-own s)
             (λ i l u. allowed (r .0) (r .1) (whole s regular other (r .0) (r .1)) (λ a v. v) (stackAt s i) (named s (h .sound .own) (stackAt s i) (temporary-owns s i l u))
             (subst (Allowed regular other (view s) (view s .frames)) (temporary-word s i l u) (h .legal .temporaries (ltop s - i) (omega (arith, temporaries-length s)))));

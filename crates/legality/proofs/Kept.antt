@@ -10,12 +10,12 @@ use Rattle.manual.specs.Effects.{Effect}
 use Rattle.manual.specs.Seen.{seenOf}
 use Rattle.manual.specs.Instructions.{Running, planOf}
 use Rattle.legality.specs.Legal.{Legal}
-use Rattle.legality.specs.Kept.{RunsIn, Kept, KeptTheorems}
+use Rattle.legality.specs.Kept.{RunsIn, KeepsLegal, KeptTheorems}
 use Rattle.legality.proofs.Steps.{all-kept}
 use Rattle.legality.proofs.Plans.{plan-meets}
 
 kept-theorem : {regular other : List ℕ} {f : Running} {m : Machine Cell} {es : List Effect} → Legal regular other m → RunsIn regular other f m
-    → (words : ℕ) (i : Instruction) (next : ℕ) → planOf f (seenOf words m) i next ≡ gives es → Kept regular other m es
+    → (words : ℕ) (i : Instruction) (next : ℕ) → planOf f (seenOf words m) i next ≡ gives es → KeepsLegal regular other m es
 kept-theorem {regular} {other} {f} {m} {es} g runs words i next e =
     all-kept regular other es m g (plan-meets g words f runs i next es e)
 

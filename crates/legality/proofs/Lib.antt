@@ -1,4 +1,5 @@
 -- Accepted segments and legal machines: from words to cells and back; laws of legal machines, and the theorems of specs/.
+pub mod Legal
 pub mod FunctionWord
 pub mod CellKinds
 pub mod Frames
@@ -7,7 +8,6 @@ pub mod Cells
 pub mod Split
 pub mod Owners
 pub mod Join
-pub mod Names
 pub mod Runs
 pub mod Accepted
 pub mod Alike

@@ -1,11 +1,11 @@
 -- Every effect of a plan meets a machine where it may be performed.
-use Prim.Native.Nat.{ℕ, _%_, _^_, _<_}
-use mathlib.Core.Path.{_≡_, refl, sym, subst}
+use Prim.Native.Nat.{ℕ, _%_, _^_}
+use mathlib.Core.Path.{_≡_, sym, subst}
 use mathlib.Core.Bool.{Bool, true, false, cond}
 use mathlib.Core.List.{List}
 use native.Mathlib.Omega.{arith}
 use lib.Dec.{eqb}
-use Rattle.descriptor.specs.Kinds.{bit}
+use Rattle.descriptor.proofs.Truth.{bit-below}
 use Rattle.instruction.specs.declared.Address.{Address}
 use Rattle.instruction.specs.declared.Instruction.{Instruction}
 use Rattle.segment.specs.Cells.{Cell, undefined, indirect, value as holds, invalid}
@@ -20,20 +20,16 @@ use Rattle.manual.specs.Control.{frameWord}
 use Rattle.manual.specs.Instructions.{Running, planOf}
 use Rattle.manual.specs.Cases.{OfPlan, Reaches, calledBy, Calling, Pushed, ofLoad, ofReference, ofTestDefined, ofUndefined, ofGetOrigin, ofShortConstant, ofConstantScalar, ofConstantVector}
 use Rattle.manual.proofs.Cases.{plan-cases}
-use Rattle.legality.specs.Legal.{Direct, Leads, Allowed, Legal}
+use Rattle.legality.specs.Legal.{DirectCell, NamesDirect, Allowed, Legal}
 use Rattle.legality.specs.Kept.{RunsIn}
-use Rattle.legality.proofs.Alike.{direct-allowed}
+use Rattle.legality.proofs.Legal.{direct-allowed}
 use Rattle.legality.proofs.Effects.{CanEnter}
 use Rattle.legality.proofs.Steps.{AllMeet}
 use Rattle.legality.proofs.Resolved.{reached-leads}
 use Rattle.legality.proofs.Called.{can-enter}
 
-bit-small : (b : Bool) → bit b < 2
-bit-small true = omega arith
-bit-small false = omega arith
-
 -- A cell that has a value is no indirect word.
-value-direct : (c : Cell) (a : Value) → valueOf c ≡ gives a → Direct c
+value-direct : (c : Cell) (a : Value) → valueOf c ≡ gives a → DirectCell c
 value-direct undefined a e = tt
 value-direct (indirect t) a e = let z : _≡_ {A = ℕ} 0 1 = cc in omega arith
 value-direct (holds shape ravel) a e = tt
@@ -46,7 +42,7 @@ module _ {regular other : List ℕ} {m : Machine Cell} (g : Legal regular other 
   abbrev Pushable : Source → Type 0
   Pushable source = Allowed regular other m (m .frames) (meant source m)
 
-  reached : (a : Address) (x : Variable) → Reaches f seen a x → Leads regular other m (m .frames) (x .place)
+  reached : (a : Address) (x : Variable) → Reaches f seen a x → NamesDirect regular other m (m .frames) (x .place)
   reached a x r = reached-leads g words f runs a x r
 
   pushed-allowed : {i : Instruction} {source : Source} → Pushed f seen i source → Pushable source
@@ -82,16 +78,16 @@ module _ {regular other : List ℕ} {m : Machine Cell} (g : Legal regular other 
       (record {
         unresolved = λ a class number e. tt;
         stopped = λ class number l. tt;
-        pushed = λ p r. (pushed-allowed p, tt, (tt, tt, tt));
-        result = λ {n} {v} r o c. (result-allowed v, tt, (tt, tt, tt));
-        origin = λ a b e c p t. (bit-small b, tt, (tt, tt, (tt, tt, tt)));
-        assigned = λ a x v e r c p. ((reached a x r .names, value-direct (seen .operand 0) v p), tt, (tt, tt, tt));
-        assignedNoResult = λ a x v e r c p. ((reached a x r .names, value-direct (seen .operand 0) v p), tt, (tt, tt, (tt, tt, tt)));
-        assignedElement = λ rank a x k e c p. let q = reached a x (p .reaches) in ((q .names, q .direct), tt, (tt, tt, tt));
-        interchanged = λ e c. (tt, tt, (tt, tt, tt));
-        gone = λ t. (tt, tt, tt);
-        dropped = λ c t. (tt, tt, (tt, tt, tt));
-        left = λ l. (l .below, refl, tt);
-        leftDropping = λ c l. (tt, tt, (l .below, refl, tt));
-        entered = λ arguments alternate number e c. (tt, tt, (called next arguments alternate number c, tt, tt));
+        pushed = λ p r. (pushed-allowed p, (tt, tt));
+        result = λ {n} {v} r o c. (result-allowed v, (tt, tt));
+        origin = λ a b e c p t. (bit-below b, (tt, (tt, tt)));
+        assigned = λ a x v e r c p. (value-direct (seen .operand 0) v p, (tt, tt));
+        assignedNoResult = λ a x v e r c p. (value-direct (seen .operand 0) v p, (tt, (tt, tt)));
+        assignedElement = λ rank a x k e c p. (reached a x (p .reaches) .direct, (tt, tt));
+        interchanged = λ e c. (tt, (tt, tt));
+        gone = λ t. (tt, tt);
+        dropped = λ c t. (tt, (tt, tt));
+        left = λ l. (l .below, tt);
+        leftDropping = λ c l. (tt, (l .below, tt));
+        entered = λ arguments alternate number e c. (tt, (called next arguments alternate number c, tt));
       }))

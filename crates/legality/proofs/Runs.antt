@@ -1,36 +1,34 @@
 -- What an instruction of the current function may rely on in an accepted segment.
-use Prim.Native.Nat.{ℕ, _-_, _^_, _<_, _≤_}
-use mathlib.Core.Path.{_≡_, refl, _∙_, subst}
+use Prim.Native.Nat.{ℕ, _^_, _<_, _≤_}
+use mathlib.Core.Path.{_≡_, refl, _∙_}
 use mathlib.Core.Bool.{Bool, true, false}
 use mathlib.Core.List.{List, [], _∷_}
 use native.Mathlib.Omega.{arith}
-use lib.ListN.{getD}
 use lib.Dec.{ltb, eqb}
 use borrow.Author.Tests.{ltb-true, eqb-false}
 use Rattle.descriptor.specs.declared.Target.{Target}
 use Rattle.descriptor.specs.declared.Target.the-variants.{Local, Global}
-use Rattle.segment.specs.State.{lbase, blockptr}
+use Rattle.segment.specs.State.{lbase}
 use Rattle.segment.specs.Stack.{codeWordAt, alternate, functionNumber}
-use Rattle.segment.specs.Cells.{indirect, cell}
+use Rattle.segment.specs.Cells.{undefined, indirect, cell}
 use Rattle.procedure.specs.Directory.{selected, entries, hasFunction, resultOf}
 use Rattle.procedure.specs.Refusal.{procedureRefusal}
 use Rattle.procedure.specs.Accepted as table
 use Rattle.procedure.proofs.Accepting.{acceptance}
-use Rattle.storage.specs.Owned.{ArrayIn}
 use Rattle.segment.specs.View.{words, view}
 use Rattle.effects.specs.Sources.{heldAt}
+use Rattle.manual.specs.Effects.{AddressableIn, look}
 use Rattle.effects.specs.Fits.{Addressable}
 use Rattle.effects.specs.Alike.{HasFrame}
 use Rattle.acceptance_storage.proofs.Tests.{never, both}
 use Rattle.acceptance.specs.Frames.{segmentOf, known, variables}
 use Rattle.acceptance.specs.Structure.{Chain, Accepted}
-use Rattle.legality.specs.Legal.{Direct}
 use Rattle.legality.specs.Accepted.{currentVariables, currentResult}
-use Rattle.legality.proofs.CellKinds.{direct-cell}
-use Rattle.legality.proofs.Frames.{part-length}
 use Rattle.legality.proofs.Stacked.{current-room}
-use Rattle.legality.proofs.Cells.{whole, look-local}
-use Rattle.legality.proofs.Names.{in-map, current-map, local-names}
+use Rattle.legality.proofs.Cells.{globals-length, look-global, whole, look-local}
+use Rattle.manual.proofs.Machines.{current-map}
+use Rattle.manual.proofs.Cellwise.{in-map}
+use Rattle.legality.proofs.Legal.{held-in}
 use Rattle.legality.proofs.Split.{split}
 
 -- A function with a result has a local: document 01, "RESULT needs NLOCALS at least 1".
@@ -59,14 +57,14 @@ function-known s regular other [] base h = h .function
 function-known s regular other (next ∷ older) base h = h .0 .function
 
 module _ (s regular other : List ℕ) (h : Accepted s regular other) where
+  -- what a variable is seen as
+  look-held : (t : Target) → AddressableIn t (view s) → look undefined t (view s) ≡ cell s (heldAt s t)
+  look-held (Global g) v = look-global s (g .0) (v .0) (omega (arith, v, globals-length s))
+  look-held (Local a) v = look-local s regular other (h .older) (h .chain) (a .0) v
+
   targets : (t u : Target) → Addressable s t → cell s (heldAt s t) ≡ indirect u → Addressable s u
-  unfolding view words
-  targets (Global g) u v e =
-      absurd (subst Direct e (direct-cell s (λ a. (size : ℕ) × ArrayIn (blockptr s) (h .owned .blocks) a size) (getD s (g .0) 0)
-      (h .globals (g .0) (v .0) (omega (arith, v, h .head .low, part-length s 8 (blockptr s - 8))))))
-  targets (Local a) u v e =
-      let k = in-map (cell s) (Local a) (words s) .0 v in
-      in-map (cell s) u (words s) .1 (local-names (split s regular other h .legal) (a .0) u k (look-local s regular other (h .older) (h .chain) (a .0) k ∙ e))
+  unfolding view
+  targets t u v e = in-map (cell s) u (words s) .1 (held-in (split s regular other h .legal) t u (look-held t (in-map (cell s) t (words s) .0 v) ∙ e))
 
   pub runs : HasFrame s (currentVariables s regular other) (currentResult s regular other)
   unfolding view

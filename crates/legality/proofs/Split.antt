@@ -19,8 +19,9 @@ use Rattle.acceptance.specs.Cells.{isIndirect}
 use Rattle.acceptance.specs.Structure.{startOf, localsOf, VariableOf, DirectOrIndirect, FrameCells, StackCells, Accepted}
 use Rattle.acceptance.specs.Structure as onWords
 use Rattle.effects.specs.Sound as sound
-use Rattle.legality.specs.Legal.{Direct, Allowed, LegalFrame, LegalFrames, bottom, upon, Legal}
+use Rattle.legality.specs.Legal.{DirectCell, Allowed, LegalFrame, LegalFrames, bottom, Legal}
 use Rattle.legality.specs.Accepted.{Whole}
+use Rattle.legality.proofs.Legal.{upon-on}
 use Rattle.legality.proofs.FunctionWord.{same-known, same-arguments, same-variables}
 use Rattle.legality.proofs.CellKinds.{direct-cell}
 use Rattle.legality.proofs.Frames.{seenFrames, seenFrame, frame-length, frame-at, seen-bottom, seen-upon}
@@ -54,11 +55,6 @@ first-frame A (next ∷ older) h = h .0
 
 -- ---- frames
 
-upon-older : {regular other : List ℕ} {m : Machine Cell} {r : Frame Cell} {l : List (Frame Cell)} → LegalFrame regular other m r l → LegalFrames regular other m l
-    → LegalFrames regular other m (r ∷ l)
-upon-older f (bottom g e) = upon f (bottom g e)
-upon-older f (upon g t) = upon f (upon g t)
-
 -- One frame, over the older ones, whose temporaries stand from `start` up to it.
 module _ (A : ℕ → Type 0) (s regular other : List ℕ) (m : Machine Cell) (start base top : ℕ) (frames : List ℕ) (l : List (Frame Cell))
     (has : known regular other (codeWordAt s base) ≡ true) (room : start + variables regular other (codeWordAt s base) ≤ base)
@@ -78,7 +74,7 @@ module _ (A : ℕ → Type 0) (s regular other : List ℕ) (m : Machine Cell) (s
       record {
         function = same-known (codeWordAt s base) regular other ∙ has;
         cells = omega (arith, v, n, room);
-        locals = λ i k. subst Direct (sym (frame-at s base start i (omega (arith, k, v, a, room))))
+        locals = λ i k. subst DirectCell (sym (frame-at s base start i (omega (arith, k, v, a, room))))
             (direct-cell s A (stackAt s (base - 1 - i)) (c .locals (base - 1 - i) (omega (arith, k, v, a, room)) (omega (arith, k, v, a, room))));
         others = λ i k. subst (Allowed regular other m l) (sym (frame-at s base start i (omega (arith, k, n))))
             (allow (stackAt s (base - 1 - i)) (each (base - 1 - i) (omega (arith, k, n)) (omega (arith, k, n))));
@@ -116,7 +112,7 @@ module _ (s regular other : List ℕ) (h : Accepted s regular other) where
   legal-frames (next ∷ older) (suc n) base top l k c within =
       let t = stacked s regular other older n next (omega (arith, k .0 .start)) (k .1) in
       rw (seen-upon n s base next (k .0 .last) (omega (arith, k .0 .start)))
-      (upon-older
+      (upon-on
       (legal-frame A s regular other (view s) (next + 2) base top (next ∷ older) (seenFrames n s next) (k .0 .function) (k .0 .start) (allow t (λ a v. within a (inr v))) (c .0)
       (first-frame A older (c .1) .temporaries))
       (legal-frames older n next (startOf s regular other base) (omega (arith, k .0 .start)) (k .1) (c .1) (λ a v. within a (inr v))))
@@ -125,7 +121,7 @@ module _ (s regular other : List ℕ) (h : Accepted s regular other) where
   unfolding view words
   legal = record {
     frames = legal-frames (h .older) (suc (lbase s)) (lbase s) (ltop s + 1) (omega arith) (h .chain) (h .cells) (λ a v. v);
-    globals = λ i k. subst Direct (sym (global-at s i (omega (arith, k, globals-length s))))
+    globals = λ i k. subst DirectCell (sym (global-at s i (omega (arith, k, globals-length s))))
         (direct-cell s A (getD s (8 + i) 0) (h .globals (8 + i) (omega arith) (omega (arith, k, globals-length s))));
     temporaries = λ i k. subst (Allowed regular other (view s) (view s .frames)) (sym (temporary-at s i (omega (arith, k, temporaries-length s))))
         (allow frames (λ a v. v) (stackAt s (ltop s - i))

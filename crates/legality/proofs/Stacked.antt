@@ -1,18 +1,18 @@
 -- The frames of a chain, as words and as seen: the same variables, and at each the cell of its word.
 use Prim.Native.Nat.{ℕ, zero, suc, _+_, _-_, _<_, _≤_}
-use mathlib.Core.Path.{_≡_, refl}
+use mathlib.Core.Path.{_≡_, refl, _∙_}
 use mathlib.Core.List.{List, [], _∷_}
 use mathlib.Core.Logic.{inl, inr}
 use native.Mathlib.Omega.{arith}
 use lib.ListN.{length}
-use borrow.Author.Tests.{le-leb, lt-leb}
 use Rattle.segment.specs.Stack.{stackAt, codeWordAt}
 use Rattle.segment.specs.Cells.{Cell, undefined, cell}
 use Rattle.segment.specs.Machine.{Frame, depthOfFrames}
 use Rattle.manual.specs.Effects.{indexIn, lookFrames, currentCells, InFrames}
 use Rattle.acceptance.specs.Frames.{variables}
 use Rattle.acceptance.specs.Structure as onWords
-use Rattle.legality.specs.Legal.{VariableOf}
+use Rattle.legality.specs.Legal.{VariableIn}
+use Rattle.manual.proofs.Cellwise.{look-here, look-below, index-in, in-depth}
 use Rattle.legality.proofs.FunctionWord.{same-variables}
 use Rattle.legality.proofs.Frames.{seenFrames, seenFrame, frame-length, frame-word, seen-bottom, seen-upon}
 
@@ -41,14 +41,8 @@ module _ (s regular other : List ℕ) where
 
   -- ---- the same variables
 
-  pub variable-low : {d : ℕ} {frames : List ℕ} {l : List (Frame Cell)} → Stacked s regular other d frames l → (a : ℕ)
-      → onWords.VariableOf s regular other frames a → a < d
-  variable-low none a v = absurd v
-  variable-low (frame base h t) a (inl v) = omega (arith, v)
-  variable-low (frame base h t) a (inr v) = omega (arith, variable-low t a v, h)
-
   pub variable-seen : {d : ℕ} {frames : List ℕ} {l : List (Frame Cell)} → Stacked s regular other d frames l → (a : ℕ)
-      → onWords.VariableOf s regular other frames a → VariableOf regular other l a
+      → onWords.VariableOf s regular other frames a → VariableIn regular other l a
   variable-seen none a v = absurd v
   variable-seen (frame {start = start} base h t) a (inl v) =
       let e = same-variables (codeWordAt s base) regular other in
@@ -56,7 +50,7 @@ module _ (s regular other : List ℕ) where
   variable-seen (frame base h t) a (inr v) = inr (variable-seen t a v)
 
   pub variable-word : {d : ℕ} {frames : List ℕ} {l : List (Frame Cell)} → Stacked s regular other d frames l → (a : ℕ)
-      → VariableOf regular other l a → onWords.VariableOf s regular other frames a
+      → VariableIn regular other l a → onWords.VariableOf s regular other frames a
   variable-word none a v = absurd v
   variable-word (frame {start = start} base h t) a (inl v) =
       let e = same-variables (codeWordAt s base) regular other in
@@ -70,12 +64,11 @@ module _ (s regular other : List ℕ) where
       inl (omega (arith, v, h, depth-is t), omega (arith, v, h, depth-is t, frame-length s base start))
   variable-in (frame base h t) a (inr v) = inr (variable-in t a v)
 
-  -- ---- what is seen at a cell's address
+  pub variable-low : {d : ℕ} {frames : List ℕ} {l : List (Frame Cell)} → Stacked s regular other d frames l → (a : ℕ)
+      → onWords.VariableOf s regular other frames a → a < d
+  variable-low {l = l} t a v = omega (arith, in-depth a l (variable-in t a v), depth-is t)
 
-  in-low : {d : ℕ} {frames : List ℕ} {l : List (Frame Cell)} → Stacked s regular other d frames l → (a : ℕ) → InFrames a l → a < d
-  in-low none a k = absurd k
-  in-low (frame {start = start} base h t) a (inl k) = omega (arith, k, h, depth-is t, frame-length s base start)
-  in-low (frame base h t) a (inr k) = omega (arith, in-low t a k, h)
+  -- ---- what is seen at a cell's address
 
   pub look-is : {d : ℕ} {frames : List ℕ} {l : List (Frame Cell)} → Stacked s regular other d frames l → (a : ℕ) → InFrames a l
       → lookFrames undefined a l ≡ cell s (stackAt s a)
@@ -83,6 +76,7 @@ module _ (s regular other : List ℕ) where
   look-is (frame {start = start} {l = l} base h t) a (inl k) =
       let n = frame-length s base start in
       let d = depth-is t in
-      let i : indexIn (seenFrame s base start .cells) l a ≡ base - 1 - a = omega (arith, h, n, d) in
-      rw (le-leb (depthOfFrames l) a (k .0), i) (frame-word s base start a (omega (arith, k, d)) (omega (arith, k, h, n, d)))
-  look-is (frame {l = l} base h t) a (inr k) = rw (lt-leb (depthOfFrames l) a (omega (arith, in-low t a k, depth-is t))) (look-is t a k)
+      let i : indexIn (seenFrame s base start .cells) l a ≡ base - 1 - a = index-in (seenFrame s base start .cells) l a (k .1) ∙ omega (arith, h, n, d) in
+      look-here a undefined (seenFrame s base start) l (k .0)
+      ∙ rw i (frame-word s base start a (omega (arith, k, d)) (omega (arith, k, h, n, d)))
+  look-is (frame {start = start} {l = l} base h t) a (inr k) = look-below a undefined (seenFrame s base start) l (in-depth a l k) ∙ look-is t a k

@@ -1,6 +1,6 @@
 -- What tests 10–18 accept is a sound segment whose view is legal: the structure on words (acceptance/specs/Structure) and the one
--- on cells (legal/specs/Legal) say the same. Instructions are proved to keep the second; a run starts from the first.
--- Proved in proofs/Theorem.antt. Assumes nothing.
+-- on cells (specs/Legal) say the same. Instructions are proved to keep the second; a run starts from the first.
+-- Proved in proofs/Accepted. Assumes nothing.
 use Prim.Native.Nat.{ℕ, _≤_}
 use mathlib.Core.Path.{_≡_}
 use mathlib.Core.Bool.{Bool}

@@ -2,7 +2,7 @@
 -- it may name. An accepted segment is a sound one whose view is legal. Document 01: "Indirect words stand only in arguments
 -- (target a global or a variable of an older frame) and temporaries (own frame too), and never target a cell holding another.
 -- Undefined may stand in any cell." Assumes nothing.
-use Prim.Native.Nat.{ℕ, _+_, _-_, _*_, _^_, _≤_, _<_}
+use Prim.Native.Nat.{ℕ, _+_, _*_, _^_, _≤_, _<_}
 use mathlib.Core.Path.{_≡_}
 use mathlib.Core.Bool.{true}
 use mathlib.Core.Logic.{_⊎_}
@@ -12,7 +12,7 @@ use Rattle.descriptor.specs.declared.Target.{Target}
 use Rattle.descriptor.specs.declared.Target.the-variants.{Local, Global}
 use Rattle.segment.specs.Cells.{Cell, undefined, indirect, value, invalid}
 use Rattle.segment.specs.Machine.{Frame, Machine, depthOfFrames}
-use Rattle.manual.specs.Effects.{look}
+use Rattle.manual.specs.Effects.{look, AddressableIn}
 use Rattle.acceptance.specs.Frames.{known, arguments, variables}
 
 -- The second word of a frame without its PCTR: it says which function the frame runs.
@@ -22,32 +22,32 @@ functionWord r = r .function * 2 ^ 16
 -- ---- cells
 
 -- A scalar, an array or undefined.
-abbrev pub Direct : Cell → Type 0
-Direct undefined = Unit {0}
-Direct (indirect t) = ⊥
-Direct (value shape ravel) = Unit {0}
-Direct invalid = ⊥
+abbrev pub DirectCell : Cell → Type 0
+DirectCell undefined = Unit {0}
+DirectCell (indirect t) = ⊥
+DirectCell (value shape ravel) = Unit {0}
+DirectCell invalid = ⊥
 
 -- The stack address `a` is a variable of one of these frames: one of the highest cells of its frame.
-abbrev pub VariableOf : List ℕ → List ℕ → List (Frame Cell) → ℕ → Type 0
-VariableOf regular other [] a = ⊥
-VariableOf regular other (r ∷ older) a =
+abbrev pub VariableIn : List ℕ → List ℕ → List (Frame Cell) → ℕ → Type 0
+VariableIn regular other [] a = ⊥
+VariableIn regular other (r ∷ older) a =
     ((depthOfFrames older + length (r .cells) ≤ a + variables regular other (functionWord r)) × (a < depthOfFrames older + length (r .cells)))
-    ⊎ VariableOf regular other older a
+    ⊎ VariableIn regular other older a
 
 -- What an indirect word may name: a global, or a variable of one of these frames.
-abbrev pub Names : List ℕ → List ℕ → Machine Cell → List (Frame Cell) → Target → Type 0
-Names regular other m frames (Global g) = (8 ≤ g .0) × (g .0 < 8 + length (m .globals))
-Names regular other m frames (Local a) = VariableOf regular other frames (a .0)
+abbrev pub MayName : List ℕ → List ℕ → Machine Cell → List (Frame Cell) → Target → Type 0
+MayName regular other m frames (Global g) = AddressableIn (Global g) m
+MayName regular other m frames (Local a) = VariableIn regular other frames (a .0)
 
 -- It names one, and what it names holds no indirect word.
-pub record Leads (regular other : List ℕ) (m : Machine Cell) (frames : List (Frame Cell)) (t : Target) : Type 0 where
-  pub names : Names regular other m frames t
-  pub direct : Direct (look undefined t m)
+pub record NamesDirect (regular other : List ℕ) (m : Machine Cell) (frames : List (Frame Cell)) (t : Target) : Type 0 where
+  pub names : MayName regular other m frames t
+  pub direct : DirectCell (look undefined t m)
 
 abbrev pub Allowed : List ℕ → List ℕ → Machine Cell → List (Frame Cell) → Cell → Type 0
 Allowed regular other m frames undefined = Unit {0}
-Allowed regular other m frames (indirect t) = Leads regular other m frames t
+Allowed regular other m frames (indirect t) = NamesDirect regular other m frames t
 Allowed regular other m frames (value shape ravel) = Unit {0}
 Allowed regular other m frames invalid = ⊥
 
@@ -58,7 +58,7 @@ pub record LegalFrame (regular other : List ℕ) (m : Machine Cell) (r : Frame C
   pub function : known regular other (functionWord r) ≡ true
   pub cells : variables regular other (functionWord r) ≤ length (r .cells)
   pub locals : (i : ℕ) → i + arguments regular other (functionWord r) < variables regular other (functionWord r)
-      → Direct (getD (r .cells) i undefined)
+      → DirectCell (getD (r .cells) i undefined)
   pub others : (i : ℕ) → i < length (r .cells) → Allowed regular other m older (getD (r .cells) i undefined)
 
 -- The bottom frame has its variables alone.
@@ -70,5 +70,5 @@ pub data LegalFrames (regular other : List ℕ) (m : Machine Cell) : List (Frame
 
 pub record Legal (regular other : List ℕ) (m : Machine Cell) : Type 0 where
   pub frames : LegalFrames regular other m (m .frames)
-  pub globals : (i : ℕ) → i < length (m .globals) → Direct (getD (m .globals) i undefined)
+  pub globals : (i : ℕ) → i < length (m .globals) → DirectCell (getD (m .globals) i undefined)
   pub temporaries : (i : ℕ) → i < length (m .temporaries) → Allowed regular other m (m .frames) (getD (m .temporaries) i undefined)

@@ -19,13 +19,13 @@ use Rattle.effects_theorems.proofs.State.{trap-sound, trap-view}
 use Rattle.effects.specs.Perform.{performs}
 use Rattle.legality.specs.Legal.{Legal}
 use Rattle.legality.proofs.Accepted.{legal-theorems}
-use Rattle.legality.specs.Kept.{Kept}
+use Rattle.legality.specs.Kept.{KeepsLegal}
 
 abbrev pub sound-of : {s regular other : List ℕ} → Accepted s regular other → Sound s
 sound-of {s} {regular} {other} h =
     record { own = h .owned; fits = h .head .top; above = h .top; chain = legal-theorems .split s regular other h .sound .chain }
 
-view-flags : (s : List ℕ) → view s .flags ≡ flags s
+pub view-flags : (s : List ℕ) → view s .flags ≡ flags s
 unfolding view words
 view-flags s = refl
 
@@ -62,12 +62,12 @@ module _ (s regular other : List ℕ) (h : Accepted s regular other) where
       other-word : (i : ℕ) → i ≢ 3 → getD (set s 3 v) i 0 ≡ getD s i 0
       other-word i n = rw getD-set-other
 
-  pub effects-accepted : (es : List Effect) → PerformedAll s es → StateKept s (performs s es) → Kept regular other (view s) es
+  pub effects-accepted : (es : List Effect) → PerformedAll s es → StateKept s (performs s es) → KeepsLegal regular other (view s) es
       → Accepted (performs s es) regular other
   effects-accepted es performed state kept =
       let t = performs s es in
       let fl : flags t ≡ performAll es (view s) .flags = sym (view-flags t) ∙ ap (λ (m : Machine Cell). m .flags) (performed .seen) in
       accepted-again t (state .long) (performed .sound) (subst (Legal regular other) (sym (performed .seen)) (kept .legal))
-      (omega (arith, fl, kept .flags (omega (arith, view-flags s, h .head .flagBits))))
+      (omega (arith, fl, kept .flags, view-flags s, h .head .flagBits))
       (omega (arith, state .rest 3 (omega arith) (omega arith), h .head .trapBits))
       (λ i l u. state .rest i (omega arith) u)

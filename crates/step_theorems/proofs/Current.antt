@@ -1,6 +1,6 @@
 -- The current frame, by the words and by the view: the function that runs is the same, and what is planned from the one is
 -- planned from the other.
-use Prim.Native.Nat.{ℕ, _+_, _-_, _/_, _%_, _^_}
+use Prim.Native.Nat.{ℕ, _+_, _-_, _/_, _^_}
 use mathlib.Core.Path.{_≡_, refl, sym, _∙_}
 use mathlib.Core.Bool.{Bool, true, false, cond}
 use mathlib.Core.List.{List, [], _∷_}
@@ -13,9 +13,9 @@ use Rattle.procedure.specs.Directory.{startOf, hasFunction, functionOf}
 use Rattle.instruction.specs.declared.Instruction.{Instruction}
 use Rattle.instruction.specs.declared.Decoded.{Decoded}
 use Rattle.instruction.specs.declared.Decoded.the-variants as D
-use Rattle.instruction.specs.Decoding.{decodeIn}
+use Rattle.instruction.specs.Decoding.{instructionAt}
 use Rattle.segment.specs.State.{sbase, lbase}
-use Rattle.segment.specs.Stack.{lastLbaseAt, codeWordAt, alternate, functionNumber, pctr}
+use Rattle.segment.specs.Stack.{lastLbaseAt, codeWordAt, functionNumber, pctr}
 use Rattle.segment.specs.Cells.{Cell, cell}
 use Rattle.segment.specs.Machine.{Frame, mapFrames}
 use Rattle.segment.specs.View.{frameAt, framesFrom, words, view}
@@ -25,19 +25,18 @@ use Rattle.acceptance.specs.Structure.{Accepted}
 use Rattle.manual.specs.OrTrap.{gives}
 use Rattle.manual.specs.Effects.{Effect}
 use Rattle.manual.specs.Seen.{variablesOf, seenOf}
-use Rattle.manual.specs.Instructions.{Running, headerOf, planOf, planDecoded, planAt}
+use Rattle.manual.specs.Instructions.{Running, running, headerOf, codeIn, planOf, planDecoded, planAt}
 use Rattle.effects.specs.Seen.{seen}
 use Rattle.effects.specs.Sound.{Sound}
 use Rattle.effects.specs.Alike.{HasFrame}
 use Rattle.effects_theorems.proofs.Plans.{plans-theorems}
-use Rattle.legality.proofs.FunctionWord.{same-variables}
+use Rattle.legality.proofs.FunctionWord.{same-alternate, same-number, same-variables}
 use Rattle.legality.proofs.Runs.{function-known}
 use Rattle.legality.proofs.Accepted.{legal-theorems}
 use Rattle.legality.specs.Kept.{RunsIn}
 use Rattle.effects.specs.Carried.{carry}
 use Rattle.effects.specs.Step.{selectorOf, numberOf, currentHeader, settle, stepIn, stepOf}
-use Rattle.step_theorems.specs.Planned as planned
-use Rattle.step_theorems.specs.Planned.{nextPlan, planned, headerIn}
+use Rattle.step_theorems.specs.Planned.{frameSelector, frameNumber, nextPlan, planned, headerIn}
 
 -- ---- the first frame of the view
 
@@ -59,18 +58,17 @@ current s = go (leb (lbase s) (lastLbaseAt s (lbase s)))
 
 -- ---- the function that runs
 
--- P of a frame, by its second word and by the view
-selector-is : (w : ℕ) → w / 2 ^ 16 / 2 ^ 11 % 2 ≡ alternate w
-selector-is w = omega arith
+-- by the view and by the words
+module _ (s : List ℕ) where
+  same-selector : frameSelector (current s .frame) ≡ selectorOf s
+  same-selector = rw (current s .function, same-alternate (codeWordAt s (lbase s)))
 
--- the header of the current frame's function, by the view and by the words
+  same-function : frameNumber (current s .frame) ≡ numberOf s
+  same-function = rw (current s .function, same-number (codeWordAt s (lbase s)))
+
 pub header-seen : (regular other s : List ℕ) → headerIn regular other (view s) ≡ currentHeader regular other s
 unfolding currentHeader
-header-seen regular other s =
-    let c = current s in
-    let p : planned.selectorOf (c .frame) ≡ selectorOf s = rw (c .function, selector-is (codeWordAt s (lbase s))) in
-    let n : planned.numberOf (c .frame) ≡ numberOf s = rw (c .function) in
-    rw (c .frames, p, n)
+header-seen regular other s = rw (current s .frames, same-selector s, same-function s)
 
 found : (regular other : List ℕ) (w : ℕ) → known regular other w ≡ true
     → functionOf (segmentOf regular other w) (functionNumber w)
@@ -78,12 +76,13 @@ found : (regular other : List ℕ) (w : ℕ) → known regular other w ≡ true
 unfolding functionOf known
 found regular other w h = rw (both (ltb w (2 ^ 28)) (hasFunction (segmentOf regular other w) (functionNumber w)) h .1)
 
-abbrev pub running : List ℕ → List ℕ → List ℕ → Running
-running s regular other =
+-- The function of the current frame.
+abbrev pub current-function : List ℕ → List ℕ → List ℕ → Running
+current-function s regular other =
     let p = segmentOf regular other (codeWordAt s (lbase s)) in
-    record { regular = regular; alternate = other; selector = selectorOf s; block = blockAt p (startOf p (numberOf s)) }
+    running regular other (selectorOf s) (blockAt p (startOf p (numberOf s)))
 
-pub header-running : (s regular other : List ℕ) → headerIn regular other (view s) ≡ headerOf (running s regular other)
+pub header-running : (s regular other : List ℕ) → headerIn regular other (view s) ≡ headerOf (current-function s regular other)
 unfolding currentHeader
 header-running s regular other = header-seen regular other s
 
@@ -96,7 +95,7 @@ pub record Decodes (s : List ℕ) (f : Running) (es : List Effect) : Type 0 wher
 
 module _ (s regular other : List ℕ) (h : Accepted s regular other) where
   abbrev f : Running
-  f = running s regular other
+  f = current-function s regular other
 
   function-there : functionOf (segmentOf regular other (codeWordAt s (lbase s))) (numberOf s) ≡ F.At (f .block)
   function-there = found regular other (codeWordAt s (lbase s)) (function-known s regular other (h .older) (lbase s) (h .chain))
@@ -125,11 +124,7 @@ module _ (s regular other : List ℕ) (h : Accepted s regular other) where
 
   plan-seen : planned s regular other ≡ planAt f (seenOf (length s - sbase s) (view s)) place
   unfolding nextPlan
-  plan-seen =
-      let c = current s in
-      let p : planned.selectorOf (c .frame) ≡ selectorOf s = rw (c .function, selector-is (codeWordAt s (lbase s))) in
-      let n : planned.numberOf (c .frame) ≡ numberOf s = rw (c .function) in
-      rw (c .frames, p, n, function-there, p, c .place)
+  plan-seen = rw (current s .frames, same-selector s, same-function s, function-there, same-selector s, current s .place)
 
   pub plan-is : Sound s → planned s regular other ≡ planAt f (seen s) place
   plan-is g = plan-seen ∙ sym (plans-theorems .decoded s g f runs place)
@@ -141,7 +136,7 @@ module _ (s regular other : List ℕ) (h : Accepted s regular other) where
   -- where effects are planned, they are those of an instruction, by the words and by the view
   pub decodes : Sound s → (es : List Effect) → planned s regular other ≡ gives es → Decodes s f es
   unfolding planAt
-  decodes g es e = go (decodeIn regular other (selectorOf s) (f .block) place) (sym (plan-is g) ∙ e) (sym plan-seen ∙ e)
+  decodes g es e = go (instructionAt (codeIn f) place) (sym (plan-is g) ∙ e) (sym plan-seen ∙ e)
     where
       go : (d : Decoded) → planDecoded f (seen s) d ≡ gives es → planDecoded f (seenOf (length s - sbase s) (view s)) d ≡ gives es → Decodes s f es
       go (D.Instruction i next) p q = record { instruction = i; next = next .0; byWords = p; byCells = q }

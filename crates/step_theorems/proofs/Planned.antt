@@ -16,7 +16,7 @@ use Rattle.acceptance.specs.Structure.{Accepted}
 use Rattle.manual.specs.OrTrap.{gives, trap}
 use Rattle.manual.specs.Effects.{Effect, Plan}
 use Rattle.manual.specs.Seen.{seenOf}
-use Rattle.manual.specs.Instructions.{Running}
+use Rattle.manual.specs.Instructions.{Running, running}
 use Rattle.manual.specs.Traps.{listed}
 use Rattle.manual.proofs.Traps.{traps-listed}
 use Rattle.effects.specs.Seen.{seen}
@@ -27,22 +27,22 @@ use Rattle.plan_theorems.specs.Lent.{Lent}
 use Rattle.plan_theorems.specs.Bounded.{AllSmall}
 use Rattle.plan_theorems.proofs.Bounded.{bounded-theorems}
 use Rattle.legality.proofs.Accepted.{legal-theorems}
-use Rattle.legality.specs.Kept.{Kept}
+use Rattle.legality.specs.Kept.{KeepsLegal}
 use Rattle.legality.proofs.Kept.{kept-theorems}
-use Rattle.step_theorems.specs.Planned.{selectorOf, numberOf, planIn, planFrom, nextPlan, planned}
+use Rattle.step_theorems.specs.Planned.{frameSelector, frameNumber, planIn, planFrom, nextPlan, planned}
 use Rattle.step_theorems.proofs.Entering.{plan-enters}
-use Rattle.step_theorems.proofs.Current.{running, runs, runs-in, plan-is, decodes}
+use Rattle.step_theorems.proofs.Current.{current-function, runs, runs-in, plan-is, decodes}
 use Rattle.step_theorems.proofs.Again.{sound-of}
 
 pub record Known (s regular other : List ℕ) (es : List Effect) : Type 0 where
   pub fitting : Fitting s es
   pub first : EntersFirst es
-  pub kept : Kept regular other (view s) es
+  pub kept : KeepsLegal regular other (view s) es
   pub small : AllSmall es
 
 module _ (s regular other : List ℕ) (lent : Lent s regular other) (h : Accepted s regular other) where
   abbrev f : Running
-  f = running s regular other
+  f = current-function s regular other
 
   pub plan-known : (es : List Effect) → planned s regular other ≡ gives es → Known s regular other es
   plan-known es e =
@@ -76,13 +76,12 @@ module _ (regular other : List ℕ) (words : ℕ) (m : Machine Cell) (class numb
 
   found-listed : (r : Frame Cell) (f : Function) → Listed (planIn regular other words m r f)
   found-listed r (F.At block) =
-      traps-listed .atPlace (record { regular = regular; alternate = other; selector = selectorOf r; block = block }) (seenOf words m)
-      (traps-listed .machines words m) (r .pctr) .inTable class number
+      traps-listed .atPlace (running regular other (frameSelector r) block) (seenOf words m) (traps-listed .machines words m) (r .pctr) .inTable class number
   found-listed r F.Absent = no-code
 
   frames-listed : (l : List (Frame Cell)) → Listed (planFrom regular other words m l)
   frames-listed [] = no-code
-  frames-listed (r ∷ older) = found-listed r (functionOf (selected (selectorOf r) regular other) (numberOf r))
+  frames-listed (r ∷ older) = found-listed r (functionOf (selected (frameSelector r) regular other) (frameNumber r))
 
   pub plan-listed : Listed (nextPlan regular other words m)
   unfolding nextPlan

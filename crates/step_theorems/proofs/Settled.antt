@@ -1,20 +1,20 @@
 -- What comes after an instruction that is done: a step or trace trap, or none.
 use Prim.Native.Nat.{ℕ, _^_, _<_, _≤_}
 use mathlib.Core.Path.{_≡_, refl}
-use mathlib.Core.Bool.{Bool, true, false, _&&_}
+use mathlib.Core.Bool.{Bool, true, false}
 use mathlib.Core.List.{List, [], _∷_}
 use mathlib.Core.Logic.{_≢_}
 use native.Mathlib.Omega.{arith}
 use lib.Dec.{eqb}
 use lib.ListN.{set}
-use borrow.Author.Tests.{eqb-false}
-use Rattle.segment.specs.State.{flags, fcnctrc, fcnrtrc, setTrap}
+use borrow.Author.Tests.{eqb-true, eqb-false}
+use Rattle.segment.specs.State.{setTrap}
 use Rattle.manual.specs.Effects.{Effect, replaces, discards, swaps, stores, storesElement, enters, leaves, jumps, setsOrigin}
 use Rattle.effects.specs.declared.Outcome.{Outcome}
 use Rattle.effects.specs.declared.Outcome.the-variants as O
 use Rattle.effects.specs.Carried.{outcomeOf}
 use Rattle.effects.specs.declared.Stepped.the-variants.{Finished, Traced}
-use Rattle.effects.specs.Step.{Result, after, currentHeader, dueIf, due, finished, settled}
+use Rattle.effects.specs.Step.{Result, after, due, finished, settled}
 
 -- ---- effects never come to a trap
 
@@ -32,33 +32,22 @@ outcome-by P f e l (setsOrigin v ∷ es) = outcome-by P f e l es
 
 -- ---- what is due
 
-dueIf-small : (traced : Bool) (trace : ℕ) (s : List ℕ) → trace ≤ 3 → dueIf traced trace s ≤ 3
-dueIf-small true trace s h = h
-dueIf-small false trace s h = omega arith
-
 module _ (regular other : List ℕ) (rtntrace : Bool) (t : List ℕ) (es : List Effect) where
   pub settled-effects : settled regular other rtntrace (outcomeOf es) t ≡ finished (due regular other rtntrace (outcomeOf es) t) t
   settled-effects =
       outcome-by (λ o. settled regular other rtntrace o t ≡ finished (due regular other rtntrace o t) t) refl refl refl es
 
-  pub due-small : due regular other rtntrace (outcomeOf es) t ≤ 3
-  due-small =
-      outcome-by (λ o. due regular other rtntrace o t ≤ 3)
-      (omega arith)
-      (dueIf-small (eqb (fcnctrc (flags t)) 1 && currentHeader regular other t .calltrace) 2 t (omega arith))
-      (dueIf-small (eqb (fcnrtrc (flags t)) 1 && rtntrace) 3 t (omega arith)) es
-
 -- ---- the result
 
-module _ (d : ℕ) (small : d ≤ 3) (t : List ℕ) where
-  pub finished-by : (P : Result → Type 0) → P (after Finished t) → (d ≢ 0 → P (after (Traced 2 d) (setTrap t 2 d))) → P (finished d t)
+module _ (d : ℕ) (t : List ℕ) where
+  pub finished-by : (P : Result → Type 0) → (d ≡ 0 → P (after Finished t)) → (d ≢ 0 → P (after (Traced 2 d) (setTrap t 2 d))) → P (finished d t)
   finished-by P f g = go (eqb d 0) refl
     where
       go : (b : Bool) → eqb d 0 ≡ b → P (finished d t)
-      go true e = rw e f
+      go true e = rw e (f (eqb-true d 0 e))
       go false e = rw e (g (eqb-false d 0 e))
 
   -- what holds of the words, and goes by no trap, holds of the words that are left
-  pub finished-keeps : (P : List ℕ → Type 0) → ((v : ℕ) → v < 2 ^ 16 → P (set t 3 v)) → P t → P (finished d t .words)
+  pub finished-keeps : d ≤ 3 → (P : List ℕ → Type 0) → ((v : ℕ) → v < 2 ^ 16 → P (set t 3 v)) → P t → P (finished d t .words)
   unfolding setTrap
-  finished-keeps P h k = finished-by (λ r. P (r .words)) k (λ n. h _ (omega arith))
+  finished-keeps small P h k = finished-by (λ r. P (r .words)) (λ z. k) (λ n. h _ (omega arith))

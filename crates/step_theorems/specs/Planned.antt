@@ -1,6 +1,6 @@
 -- The plan of the next instruction of a machine, told by its cells: the current frame says which function runs, and where.
 -- Nothing here speaks of storage. Assumes nothing.
-use Prim.Native.Nat.{ℕ, _-_, _/_, _%_, _^_}
+use Prim.Native.Nat.{ℕ, _-_}
 use mathlib.Core.Bool.{Bool}
 use mathlib.Core.List.{List, [], _∷_}
 use lib.Dec.{eqb}
@@ -10,29 +10,30 @@ use Rattle.procedure.specs.declared.directory.Function.{Function}
 use Rattle.procedure.specs.declared.directory.Function.the-variants as F
 use Rattle.procedure.specs.Directory.{selected, functionOf, headerOfFunction}
 use Rattle.segment.specs.State.{sbase}
+use Rattle.segment.specs.Stack.{alternate, functionNumber}
 use Rattle.segment.specs.Cells.{Cell}
 use Rattle.segment.specs.Machine.{Frame, Machine}
 use Rattle.segment.specs.View.{view}
 use Rattle.manual.specs.OrTrap.{trap}
 use Rattle.manual.specs.Effects.{Plan}
 use Rattle.manual.specs.Seen.{seenOf}
-use Rattle.manual.specs.Instructions.{planAt}
+use Rattle.manual.specs.Instructions.{running, planAt}
+use Rattle.legality.specs.Legal.{functionWord}
 
--- A frame's function is P in bit 11 and its number in bits 10–0.
-abbrev pub selectorOf : Frame Cell → Bool
-selectorOf r = eqb (r .function / 2 ^ 11 % 2) 1
+-- P of a frame, and its function's number.
+abbrev pub frameSelector : Frame Cell → Bool
+frameSelector r = eqb (alternate (functionWord r)) 1
 
-abbrev pub numberOf : Frame Cell → ℕ
-numberOf r = r .function % 2 ^ 11
+abbrev pub frameNumber : Frame Cell → ℕ
+frameNumber r = functionNumber (functionWord r)
 
 abbrev pub planIn : List ℕ → List ℕ → ℕ → Machine Cell → Frame Cell → Function → Plan
-planIn regular other words m r (F.At block) =
-    planAt (record { regular = regular; alternate = other; selector = selectorOf r; block = block }) (seenOf words m) (r .pctr)
+planIn regular other words m r (F.At block) = planAt (running regular other (frameSelector r) block) (seenOf words m) (r .pctr)
 planIn regular other words m r F.Absent = trap 3 1
 
 abbrev pub planFrom : List ℕ → List ℕ → ℕ → Machine Cell → List (Frame Cell) → Plan
 planFrom regular other words m [] = trap 3 1
-planFrom regular other words m (r ∷ older) = planIn regular other words m r (functionOf (selected (selectorOf r) regular other) (numberOf r))
+planFrom regular other words m (r ∷ older) = planIn regular other words m r (functionOf (selected (frameSelector r) regular other) (frameNumber r))
 
 -- On a stack of `words` words.
 unfoldable pub nextPlan : List ℕ → List ℕ → ℕ → Machine Cell → Plan
@@ -45,7 +46,7 @@ planned s regular other = nextPlan regular other (length s - sbase s) (view s)
 -- The header of the current frame's function. A machine has at least one frame.
 abbrev pub headerFrom : List ℕ → List ℕ → List (Frame Cell) → Header
 headerFrom regular other [] = headerOfFunction regular 0
-headerFrom regular other (r ∷ older) = headerOfFunction (selected (selectorOf r) regular other) (numberOf r)
+headerFrom regular other (r ∷ older) = headerOfFunction (selected (frameSelector r) regular other) (frameNumber r)
 
 abbrev pub headerIn : List ℕ → List ℕ → Machine Cell → Header
 headerIn regular other m = headerFrom regular other (m .frames)
