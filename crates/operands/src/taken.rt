@@ -5,10 +5,10 @@ ghost use lib.ListN.{length, take};
 ghost use Rattle.manual.specs.Scalars.{operands, anyCell};
 ghost use Rattle.effects.specs.Seen.{read, seen, temporaries};
 ghost use Rattle.operands.specs.Taken.{isForeignTo, scalarsOf, takenOf, taken};
-use crate::operands::Operand;
-use crate::operands::is_undefined;
-use crate::operands::operand_at;
-use crate::operands::value_of;
+use crate::reading::Operand;
+use crate::reading::is_undefined;
+use crate::reading::operand_at;
+use crate::reading::value_of;
 use descriptor::Descriptor;
 
 // All are scalars, and their words are taken; one is of no kind that the instruction takes; one is no scalar.
