@@ -13,7 +13,7 @@ use Rattle.procedure.specs.Refusal.{lengthRefused, headerFault, functionFault, 
 use Rattle.instruction.specs.Families.{familyIn, familyOf}
 use Rattle.instruction.specs.Reading.{fetchByte, fetchHalf, fetchWord}
 use Rattle.instruction.specs.Tables.{etcOf, memoryOf}
-use Rattle.instruction.specs.Decoding.{shortConstantAt, constantScalarAt, etcAt, familyAt, instructionAt, callChecked, decodeOf, loadAt, memoryAt}
+use Rattle.instruction.specs.Decoding.{shortConstantAt, constantScalarAt, etcAt, familyAt, instructionAt, loadAt, memoryAt}
 use Rattle.instruction.specs.Variables.{addressIn, addressAt}
 use Rattle.segment.specs.State.{setLtop, setRover, setTrap}
 use Rattle.segment.specs.Stack.{setPctr}
@@ -56,7 +56,7 @@ unfolding laidOut layOutRefusal functionTest partsTest fresh freshHead freshStor
     view.framesFrom hit isScalar kindOf integerKind undefinedKind unsignedKind ran runOf stepsFrom stepOf stepIn functionOf
     planAt planOf loads.shortConstant loads.constantScalar scalars.indexGenerator scalars.dyadic values.dyadic values.conform
     values.pairwise values.indexGenerator values.upFrom units wholeUnits wholeOf codeOf familyIn familyOf fetchByte fetchHalf
-    fetchWord etcOf shortConstantAt constantScalarAt etcAt familyAt instructionAt callChecked decodeOf setLtop setRover setTrap
+    fetchWord etcOf shortConstantAt constantScalarAt etcAt familyAt instructionAt setLtop setRover setTrap
     setPctr setNext setLast clearPrevFree unlink request.findFrom request.find request.split request.whole request.give
     request.given request.requestAt request.request arrays.fill arrays.placeAt arrays.place arrays.drop finish replace read seen
     operatorOf plus sum ratioOf quotient size shapeAt elementsAt shapePart elementsPart arraySpan arrayTest memoryOf addressIn

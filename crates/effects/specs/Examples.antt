@@ -11,7 +11,7 @@ use Rattle.procedure.specs.Directory.{hasFunction, functionOf}
 use Rattle.instruction.specs.Families.{familyIn, familyOf}
 use Rattle.instruction.specs.Reading.{fetchByte, fetchHalf}
 use Rattle.instruction.specs.Tables.{etcOf}
-use Rattle.instruction.specs.Decoding.{callAt, etcAt, familyAt, instructionAt, callChecked, decodeOf}
+use Rattle.instruction.specs.Decoding.{callAt, etcAt, familyAt, instructionAt}
 use Rattle.segment.specs.State.{trapWord, setLtop, setLbase, setTrap}
 use Rattle.segment.specs.Stack.{setPctr}
 use Rattle.manual.specs.Memory as memory
@@ -111,7 +111,7 @@ pub record Due : Type 0 where
 
 pub due : Due
 unfolding runOf stepsFrom stepOf stepIn currentHeader functionOf hasFunction headerAt wordAt codeOf planAt planOf familyIn familyOf
-    fetchByte fetchHalf etcOf callAt etcAt familyAt instructionAt callChecked decodeOf memory.noOperation control.call control.return seen
+    fetchByte fetchHalf etcOf callAt etcAt familyAt instructionAt memory.noOperation control.call control.return seen
     enter leaveWithout setLtop setLbase setTrap setPctr
 due = record {
   stepped = refl;

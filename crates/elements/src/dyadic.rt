@@ -8,8 +8,8 @@ ghost use Rattle.elements.specs.Answers.{finished, Paired};
 ghost use Rattle.elements.specs.Parts.{Operands};
 use crate::Finished;
 use crate::integers;
-use crate::operands::extent;
-use crate::operands::pick;
+use crate::extension::extent;
+use crate::extension::pick;
 use operator::Dyadic;
 use scalar::Answer;
 

@@ -9,7 +9,7 @@ ghost use Rattle.scalar.specs.Operators as S;
 ghost use Rattle.manual.specs.OrTrap.{gives};
 ghost use Rattle.manual.specs.Values as values;
 ghost use Rattle.elements.specs.Parts.{Operands};
-use crate::operands::pick;
+use crate::extension::pick;
 use crate::words::difference_word;
 use crate::words::is_zero;
 use crate::words::oddness;
