@@ -2,7 +2,6 @@
 pub mod Seen
 pub mod Whole
 pub mod ValuesSeen
-pub mod OneOrTwo
 pub mod Resolving
 pub mod Scalars
 pub mod Subscripts

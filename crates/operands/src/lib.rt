@@ -1,5 +1,4 @@
 // The operands and variables of instructions, on a lent data segment.
 pub mod reading;
 pub mod taken;
-pub mod values;
 pub mod variables;
