@@ -16,17 +16,17 @@ ghost use Rattle.effects.specs.Carried.{CarriesOut};
 ghost use Rattle.operands.specs.Operands.{held};
 ghost use Rattle.instructions_control.specs.Answers as answers;
 use crate::calls::leave_by_branch;
+use descriptor::address::CodeAddress;
+use descriptor::address::SegmentAddress;
+use effects::Outcome;
+use effects_code::taking::discard;
+use effects_code::taking::jump;
 use operands::reading::Operand;
 use operands::reading::Value;
 use operands::reading::count;
 use operands::reading::elements_of;
 use operands::reading::operand_at;
 use operands::reading::value_of;
-use descriptor::address::CodeAddress;
-use descriptor::address::SegmentAddress;
-use effects::Outcome;
-use effects_code::taking::discard;
-use effects_code::taking::jump;
 use procedure::header::Block;
 use procedure::header::Header;
 use procedure::header::Line;
@@ -51,7 +51,13 @@ pub fn go(seg: &mut [u32], h: Header, place: CodeAddress) -> Outcome
 }
 
 // GO_TRUE and GO_FALSE.
-pub fn go_if(seg: &mut [u32], h: Header, wanted: bool, place: CodeAddress, next: CodeAddress) -> Outcome
+pub fn go_if(
+    seg: &mut [u32],
+    h: Header,
+    wanted: bool,
+    place: CodeAddress,
+    next: CodeAddress,
+) -> Outcome
     ensures { λ r. ⌜ CarriesOut (now (seg .entry)) r (now (seg .exit)) (λ sees. control.goIf sees h (next .0) wanted (place .0)) ⌝ }
 {
     if count(seg) < 1 {
@@ -85,7 +91,13 @@ pub fn branch(seg: &mut [u32], p: &[u8], block: Block, next: CodeAddress) -> Out
 }
 
 // A vector's first element is the line; an empty vector only goes.
-fn branch_by(seg: &mut [u32], p: &[u8], block: Block, next: CodeAddress, array: SegmentAddress) -> Outcome
+fn branch_by(
+    seg: &mut [u32],
+    p: &[u8],
+    block: Block,
+    next: CodeAddress,
+    array: SegmentAddress,
+) -> Outcome
     requires { ⌜ whole (now seg) (array .0) ≡ true ⌝ }
     ensures { λ r. ⌜ CarriesOut (now (seg .entry)) r (now (seg .exit)) (λ sees. answers.branchBy sees (now (p .entry)) block (next .0) (held (now (seg .entry)) (Value.Array array))) ⌝ }
 {
