@@ -1,17 +1,12 @@
 -- The two answers, and an answer for one plan as that for another that comes to the same.
 use Prim.Native.Nat.{ℕ}
 use mathlib.Core.Path.{_≡_, refl, ap, _∙_}
-use mathlib.Core.Bool.{Bool, true, false, not}
+use mathlib.Core.Bool.{Bool, true, false}
 use mathlib.Core.List.{List}
 use Rattle.manual.specs.Effects.{Plan}
 use Rattle.effects.specs.declared.Outcome.the-variants.{Finished}
 use Rattle.effects.specs.Carried.{did, carry}
 use Rattle.fast_path.specs.Answers.{DoneOrKept}
-
--- A test that is not false.
-pub not-false : (b : Bool) → not b ≡ false → b ≡ true
-not-false true e = refl
-not-false false e = cc
 
 pub left : {s : List ℕ} {p : Plan} → DoneOrKept s p false s
 left = record { done = λ no. cc; kept = λ no. refl }

@@ -12,6 +12,7 @@ use Rattle.descriptor.specs.declared.Target.{Target}
 use Rattle.descriptor.specs.Fields.{isArray}
 use Rattle.descriptor.specs.Kinds.{kindOf, isScalar}
 use Rattle.segment.specs.State.{sbase, ltop}
+use Rattle.storage.proofs.Counts.{share-other}
 use Rattle.manual.specs.OrTrap.{OrTrap, gives, stopIf}
 use Rattle.manual.specs.Seen.{Variable, followed}
 use Rattle.manual.specs.Loads.{isUndefined}
@@ -28,7 +29,7 @@ use Rattle.effects_code.proofs.Carrying.{replace-variable}
 use Rattle.fast_path.specs.Answers.{DoneOrKept}
 use Rattle.fast_path.specs.Naming.{variableAt, Stands}
 use Rattle.fast_path.proofs.Answers.{went-alike}
-use Rattle.fast_path.proofs.Words.{scalar-no-array, share-none, itself, scalar-held, scalar-referred, scalar-defined, array-held, array-referred, array-defined, refers}
+use Rattle.fast_path.proofs.Words.{scalar-no-array, itself, scalar-held, scalar-referred, scalar-defined, array-held, array-referred, array-defined, refers}
 
 -- How many words the stack can still take.
 abbrev room : List ℕ → ℕ
@@ -54,7 +55,7 @@ module _ (s : List ℕ) (next : ℕ) (t : Target) where
 
     as-word : replace s 0 (word w) ≡ replace s 0 (variable t)
     unfolding replace
-    as-word = rw (held, share-none s (heldAt s t) (scalar-no-array (heldAt s t) scalar-there))
+    as-word = rw (held, share-other s (heldAt s t) (scalar-no-array (heldAt s t) scalar-there))
 
     held-pushed : carry s (pushed s next (word w)) ≡ carry s (pushed s next (variable t))
     held-pushed = by-room (ltb (seen s .room) 1)
