@@ -15,6 +15,7 @@ use Rattle.scalar.specs.declared.Answer.the-variants.{Word}
 use Rattle.scalar.specs.Operators.{monadicOf, dyadicOf}
 use Rattle.segment.specs.State.{sbase, ltop, setLtop}
 use Rattle.storage.specs.Arrays.{drops}
+use Rattle.storage.proofs.Counts.{drop-other}
 use Rattle.manual.specs.OrTrap.{gives}
 use Rattle.manual.specs.Effects.{word, replaces, jumps}
 use Rattle.manual.specs.Values as values
@@ -26,7 +27,7 @@ use Rattle.effects.specs.Perform.{bottomOf, finish, replace, discard, perform}
 use Rattle.operands.proofs.Seen.{count-seen}
 use Rattle.effects.specs.declared.Outcome.the-variants.{Finished}
 use Rattle.effects.specs.Carried.{did, carry}
-use Rattle.fast_path.proofs.Words.{scalar-no-array, scalar-operand, drop-none, dropped-two, discarded}
+use Rattle.fast_path.proofs.Words.{scalar-no-array, scalar-operand, dropped-two, discarded}
 
 -- EAT1
 pub eaten : (s : List ℕ) → 1 ≤ temporaries s → (next : ℕ) {u t : List ℕ} → u ≡ discard s 1 → t ≡ perform u (jumps next) → did Finished t ≡ carry s (eat (seen s) next)
@@ -46,7 +47,7 @@ module _ (s : List ℕ) (some : 1 ≤ temporaries s) {x : ℕ} (top : x ≡ oper
   unfolding replace
   one-taken w =
       let at : bottomOf s 1 + 0 ≡ sbase s + ltop s - 0 = omega arith in
-      rw (at, drop-none s (operandAt s 0) none)
+      rw (at, drop-other s (operandAt s 0) none)
 
   module _ (next : ℕ) where
     module _ (op : Monadic) {answer : Answer} {w : ℕ} (computed : answer ≡ monadicOf op x) (gave : answer ≡ Word w) where

@@ -11,6 +11,7 @@ use Rattle.descriptor.specs.declared.Target.{Target}
 use Rattle.descriptor.specs.Fields.{isArray}
 use Rattle.descriptor.specs.Kinds.{isScalar}
 use Rattle.segment.specs.State.{sbase, ltop, setLtop}
+use Rattle.storage.proofs.Counts.{share-other, drop-other}
 use Rattle.manual.specs.OrTrap.{OrTrap, gives}
 use Rattle.manual.specs.Effects.{Effect, operand, stores, discards, jumps, Plan}
 use Rattle.manual.specs.Seen.{Variable}
@@ -22,8 +23,8 @@ use Rattle.effects.specs.Perform.{discard, storeAt, store, perform}
 use Rattle.operands.proofs.Seen.{count-seen}
 use Rattle.effects.specs.declared.Outcome.the-variants.{Finished}
 use Rattle.effects.specs.Carried.{did, carry}
-use Rattle.fast_path.specs.Naming.{Stands, assignment}
-use Rattle.fast_path.proofs.Words.{isPlain, scalar-no-array, plain-no-array, share-none, drop-none, plain-held, scalar-operand, discarded, copied-stays}
+use Rattle.fast_path.specs.Naming.{Stands, isPlain, assignment}
+use Rattle.fast_path.proofs.Words.{scalar-no-array, plain-no-array, plain-held, scalar-operand, discarded, copied-stays}
 
 module _ (s : List ℕ) (i : ℕ) {w old : ℕ} (top : w ≡ operandAt s 0) (scalar : isScalar w ≡ true) (there : old ≡ getD s i 0) (plain : isPlain old ≡ true) where
   abbrev stored : List ℕ
@@ -35,8 +36,8 @@ module _ (s : List ℕ) (i : ℕ) {w old : ℕ} (top : w ≡ operandAt s 0) (sca
   store-plain : storeAt s i (operand 0) ≡ stored
   unfolding storeAt
   store-plain =
-      rw (share-none s (operandAt s 0) (scalar-no-array (operandAt s 0) scalar-top), ← top, ← there)
-      (drop-none stored old (plain-no-array old plain))
+      rw (share-other s (operandAt s 0) (scalar-no-array (operandAt s 0) scalar-top), ← top, ← there)
+      (drop-other stored old (plain-no-array old plain))
 
   -- Word 0 is not the cell, so the operand on top is the same as before.
   top-stays : (i ≡ 0 → ⊥) → operandAt stored 0 ≡ operandAt s 0

@@ -1,4 +1,4 @@
--- Words that name no array: a scalar is read as itself, and nothing is shared or released with it. Variables that hold a word
+-- Words that name no array: a scalar is read as itself, and operands that are scalars go alone. Variables that hold a word
 -- directly.
 use Prim.Native.Nat.{ℕ, _+_, _-_, _/_, _^_, _<_}
 use native.Mathlib.Omega.{arith}
@@ -18,7 +18,8 @@ use Rattle.descriptor.proofs.Arrays.{array-kind}
 use Rattle.segment.specs.State.{sbase, ltop, setLtop}
 use Rattle.segment.specs.Blocks.{shapeAt, elementsAt}
 use Rattle.segment.specs.Cells.{Cell, undefined, value, invalid}
-use Rattle.storage.specs.Arrays.{share, drop, drops}
+use Rattle.storage.specs.Arrays.{drops}
+use Rattle.storage.proofs.Counts.{drop-other}
 use Rattle.manual.specs.OrTrap.{OrTrap, gives}
 use Rattle.manual.specs.Seen.{Variable, at, followed, follow}
 use Rattle.manual.specs.Loads.{isUndefined}
@@ -28,7 +29,7 @@ use Rattle.effects.specs.Sources.{heldAt, operandAt}
 use Rattle.effects.specs.Seen.{whole, readKind, read, temporaries, seen}
 use Rattle.effects.specs.Perform.{bottomOf, discard}
 use Rattle.operands.proofs.Seen.{operand-seen}
-use Rattle.fast_path.specs.Naming.{variableAt}
+use Rattle.fast_path.specs.Naming.{variableAt, isPlain}
 
 module _ (w : ℕ) where
   array-kinds : isArray w ≡ true → kindOf w ≡ K.Array (segment (address w))
@@ -55,24 +56,12 @@ module _ (w : ℕ) where
       by-kind K.Undefined h = cc
       by-kind K.Invalid h = cc
 
-  -- A scalar, or undefined.
-  abbrev pub isPlain : Bool
-  isPlain = eqb w undefinedWord || isScalar w
-
-  pub plain-no-array : isPlain ≡ true → isArray w ≡ false
+  pub plain-no-array : isPlain w ≡ true → isArray w ≡ false
   plain-no-array plain = by-test (eqb w undefinedWord) refl plain
     where
       by-test : (b : Bool) → eqb w undefinedWord ≡ b → (b || isScalar w) ≡ true → isArray w ≡ false
       by-test true e plain = ap isArray (eqb-true w undefinedWord e)
       by-test false e plain = scalar-no-array plain
-
-pub share-none : (s : List ℕ) (w : ℕ) → isArray w ≡ false → share s w ≡ s
-unfolding share
-share-none s w none = rw none
-
-pub drop-none : (s : List ℕ) (w : ℕ) → isArray w ≡ false → drop s w ≡ s
-unfolding drop
-drop-none s w none = rw none
 
 -- ---- a variable that holds such a word, or an array, is found with no indirection
 
@@ -149,13 +138,13 @@ scalar-operand s i there plain = rw (operand-seen s i there, scalar-read (operan
 pub dropped-two : (s : List ℕ) (b : ℕ) → isArray (getD s (b + 1) 0) ≡ false → isArray (getD s b 0) ≡ false → drops 2 s b ≡ s
 dropped-two s b first second =
     let low : b + 0 ≡ b = omega arith in
-    rw (drop-none s (getD s (b + 1) 0) first, low, drop-none s (getD s b 0) second)
+    rw (drop-other s (getD s (b + 1) 0) first, low, drop-other s (getD s b 0) second)
 
 pub discarded : (s : List ℕ) → isArray (operandAt s 0) ≡ false → discard s 1 ≡ setLtop s (ltop s - 1)
 unfolding discard
 discarded s none =
     let top : bottomOf s 1 + 0 ≡ sbase s + ltop s - 0 = omega arith in
-    rw (top, drop-none s (operandAt s 0) none)
+    rw (top, drop-other s (operandAt s 0) none)
 
 -- A cell that is written with the word of another: that word stays.
 pub copied-stays : (s : List ℕ) (i j : ℕ) → getD (set s i (getD s j 0)) j 0 ≡ getD s j 0

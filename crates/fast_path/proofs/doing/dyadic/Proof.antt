@@ -1,7 +1,8 @@
 use mathlib.Core.Path.{refl, sym, _∙_}
 use native.Mathlib.Omega.{arith}
 use Rattle.fast_path.proofs.Operating.{scalars-combined}
-use Rattle.fast_path.proofs.Answers.{not-false, left, went}
+use Rattle.fast_path.proofs.Answers.{left, went}
+use borrow.Author.Tests.{not-false}
 use borrow.Author.Needs.{needs}
 use Rattle.fast_path.proofs.doing.dyadic.Statement.{statement}
 use Rattle.fast_path.proofs.doing.dyadic.Tie as tie
