@@ -12,13 +12,13 @@ use Rattle.machine.proofs.run.steps_in.Statement.{statement}
 use Rattle.machine.proofs.run.steps_in.Tie as tie
 
 abbrev Inv-loop : tie.InvT-loop
-Inv-loop seg₀ regular other number selector block code start budget scratch₀ function steps₀ seg scratch steps =
+Inv-loop seg₀ regular alternate number selector block code start budget scratch₀ function steps₀ seg scratch steps =
     (start ≤ steps) × (steps ≤ budget) × (length seg ≡ length seg₀) × (length scratch ≡ length scratch₀)
     × (steps ≡ start → codeWordAt seg (lbase seg) / 2 ^ 16 % 2 ^ 12 ≡ function)
-    × (stepsFrom (budget - steps) steps regular other seg ≡ stepsFrom (budget - start) start regular other seg₀)
+    × (stepsFrom (budget - steps) steps regular alternate seg ≡ stepsFrom (budget - start) start regular alternate seg₀)
 
 abbrev μ-loop : tie.MeasureT-loop
-μ-loop seg₀ regular other number selector block code start budget scratch₀ function steps₀ seg scratch steps =
+μ-loop seg₀ regular alternate number selector block code start budget scratch₀ function steps₀ seg scratch steps =
     budget - steps
 
 cast-function : tie.Need-cast-function Inv-loop μ-loop
@@ -28,10 +28,10 @@ mul-function : tie.Need-mul-function Inv-loop μ-loop
 mul-function c = omega (arith, bit-small (c .before .before .before .before .before .args .selector))
 
 add-function : tie.Need-add-function Inv-loop μ-loop
-add-function c = let a = c .before .before .before .before .before .args in omega (arith, bit-small (a .selector), number-small (a .seg .now) (c .before .before .before .before .before .pre .1 .3))
+add-function c = let a = c .before .before .before .before .before .args in omega (arith, bit-small (a .selector), number-small (a .seg .now) (c .before .before .before .before .before .pre .1 .1 .numbers))
 
 loop-holds : tie.Need-loop-holds Inv-loop μ-loop
-loop-holds c = let a = c .before .before .before .before .before .args in let q = c .before .before .before .before .before .pre in (omega arith, omega arith, refl, refl, (λ e. function-in (codeWordAt (a .seg .now) (lbase (a .seg .now))) (a .number) (a .selector) (q .1 .2) (q .1 .3)), refl)
+loop-holds c = let a = c .before .before .before .before .before .args in let q = c .before .before .before .before .before .pre in (omega arith, omega arith, refl, refl, (λ e. function-in (codeWordAt (a .seg .now) (lbase (a .seg .now))) (a .number) (a .selector) (q .1 .1 .selects) (q .1 .1 .numbers)), refl)
 
 here-requires : tie.Need-here-requires Inv-loop μ-loop
 here-requires c κs = search needs
@@ -51,11 +51,8 @@ lbase-requires c κs = search needs
 pctr-requires : tie.Need-pctr-requires Inv-loop μ-loop
 pctr-requires c κs = search needs
 
-number-requires : tie.Need-number-requires Inv-loop μ-loop
-number-requires c κs = search needs
-
 step-in-requires : tie.Need-step-in-requires Inv-loop μ-loop
-step-in-requires c κs = (search needs, (c .before .before .before .before .before .before .before .before .before .before .before .before .before .before .before .before .pre .1 .1, (cc)))
+step-in-requires c κs = (search needs, (c .before .before .before .before .before .before .before .before .before .before .before .before .before .before .before .pre .1 .0, (cc)))
 
 enum-told : tie.Need-enum-told Inv-loop μ-loop
 enum-told c = search needs
@@ -67,13 +64,13 @@ loop-less : tie.Need-loop-less Inv-loop μ-loop
 loop-less c = search needs
 
 loop-again : tie.Need-loop-again Inv-loop μ-loop
-loop-again c = let a = c .before .before .before .before .before .before .before .before .before .before .before .before .before .before .before .before .before .before .before .before .before .before .before .args in let q = c .before .before .before .before .before .before .before .before .before .before .before .before .before .before .before .before .before .before .before .before .before .before .before .pre in let l = c .before .before .before .before .before .before .before .before .before .before .before .before .before .before .before .before .before .loop in let p = c .before .before .before .before .before .before .step-in in let is = p .ensures ∙ step-here (l .seg) (a .regular .now) (a .other .now) (a .selector) (a .block) (number-small (a .seg .now) (q .1 .3)) (q .1 .0) (c .before .before .before .before .before .before .before .before .before .before .before .before .before .before .here .ensures) (c .before .before .before .before .before .before .before .before .before .before .before .before .before .if1 .left) in (omega arith, omega arith, p .kept .0 ∙ l .inv .2, search needs, (λ e. omega arith), run-goes _ _ _ _ _ (p .result) (p .last .0) (omega arith) is (c .enum-told .given .1) ∙ l .inv .5)
+loop-again c = let a = c .before .before .before .before .before .before .before .before .before .before .before .before .before .before .before .before .before .before .before .before .before .before .args in let q = c .before .before .before .before .before .before .before .before .before .before .before .before .before .before .before .before .before .before .before .before .before .before .pre in let l = c .before .before .before .before .before .before .before .before .before .before .before .before .before .before .before .before .loop in let p = c .before .before .before .before .before .before .step-in in let is = p .ensures ∙ step-here (l .seg) (a .regular .now) (a .alternate .now) (a .selector) (a .block) (number-small (a .seg .now) (q .1 .1 .numbers)) (q .1 .1 .found) (c .before .before .before .before .before .before .before .before .before .before .before .before .before .here .ensures) (c .before .before .before .before .before .before .before .before .before .before .before .before .if1 .left) in (omega arith, omega arith, p .kept .0 ∙ l .inv .2, search needs, (λ e. omega arith), run-goes _ _ _ _ _ (p .result) (p .last .0) (omega arith) is (c .enum-told .given .1) ∙ l .inv .5)
 
 enum-told-2 : tie.Need-enum-told-2 Inv-loop μ-loop
 enum-told-2 c = search needs
 
-add-t33 : tie.Need-add-t33 Inv-loop μ-loop
-add-t33 c = search needs
+add-t32 : tie.Need-add-t32 Inv-loop μ-loop
+add-t32 c = search needs
 
 same-length-3 : tie.Need-same-length-3 Inv-loop μ-loop
 same-length-3 c = search needs
@@ -82,7 +79,7 @@ same-length-4 : tie.Need-same-length-4 Inv-loop μ-loop
 same-length-4 c = search needs
 
 returns-2 : tie.Need-returns-2 Inv-loop μ-loop
-returns-2 c = let a = c .before .before .before .before .before .before .before .before .before .before .before .before .before .before .before .before .before .before .before .before .before .before .before .args in let q = c .before .before .before .before .before .before .before .before .before .before .before .before .before .before .before .before .before .before .before .before .before .before .before .pre in let l = c .before .before .before .before .before .before .before .before .before .before .before .before .before .before .before .before .before .loop in let p = c .before .before .before .before .before .before .step-in in let is = p .ensures ∙ step-here (l .seg) (a .regular .now) (a .other .now) (a .selector) (a .block) (number-small (a .seg .now) (q .1 .3)) (q .1 .0) (c .before .before .before .before .before .before .before .before .before .before .before .before .before .before .here .ensures) (c .before .before .before .before .before .before .before .before .before .before .before .before .before .if1 .left) in (run-traced _ _ _ _ _ (p .result) (p .last .0) (omega arith) is _ _ (c .enum-told2 .given .1) ∙ l .inv .5, search needs)
+returns-2 c = let a = c .before .before .before .before .before .before .before .before .before .before .before .before .before .before .before .before .before .before .before .before .before .before .args in let q = c .before .before .before .before .before .before .before .before .before .before .before .before .before .before .before .before .before .before .before .before .before .before .pre in let l = c .before .before .before .before .before .before .before .before .before .before .before .before .before .before .before .before .loop in let p = c .before .before .before .before .before .before .step-in in let is = p .ensures ∙ step-here (l .seg) (a .regular .now) (a .alternate .now) (a .selector) (a .block) (number-small (a .seg .now) (q .1 .1 .numbers)) (q .1 .1 .found) (c .before .before .before .before .before .before .before .before .before .before .before .before .before .here .ensures) (c .before .before .before .before .before .before .before .before .before .before .before .before .if1 .left) in (run-traced _ _ _ _ _ (p .result) (p .last .0) (omega arith) is _ _ (c .enum-told2 .given .1) ∙ l .inv .5, search needs)
 
 enum-told-3 : tie.Need-enum-told-3 Inv-loop μ-loop
 enum-told-3 c = search needs
@@ -94,7 +91,7 @@ same-length-6 : tie.Need-same-length-6 Inv-loop μ-loop
 same-length-6 c = search needs
 
 returns-3 : tie.Need-returns-3 Inv-loop μ-loop
-returns-3 c = let a = c .before .before .before .before .before .before .before .before .before .before .before .before .before .before .before .before .before .before .before .before .before .before .before .args in let q = c .before .before .before .before .before .before .before .before .before .before .before .before .before .before .before .before .before .before .before .before .before .before .before .pre in let l = c .before .before .before .before .before .before .before .before .before .before .before .before .before .before .before .before .before .loop in let p = c .before .before .before .before .before .before .step-in in let is = p .ensures ∙ step-here (l .seg) (a .regular .now) (a .other .now) (a .selector) (a .block) (number-small (a .seg .now) (q .1 .3)) (q .1 .0) (c .before .before .before .before .before .before .before .before .before .before .before .before .before .before .here .ensures) (c .before .before .before .before .before .before .before .before .before .before .before .before .before .if1 .left) in (run-trapped _ _ _ _ _ (p .result) (p .last .0) (omega arith) is _ _ (c .enum-told3 .given .1) ∙ l .inv .5, search needs)
+returns-3 c = let a = c .before .before .before .before .before .before .before .before .before .before .before .before .before .before .before .before .before .before .before .before .before .before .args in let q = c .before .before .before .before .before .before .before .before .before .before .before .before .before .before .before .before .before .before .before .before .before .before .pre in let l = c .before .before .before .before .before .before .before .before .before .before .before .before .before .before .before .before .loop in let p = c .before .before .before .before .before .before .step-in in let is = p .ensures ∙ step-here (l .seg) (a .regular .now) (a .alternate .now) (a .selector) (a .block) (number-small (a .seg .now) (q .1 .1 .numbers)) (q .1 .1 .found) (c .before .before .before .before .before .before .before .before .before .before .before .before .before .here .ensures) (c .before .before .before .before .before .before .before .before .before .before .before .before .if1 .left) in (run-trapped _ _ _ _ _ (p .result) (p .last .0) (omega arith) is _ _ (c .enum-told3 .given .1) ∙ l .inv .5, search needs)
 
 same-length-7 : tie.Need-same-length-7 Inv-loop μ-loop
 same-length-7 c = search needs
@@ -121,14 +118,13 @@ steps-in-spec =
     returns
     lbase-requires
     pctr-requires
-    number-requires
     step-in-requires
     enum-told
     add-steps
     loop-less
     loop-again
     enum-told-2
-    add-t33
+    add-t32
     same-length-3
     same-length-4
     returns-2

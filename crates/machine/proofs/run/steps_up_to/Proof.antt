@@ -9,12 +9,12 @@ use Rattle.machine.proofs.run.steps_up_to.Statement.{statement}
 use Rattle.machine.proofs.run.steps_up_to.Tie as tie
 
 abbrev Inv-loop : tie.InvT-loop
-Inv-loop seg₀ regular other budget scratch₀ steps₀ seg scratch steps =
+Inv-loop seg₀ regular alternate budget scratch₀ steps₀ seg scratch steps =
     (steps ≤ budget) × (length seg ≡ length seg₀) × (length scratch ≡ length scratch₀)
-    × (stepsFrom (budget - steps) steps regular other seg ≡ stepsFrom budget 0 regular other seg₀)
+    × (stepsFrom (budget - steps) steps regular alternate seg ≡ stepsFrom budget 0 regular alternate seg₀)
 
 abbrev μ-loop : tie.MeasureT-loop
-μ-loop seg₀ regular other budget scratch₀ steps₀ seg scratch steps =
+μ-loop seg₀ regular alternate budget scratch₀ steps₀ seg scratch steps =
     budget - steps
 
 loop-holds : tie.Need-loop-holds Inv-loop μ-loop
@@ -33,7 +33,7 @@ same-length-2 : tie.Need-same-length-2 Inv-loop μ-loop
 same-length-2 c = search needs
 
 returns : tie.Need-returns Inv-loop μ-loop
-returns c = let a = c .before .before .before .before .before .before .before .before .before .before .before .before .before .before .before .before .args in let p = c .before .before .before .before .before .before .before .stretch in stops (a .regular .now) (a .other .now) (a .budget) _ (p .last .0) (c .before .n .given .1) (p .ensures .0) ∙ c .before .before .before .before .before .before .before .before .before .before .before .loop .inv .3
+returns c = let a = c .before .before .before .before .before .before .before .before .before .before .before .before .before .before .before .before .args in let p = c .before .before .before .before .before .before .before .stretch in stops (a .regular .now) (a .alternate .now) (a .budget) _ (p .last .0) (c .before .n .given .1) (p .ensures .0) ∙ c .before .before .before .before .before .before .before .before .before .before .before .loop .inv .3
 
 enum-known-n-2 : tie.Need-enum-known-n-2 Inv-loop μ-loop
 enum-known-n-2 c = search needs
@@ -42,7 +42,7 @@ loop-less : tie.Need-loop-less Inv-loop μ-loop
 loop-less c = let p = c .before .before .before .before .before .before .before .stretch in omega (arith, advances _ _ _ (c .before .n2 .given .1) (p .ensures .1))
 
 loop-again : tie.Need-loop-again Inv-loop μ-loop
-loop-again c = let a = c .before .before .before .before .before .before .before .before .before .before .before .before .before .before .before .before .args in let p = c .before .before .before .before .before .before .before .stretch in let l = c .before .before .before .before .before .before .before .before .before .before .before .loop in let on = advances (l .steps) (a .budget) _ (c .before .n2 .given .1) (p .ensures .1) in (on .1, p .kept .0 ∙ l .inv .1, search needs, goes-on (a .regular .now) (a .other .now) (a .budget) _ (p .last .0) (c .before .n2 .given .1) (p .ensures .0) ∙ l .inv .3)
+loop-again c = let a = c .before .before .before .before .before .before .before .before .before .before .before .before .before .before .before .before .args in let p = c .before .before .before .before .before .before .before .stretch in let l = c .before .before .before .before .before .before .before .before .before .before .before .loop in let on = advances (l .steps) (a .budget) _ (c .before .n2 .given .1) (p .ensures .1) in (on .1, p .kept .0 ∙ l .inv .1, search needs, goes-on (a .regular .now) (a .alternate .now) (a .budget) _ (p .last .0) (c .before .n2 .given .1) (p .ensures .0) ∙ l .inv .3)
 
 same-length-3 : tie.Need-same-length-3 Inv-loop μ-loop
 same-length-3 c = search needs

@@ -13,7 +13,7 @@ alternate-requires : tie.Need-alternate-requires
 alternate-requires c κs = search needs
 
 stretch-of-requires : tie.Need-stretch-of-requires
-stretch-of-requires c κs = (search needs, (refl, (cc), (cc)))
+stretch-of-requires c κs = (search needs, (refl, ((cc), (cc))))
 
 same-length : tie.Need-same-length
 same-length c = search needs
@@ -25,7 +25,7 @@ returns : tie.Need-returns
 returns c = search needs
 
 stretch-of-requires-2 : tie.Need-stretch-of-requires-2
-stretch-of-requires-2 c κs = (search needs, (refl, (cc), (cc)))
+stretch-of-requires-2 c κs = (search needs, (refl, ((cc), (cc))))
 
 same-length-3 : tie.Need-same-length-3
 same-length-3 c = search needs

@@ -24,13 +24,13 @@ code-requires : tie.Need-code-requires
 code-requires c κs = search needs
 
 steps-in-requires : tie.Need-steps-in-requires
-steps-in-requires c κs = let q = c .before .before .before .before .before .before .before .before .before .before .before .before .pre in (search needs, ((cc), (cc), q .1 .1, q .1 .2))
+steps-in-requires c κs = let q = c .before .before .before .before .before .before .before .before .before .before .before .before .pre in (search needs, ((cc), record { found = (cc); selects = q .1 .1 .0; numbers = q .1 .1 .1 }))
 
 same-length : tie.Need-same-length
 same-length c = search needs
 
 returns : tie.Need-returns
-returns c = let a = c .before .before .before .before .before .before .before .before .before .before .before .before .args in let p = c .before .before .before .before .before .before .before .before .before .before .before .before .pre in let t = c .before .before .trap-absent .ensures in run-absent (a .regular .now) (a .other .now) (a .budget) (a .start) (a .seg .now) (omega arith) (step-absent (a .seg .now) (a .regular .now) (a .other .now) (p .1 .1) (p .1 .2) (cc)) (t .0) (t .1)
+returns c = let a = c .before .before .before .before .before .before .before .before .before .before .before .before .args in let p = c .before .before .before .before .before .before .before .before .before .before .before .before .pre in let t = c .before .before .trap-absent .ensures in run-absent (a .regular .now) (a .alternate .now) (a .budget) (a .start) (a .seg .now) (omega arith) (step-absent (a .seg .now) (a .regular .now) (a .alternate .now) (p .1 .1 .0) (p .1 .1 .1) (cc)) (t .0) (t .1)
 
 same-length-2 : tie.Need-same-length-2
 same-length-2 c = search needs

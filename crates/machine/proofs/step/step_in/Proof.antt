@@ -1,5 +1,6 @@
 use mathlib.Core.Path.{refl, _∙_}
-use Rattle.manual.specs.Instructions.{Running}
+use Rattle.manual.specs.Instructions.{running}
+use Rattle.machine.proofs.Dispatching.{obeyed}
 use Rattle.machine.proofs.Stepping.{step-done, step-kept}
 use borrow.Author.Needs.{needs}
 use Rattle.machine.proofs.step.step_in.Statement.{statement}
@@ -15,10 +16,7 @@ same-length : tie.Need-same-length
 same-length c = search needs
 
 returns : tie.Need-returns
-returns c = let a = c .before .before .before .before .before .before .before .before .before .before .before .before .before .before .args in let q = c .before .before .before .before .before .before .before .before .before .before .before .before .before .before .pre in let f : Running = record { regular = a .regular .now; alternate = a .other .now; selector = a .selector; block = a .block } in c .before .before .step-trap .ensures ∙ step-done (a .seg .now) f (q .1 .0) refl (q .1 .1) (c .before .before .before .before .before .before .before .quick .ensures .done (c .before .before .before .before .if1 .taken) f refl)
-
-of-requires : tie.Need-of-requires
-of-requires c κs = search needs
+returns c = let a = c .before .before .before .before .before .before .before .before .before .before .before .before .before .before .args in let q = c .before .before .before .before .before .before .before .before .before .before .before .before .before .before .pre in let f = running (a .regular .now) (a .alternate .now) (a .selector) (a .block) in c .before .before .step-trap .ensures ∙ step-done (a .seg .now) f (q .1 .1) (obeyed _ f _ (q .1 .0) refl refl (c .before .before .before .before .before .before .before .quick .ensures .done (c .before .before .before .before .if1 .taken) f refl))
 
 obey-requires : tie.Need-obey-requires
 obey-requires c κs = search needs
@@ -33,7 +31,7 @@ same-length-3 : tie.Need-same-length-3
 same-length-3 c = search needs
 
 returns-2 : tie.Need-returns-2
-returns-2 c = let a = c .before .before .before .before .before .before .before .before .before .before .before .before .before .before .before .before .before .before .before .before .before .before .args in let q = c .before .before .before .before .before .before .before .before .before .before .before .before .before .before .before .before .before .before .before .before .before .before .pre in let f : Running = record { regular = a .regular .now; alternate = a .other .now; selector = a .selector; block = a .block } in let p = c .before .before .before .before .before .before .before .before .before .before .before .before .before .before .before .quick in c .before .before .settle .ensures ∙ step-kept (a .seg .now) f (q .1 .0) (c .before .before .before .before .before .before .before .before .before .before .of .ensures) (q .1 .1) (p .last .0) (p .ensures .kept (c .before .before .before .before .before .before .before .before .before .before .before .before .if1 .left)) (c .before .before .before .before .before .before .before .before .obey .ensures)
+returns-2 c = let a = c .before .before .before .before .before .before .before .before .before .before .before .before .before .before .before .before .before .before .before .before .before .args in let q = c .before .before .before .before .before .before .before .before .before .before .before .before .before .before .before .before .before .before .before .before .before .pre in let p = c .before .before .before .before .before .before .before .before .before .before .before .before .before .before .quick in c .before .before .settle .ensures ∙ step-kept (a .seg .now) (running (a .regular .now) (a .alternate .now) (a .selector) (a .block)) (q .1 .1) (p .last .0) (p .ensures .kept (c .before .before .before .before .before .before .before .before .before .before .before .if1 .left)) (c .before .before .before .before .before .before .before .before .obey .ensures)
 
 pub step-in-spec : {M : Type 1} → statement M
 step-in-spec =
@@ -43,7 +41,6 @@ step-in-spec =
     step-trap-requires
     same-length
     returns
-    of-requires
     obey-requires
     settle-requires
     same-length-2

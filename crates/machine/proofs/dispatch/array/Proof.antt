@@ -1,6 +1,6 @@
 use borrow.Author.Needs.{needs}
-use Rattle.machine.proofs.dispatch.array_operation.Statement.{statement}
-use Rattle.machine.proofs.dispatch.array_operation.Tie as tie
+use Rattle.machine.proofs.dispatch.array.Statement.{statement}
+use Rattle.machine.proofs.dispatch.array.Tie as tie
 
 enum-told : tie.Need-enum-told
 enum-told c = search needs
@@ -74,8 +74,8 @@ same-length-9 c = search needs
 returns-5 : tie.Need-returns-5
 returns-5 c = simp (c .before .before .before .before .before .before .before .enum-told5 .given .1, ← c .before .before .before .before .index-generator .ensures)
 
-pub array-operation-spec : {M : Type 1} → statement M
-array-operation-spec =
+pub array-spec : {M : Type 1} → statement M
+array-spec =
     tie.close
     (tie.spec
     enum-told

@@ -1,7 +1,7 @@
 use Rattle.manual.specs.Control.{breakpoint, attention}
 use borrow.Author.Needs.{needs}
-use Rattle.machine.proofs.dispatch.control_operation.Statement.{statement}
-use Rattle.machine.proofs.dispatch.control_operation.Tie as tie
+use Rattle.machine.proofs.dispatch.control.Statement.{statement}
+use Rattle.machine.proofs.dispatch.control.Tie as tie
 
 enum-told : tie.Need-enum-told
 enum-told c = search needs
@@ -53,8 +53,8 @@ returns-5 : tie.Need-returns-5
 unfolding attention
 returns-5 c = simp (c .enum-told5 .given .1)
 
-pub control-operation-spec : {M : Type 1} → statement M
-control-operation-spec =
+pub control-spec : {M : Type 1} → statement M
+control-spec =
     tie.close
     (tie.spec
     enum-told
