@@ -1,10 +1,10 @@
--- What stands at a place of the code, by the bytes that the short way reads, and the plan of it.
+-- What stands at a place of the code, by the bytes that the fast path reads, and the plan of it.
 use Prim.Native.Nat.{ℕ, _+_, _-_, _*_, _/_, _%_, _^_, _≤_, _<_}
 use native.Mathlib.Omega.{arith}
 use mathlib.Core.Path.{_≡_, sym, ap, _∙_}
-use mathlib.Core.Bool.{Bool, true, false}
+use mathlib.Core.Bool.{Bool, true, false, cond}
 use mathlib.Core.List.{List}
-use lib.Dec.{eqb}
+use lib.Dec.{ltb, eqb}
 use lib.ListN.{length, getD}
 use borrow.Author.Tests.{le-ltb}
 use Rattle.descriptor.specs.Fields.{integerWord}
@@ -18,6 +18,7 @@ use Rattle.operator.specs.declared.Suboperation.the-variants as U
 use Rattle.operator.specs.Table.{operatorOf}
 use Rattle.procedure.specs.declared.header.Header.{Header}
 use Rattle.procedure.specs.Bytes.{byteAt}
+use Rattle.instruction.specs.declared.Decoded.{Decoded}
 use Rattle.instruction.specs.declared.Decoded.the-variants as D
 use Rattle.instruction.specs.declared.Instruction.the-variants as I
 use Rattle.instruction.specs.declared.Jump.{Jump}
@@ -41,72 +42,33 @@ use Rattle.instruction.specs.declared.cursor.FetchedHalf.the-variants.{Half, Ou
 use Rattle.instruction.specs.declared.cursor.FetchedWord.the-variants.{Word, Outside as NoWord}
 use Rattle.instruction.specs.Reading.{codeAddress, cursorAt, fetchByte, fetchHalf, fetchWord, withByte, withHalf}
 use Rattle.instruction.specs.Variables.{addressIn, addressAt}
-use Rattle.instruction.specs.Decoding.{done, loadAt, shortConstant, shortConstantAt, scalarAt, memoryAt, constantScalarAt, jumpAt, etcAt, familyAt, callChecked, instructionAt}
+use Rattle.instruction.specs.Decoding.{done, loadAt, shortConstant, shortConstantAt, scalarAt, memoryAt, constantScalarAt, jumpAt, etcAt, familyAt, instructionAt}
 use Rattle.instruction.proofs.Ranges.{is-short-local}
 use Rattle.manual.specs.Seen.{variablesOf}
 use Rattle.manual.specs.Effects.{word, Plan}
 use Rattle.manual.specs.Loads as loads
 use Rattle.manual.specs.Scalars as scalars
 use Rattle.manual.specs.Control as control
-use Rattle.manual.specs.Instructions.{Running, headerOf, resolve, memoryPlan, stackPlan, jumpPlan, planOf}
+use Rattle.manual.specs.Instructions.{Running, headerOf, resolve, memoryPlan, stackPlan, jumpPlan, planOf, planDecoded}
 use Rattle.effects.specs.Seen.{seen}
-use Rattle.effects.specs.Carried.{carry}
-use Rattle.fast_path.specs.Went.{Went, WentBy, WentAt}
-use Rattle.fast_path.specs.Naming.{Names, assignment}
-use Rattle.fast_path.proofs.Answers.{went-alike, went-by, went-at}
+use Rattle.fast_path.specs.Answers.{DoneOrKept}
+use Rattle.fast_path.specs.Naming.{Names, assignment, assigning}
+use Rattle.fast_path.proofs.Answers.{went-as}
 use Rattle.fast_path.proofs.Standing.{fetched}
 
--- ---- what stands after the first byte
+-- What is decoded is planned in `f`, and its plan was carried out or not.
+abbrev Planned : List ℕ → Running → Bool → List ℕ → Decoded → Type 0
+Planned s f r t d = DoneOrKept s (planDecoded f (seen s) d) r t
 
--- GENSCALAR
-pub dyadic-by : (s : List ℕ) (h : Header) (place : ℕ) {sub : Suboperation} {o : Operator} {op : Dyadic} {next : ℕ} {r : Bool} {t : List ℕ} → sub ≡ U.Defined o → o ≡ O.Dyadic op → next ≡ (place + 1) % 2 ^ 32 → Went s (scalars.dyadic (seen s) next op) r t → WentBy s h (scalarAt sub (cursorAt (place + 1))) r t
-unfolding callChecked planOf
-dyadic-by s h place defined dyadic behind answer = went-by (λ f. λ of. rw (defined, dyadic, behind)) answer
+-- ---- two bytes, and an address of one
 
-pub monadic-by : (s : List ℕ) (h : Header) (place : ℕ) {sub : Suboperation} {o : Operator} {op : Monadic} {next : ℕ} {r : Bool} {t : List ℕ} → sub ≡ U.Defined o → o ≡ O.Monadic op → next ≡ (place + 1) % 2 ^ 32 → Went s (scalars.monadic (seen s) next op) r t → WentBy s h (scalarAt sub (cursorAt (place + 1))) r t
-unfolding callChecked planOf
-monadic-by s h place defined monadic behind answer = went-by (λ f. λ of. rw (defined, monadic, behind)) answer
-
-module _ (s : List ℕ) (h : Header) (code : List ℕ) (place : ℕ) where
-  -- The cursor after the first byte.
-  abbrev after : Cursor
-  after = cursorAt (place + 1)
-
-  -- SHORTCONST
-  module _ (first : ℕ) {low next half w : ℕ} (inside : place + 1 < length code) (second : low ≡ getD code (place + 1) 0) (whole : half ≡ first * 2 ^ 8 + low) (is : w ≡ integerWord (bit (eqb (half / 2 ^ 12 % 2) 1)) (half % 2 ^ 12)) (behind : next ≡ (place + 2) % 2 ^ 32) where
-    constant-stands : shortConstantAt code after first ≡ D.Instruction (shortConstant half) (codeAddress next)
-    unfolding shortConstantAt
-    constant-stands =
-        let on : place + 1 + 1 ≡ place + 2 = omega arith in
-        fetched code (place + 1) (D.Trap 3 1) (λ b c. done (shortConstant (first * 2 ^ 8 + b)) c) inside
-        ∙ rw (on, behind, whole, second)
-
-    pub constant-by : {r : Bool} {t : List ℕ} → Went s (loads.push (seen s) next (word w)) r t → WentBy s h (shortConstantAt code after first) r t
-    unfolding callChecked planOf loads.shortConstant
-    constant-by answer =
-        let short : half % 2 ^ 12 % 2 ^ 12 ≡ half % 2 ^ 12 = omega arith in
-        went-by (λ f. λ of. rw (constant-stands, is, short)) answer
-
-  -- LONGLOCAL and LONGGLOBAL
-  pub load-by : (first : ℕ) (family : Family) {variables i next : ℕ} {r : Bool} {t : List ℕ} (named : Names s variables (addressIn code after first family) (place + 1 + 1) i) → next ≡ (place + 2) % 2 ^ 32 → Went s (loads.load (seen s) next (resolve (seen s) h (named .address))) r t → WentBy s h (loadAt code after first family) r t
-  unfolding loadAt callChecked planOf
-  load-by first family named behind answer =
-      let on : place + 1 + 1 ≡ place + 2 = omega arith in
-      went-by (λ f. λ of. rw (named .fetches, on, behind, of)) answer
-
-  -- MEMREF: an address of one byte, which is below 64, or of two.
-  module _ {first : ℕ} (keep : Bool) (inside : place + 1 < length code) (second : first ≡ getD code (place + 1) 0) {a : Address} {end next : ℕ} (fetches : addressIn code (cursorAt (place + 1 + 1)) first (familyOf first) ≡ F.At a (cursorAt end)) (behind : next ≡ end % 2 ^ 32) where
-    address-stands : addressAt code after ≡ F.At a (cursorAt end)
-    unfolding addressAt
-    address-stands = fetched code (place + 1) (F.Trap 3 1) (λ b c. addressIn code c b (familyOf b)) inside ∙ rw (← second) fetches
-
-    assign-stands : memoryAt code after (N.Defined (assignment keep)) ≡ D.Instruction (I.Memory (assignment keep) a) (codeAddress next)
-    unfolding memoryAt
-    assign-stands = rw (address-stands, behind)
-
-    assign-by : {r : Bool} {t : List ℕ} → Went s (memoryPlan (seen s) next (assignment keep) (resolve (seen s) h a)) r t → WentBy s h (memoryAt code after (N.Defined (assignment keep))) r t
-    unfolding callChecked planOf
-    assign-by answer = went-by (λ f. λ of. rw (assign-stands, of)) answer
+module _ (code : List ℕ) where
+  half-fetched : {A : Type 0} (at : ℕ) (outside : A) (g : ℕ → Cursor → A) → at + 1 < length code → withHalf (fetchHalf code (cursorAt at)) outside g ≡ g (byteAt code at * 2 ^ 8 + byteAt code (at + 1)) (cursorAt (at + 1 + 1))
+  unfolding fetchHalf
+  half-fetched at outside g there =
+      ap (λ (v : FetchedHalf). withHalf v outside g)
+      (fetched code at Outside (λ b c. withByte (fetchByte code c) Outside (λ l d. Half (b * 2 ^ 8 + l) d)) (omega arith)
+      ∙ fetched code (at + 1) Outside (λ l d. Half (byteAt code at * 2 ^ 8 + l) d) there)
 
   short-address : (first : ℕ) (c : Cursor) → first < 0x40 → addressIn code c first (familyOf first) ≡ F.At (A.Local (64 - first)) c
   unfolding addressIn
@@ -114,118 +76,155 @@ module _ (s : List ℕ) (h : Header) (code : List ℕ) (place : ℕ) where
       let six : first % 2 ^ 6 ≡ first = omega arith in
       rw (is-short-local first (omega arith), six)
 
-  module _ {first : ℕ} (keep : Bool) (inside : place + 1 < length code) (second : first ≡ getD code (place + 1) 0) {variables next : ℕ} {r : Bool} {t : List ℕ} where
-    pub short-assign-by : next ≡ (place + 2) % 2 ^ 32 → first < 0x40 → variablesOf h ≡ variables → Went s (memoryPlan (seen s) next (assignment keep) (seen s .local variables (64 - first))) r t → WentBy s h (memoryAt code after (N.Defined (assignment keep))) r t
-    short-assign-by behind low same answer =
-        let on : (place + 2) % 2 ^ 32 ≡ (place + 1 + 1) % 2 ^ 32 = ap (λ (n : ℕ). n % 2 ^ 32) (omega arith) in
-        assign-by keep inside second (short-address first (cursorAt (place + 1 + 1)) low) (behind ∙ on)
-        (went-alike answer (ap (λ (n : ℕ). carry s (memoryPlan (seen s) next (assignment keep) (seen s .local n (64 - first)))) (sym same)))
+-- ---- what stands after the first byte
 
-    pub long-assign-by : (family : Family) {i : ℕ} → next ≡ (place + 3) % 2 ^ 32 → family ≡ familyOf first → (named : Names s variables (addressIn code (cursorAt (place + 1 + 1)) first family) (place + 1 + 1 + 1) i) → Went s (memoryPlan (seen s) next (assignment keep) (resolve (seen s) h (named .address))) r t → WentBy s h (memoryAt code after (N.Defined (assignment keep))) r t
-    long-assign-by family behind found named answer =
-        let on : (place + 3) % 2 ^ 32 ≡ (place + 1 + 1 + 1) % 2 ^ 32 = ap (λ (n : ℕ). n % 2 ^ 32) (omega arith) in
-        assign-by keep inside second (ap (addressIn code (cursorAt (place + 1 + 1)) first) (sym found) ∙ named .fetches) (behind ∙ on) answer
+-- The cursor there.
+abbrev after : ℕ → Cursor
+after place = cursorAt (place + 1)
 
-  pub memory-by : {sub : MemorySuboperation} {o : MemoryOperation} (keep : Bool) {r : Bool} {t : List ℕ} → sub ≡ N.Defined o → o ≡ assignment keep → WentBy s h (memoryAt code after (N.Defined (assignment keep))) r t → WentBy s h (memoryAt code after sub) r t
-  memory-by keep defined assign answer = rw (defined, assign) answer
+module _ (s : List ℕ) (f : Running) (place : ℕ) {r : Bool} {t : List ℕ} where
+  -- GENSCALAR
+  module _ {sub : Suboperation} {o : Operator} {next : ℕ} (defined : sub ≡ U.Defined o) (behind : next ≡ (place + 1) % 2 ^ 32) where
+    pub dyadic-by : {op : Dyadic} → o ≡ O.Dyadic op → DoneOrKept s (scalars.dyadic (seen s) next op) r t → Planned s f r t (scalarAt sub (after place))
+    unfolding planOf
+    dyadic-by dyadic answer = went-as (rw (defined, dyadic, behind)) answer
 
-  -- ETC
-  pub etc-by : {sub : EtcSuboperation} {jump : Jump} {r : Bool} {t : List ℕ} → sub ≡ E.Jump jump → WentBy s h (jumpAt code after jump) r t → WentBy s h (etcAt code after sub) r t
-  unfolding etcAt
-  etc-by jumps answer = rw jumps answer
+    pub monadic-by : {op : Monadic} → o ≡ O.Monadic op → DoneOrKept s (scalars.monadic (seen s) next op) r t → Planned s f r t (scalarAt sub (after place))
+    unfolding planOf
+    monadic-by monadic answer = went-as (rw (defined, monadic, behind)) answer
 
-  pub stack-by : {sub : EtcSuboperation} {op : StackOperation} {next : ℕ} {r : Bool} {t : List ℕ} → sub ≡ E.Stack op → next ≡ (place + 1) % 2 ^ 32 → Went s (stackPlan (seen s) next op) r t → WentBy s h (etcAt code after sub) r t
-  unfolding etcAt callChecked planOf
-  stack-by told behind answer = went-by (λ f. λ of. rw (told, behind)) answer
+  module _ (code : List ℕ) where
+    -- SHORTCONST
+    pub constant-by : (first : ℕ) {next half w : ℕ} → place + 1 < length code → half ≡ first * 2 ^ 8 + getD code (place + 1) 0 → w ≡ integerWord (bit (eqb (half / 2 ^ 12 % 2) 1)) (half % 2 ^ 12) → next ≡ (place + 2) % 2 ^ 32 → DoneOrKept s (loads.push (seen s) next (word w)) r t → Planned s f r t (shortConstantAt code (after place) first)
+    unfolding shortConstantAt planOf loads.shortConstant
+    constant-by first {next} {half} inside whole is behind answer = went-as (rw (stands, is, short)) answer
+      where
+        short : half % 2 ^ 12 % 2 ^ 12 ≡ half % 2 ^ 12
+        short = omega arith
 
-  pub constant-in : {sub : EtcSuboperation} {r : Bool} {t : List ℕ} → sub ≡ E.ConstantScalar → WentBy s h (constantScalarAt code after) r t → WentBy s h (etcAt code after sub) r t
-  unfolding etcAt
-  constant-in told answer = rw told answer
+        stands : withByte (fetchByte code (after place)) (D.Trap 3 1) (λ b c. done (shortConstant (first * 2 ^ 8 + b)) c) ≡ D.Instruction (shortConstant half) (codeAddress next)
+        stands =
+            let on : place + 1 + 1 ≡ place + 2 = omega arith in
+            fetched code (place + 1) (D.Trap 3 1) (λ b c. done (shortConstant (first * 2 ^ 8 + b)) c) inside
+            ∙ rw (on, behind, whole)
 
-  -- CONSTANT_SCALAR
-  module _ {high low w next : ℕ} (inside : place + 1 + 3 < length code) (upper : high ≡ getD code (place + 1) 0 * 2 ^ 8 + getD code (place + 1 + 1) 0) (lower : low ≡ getD code (place + 1 + 2) 0 * 2 ^ 8 + getD code (place + 1 + 3) 0) (is : w ≡ high * 2 ^ 16 + low) (behind : next ≡ (place + 5) % 2 ^ 32) where
-    half-fetched : {A : Type 0} (at : ℕ) (outside : A) (f : ℕ → Cursor → A) → at + 1 < length code → withHalf (fetchHalf code (cursorAt at)) outside f ≡ f (byteAt code at * 2 ^ 8 + byteAt code (at + 1)) (cursorAt (at + 1 + 1))
-    unfolding fetchHalf
-    half-fetched at outside f there =
-        ap (λ (v : FetchedHalf). withHalf v outside f)
-        (fetched code at Outside (λ b c. withByte (fetchByte code c) Outside (λ l d. Half (b * 2 ^ 8 + l) d)) (omega arith)
-        ∙ fetched code (at + 1) Outside (λ l d. Half (byteAt code at * 2 ^ 8 + l) d) there)
+    -- An address starts at `at`, after the first byte.
+    module _ {at : ℕ} (here : at ≡ place + 1) where
+      -- LONGLOCAL and LONGGLOBAL
+      pub load-by : (first : ℕ) (family : Family) {variables i next : ℕ} (named : Names s variables (addressIn code (cursorAt at) first family) (at + 1) i) → next ≡ (place + 2) % 2 ^ 32 → DoneOrKept s (loads.load (seen s) next (resolve (seen s) (headerOf f) (named .address))) r t → Planned s f r t (loadAt code (after place) first family)
+      unfolding loadAt planOf
+      load-by first family named behind answer =
+          let on : at + 1 ≡ place + 2 = omega (arith, here) in
+          went-as (rw (← here, named .fetches, on, behind)) answer
 
-    word-fetched : fetchWord code after ≡ Word w (cursorAt (place + 5))
-    unfolding fetchWord
-    word-fetched =
-        let on : place + 1 + 1 + 1 ≡ place + 1 + 2 = omega arith in
-        let third : place + 1 + 2 + 1 ≡ place + 1 + 3 = omega arith in
-        let end : place + 1 + 2 + 1 + 1 ≡ place + 5 = omega arith in
-        half-fetched (place + 1) NoWord (λ b c. withHalf (fetchHalf code c) NoWord (λ l d. Word (b * 2 ^ 16 + l) d)) (omega arith)
-        ∙ rw (on, is, upper, lower, ← third, ← end) (half-fetched (place + 1 + 2) NoWord (λ l d. Word ((byteAt code (place + 1) * 2 ^ 8 + byteAt code (place + 1 + 1)) * 2 ^ 16 + l) d) (omega arith))
+      -- MEMREF: an address of one byte, which is below 64, or of two.
+      module _ {first : ℕ} (keep : Bool) (inside : at < length code) (second : first ≡ getD code at 0) {next : ℕ} where
+        assign-by : {a : Address} {end : ℕ} → addressIn code (cursorAt (at + 1)) first (familyOf first) ≡ F.At a (cursorAt end) → next ≡ end % 2 ^ 32 → DoneOrKept s (memoryPlan (seen s) next (assignment keep) (resolve (seen s) (headerOf f) a)) r t → Planned s f r t (memoryAt code (after place) (assigning keep))
+        unfolding memoryAt addressAt planOf
+        assign-by {a} {end} fetches behind answer = went-as (rw (← here, stands, behind)) answer
+          where
+            stands : withByte (fetchByte code (cursorAt at)) (F.Trap 3 1) (λ b c. addressIn code c b (familyOf b)) ≡ F.At a (cursorAt end)
+            stands = fetched code at (F.Trap 3 1) (λ b c. addressIn code c b (familyOf b)) inside ∙ rw (← second) fetches
 
-    scalar-stands : constantScalarAt code after ≡ D.Instruction (I.ConstantScalar w) (codeAddress next)
-    unfolding constantScalarAt
-    scalar-stands = rw (word-fetched, behind)
+        pub short-assign-by : {variables : ℕ} → next ≡ (place + 2) % 2 ^ 32 → first < 0x40 → variablesOf (headerOf f) ≡ variables → DoneOrKept s (memoryPlan (seen s) next (assignment keep) (seen s .local variables (64 - first))) r t → Planned s f r t (memoryAt code (after place) (assigning keep))
+        short-assign-by behind low same answer =
+            let on : (place + 2) % 2 ^ 32 ≡ (at + 1) % 2 ^ 32 = ap (λ (n : ℕ). n % 2 ^ 32) (omega (arith, here)) in
+            assign-by (short-address code first (cursorAt (at + 1)) low) (behind ∙ on)
+            (went-as (ap (λ (n : ℕ). memoryPlan (seen s) next (assignment keep) (seen s .local n (64 - first))) (sym same)) answer)
 
-    pub constant-scalar-by : {r : Bool} {t : List ℕ} → isScalar w ≡ true → Went s (loads.push (seen s) next (word w)) r t → WentBy s h (constantScalarAt code after) r t
-    unfolding callChecked planOf loads.constantScalar
-    constant-scalar-by scalar answer = went-by (λ f. λ of. rw (scalar-stands, scalar)) answer
+        pub long-assign-by : (family : Family) {variables i : ℕ} → next ≡ (place + 3) % 2 ^ 32 → family ≡ familyOf first → (named : Names s variables (addressIn code (cursorAt (at + 1)) first family) (at + 1 + 1) i) → DoneOrKept s (memoryPlan (seen s) next (assignment keep) (resolve (seen s) (headerOf f) (named .address))) r t → Planned s f r t (memoryAt code (after place) (assigning keep))
+        long-assign-by family behind found named answer =
+            let on : (place + 3) % 2 ^ 32 ≡ (at + 1 + 1) % 2 ^ 32 = ap (λ (n : ℕ). n % 2 ^ 32) (omega (arith, here)) in
+            assign-by (ap (addressIn code (cursorAt (at + 1)) first) (sym found) ∙ named .fetches) (behind ∙ on) answer
 
-  module _ {high low to next : ℕ} (inside : place + 1 + 1 < length code) (second : high ≡ getD code (place + 1) 0) (third : low ≡ getD code (place + 1 + 1) 0) (is : to ≡ high * 2 ^ 8 + low) (behind : next ≡ (place + 3) % 2 ^ 32) where
-    jump-stands : (jump : Jump) → jumpAt code after jump ≡ D.Instruction (I.Jump jump (codeAddress to)) (codeAddress next)
-    unfolding jumpAt fetchHalf
-    jump-stands jump =
-        let on : place + 1 + 1 + 1 ≡ place + 3 = omega arith in
-        ap (λ (v : FetchedHalf). withHalf v (D.Trap 3 1) (λ b c. done (I.Jump jump (codeAddress b)) c))
-        (fetched code (place + 1) Outside (λ b c. withByte (fetchByte code c) Outside (λ l d. Half (b * 2 ^ 8 + l) d)) (omega arith)
-        ∙ fetched code (place + 1 + 1) Outside (λ l d. Half (byteAt code (place + 1) * 2 ^ 8 + l) d) inside)
-        ∙ rw (← second, ← third, on, behind, is)
+    pub memory-by : {sub : MemorySuboperation} {o : MemoryOperation} (keep : Bool) → sub ≡ N.Defined o → o ≡ assignment keep → Planned s f r t (memoryAt code (after place) (assigning keep)) → Planned s f r t (memoryAt code (after place) sub)
+    memory-by keep defined assign answer = rw (defined, assign) answer
 
-    module _ {kind : Jump} {r : Bool} {t : List ℕ} where
-      planned : (jump : Jump) {p : Plan} → kind ≡ jump → ((f : Running) → headerOf f ≡ h → p ≡ jumpPlan f (seen s) next jump to) → Went s p r t → WentBy s h (jumpAt code after kind) r t
-      unfolding callChecked planOf
-      planned jump told same answer = went-by (λ f. λ of. rw (told, same f of, jump-stands jump)) answer
+    -- ETC
+    module _ {sub : EtcSuboperation} where
+      pub etc-by : {jump : Jump} → sub ≡ E.Jump jump → Planned s f r t (jumpAt code (after place) jump) → Planned s f r t (etcAt code (after place) sub)
+      unfolding etcAt
+      etc-by jumps answer = rw jumps answer
 
-      pub go-by : kind ≡ J.Go → Went s (control.go h to) r t → WentBy s h (jumpAt code after kind) r t
-      go-by told answer = planned J.Go told (λ f. λ of. rw (← of)) answer
+      pub stack-by : {op : StackOperation} {next : ℕ} → sub ≡ E.Stack op → next ≡ (place + 1) % 2 ^ 32 → DoneOrKept s (stackPlan (seen s) next op) r t → Planned s f r t (etcAt code (after place) sub)
+      unfolding etcAt planOf
+      stack-by told behind answer = went-as (rw (told, behind)) answer
 
-      pub go-true-by : kind ≡ J.GoTrue → Went s (control.goIf (seen s) h next true to) r t → WentBy s h (jumpAt code after kind) r t
-      go-true-by told answer = planned J.GoTrue told (λ f. λ of. rw (← of)) answer
+      pub constant-in : sub ≡ E.ConstantScalar → Planned s f r t (constantScalarAt code (after place)) → Planned s f r t (etcAt code (after place) sub)
+      unfolding etcAt
+      constant-in told answer = rw told answer
 
-      pub go-false-by : kind ≡ J.GoFalse → Went s (control.goIf (seen s) h next false to) r t → WentBy s h (jumpAt code after kind) r t
-      go-false-by told answer = planned J.GoFalse told (λ f. λ of. rw (← of)) answer
+    -- CONSTANT_SCALAR
+    pub constant-scalar-by : {high low w next : ℕ} → place + 1 + 3 < length code → high ≡ getD code (place + 1) 0 * 2 ^ 8 + getD code (place + 1 + 1) 0 → low ≡ getD code (place + 1 + 2) 0 * 2 ^ 8 + getD code (place + 1 + 3) 0 → w ≡ high * 2 ^ 16 + low → next ≡ (place + 5) % 2 ^ 32 → isScalar w ≡ true → DoneOrKept s (loads.push (seen s) next (word w)) r t → Planned s f r t (constantScalarAt code (after place))
+    unfolding constantScalarAt fetchWord planOf loads.constantScalar
+    constant-scalar-by {w = w} inside upper lower is behind scalar answer = went-as (rw (stands, scalar, behind)) answer
+      where
+        stands : withHalf (fetchHalf code (after place)) NoWord (λ b c. withHalf (fetchHalf code c) NoWord (λ l d. Word (b * 2 ^ 16 + l) d)) ≡ Word w (cursorAt (place + 5))
+        stands =
+            let on : place + 1 + 1 + 1 ≡ place + 1 + 2 = omega arith in
+            let third : place + 1 + 2 + 1 ≡ place + 1 + 3 = omega arith in
+            let end : place + 1 + 2 + 1 + 1 ≡ place + 5 = omega arith in
+            half-fetched code (place + 1) NoWord (λ b c. withHalf (fetchHalf code c) NoWord (λ l d. Word (b * 2 ^ 16 + l) d)) (omega arith)
+            ∙ rw (on, is, upper, lower, ← third, ← end) (half-fetched code (place + 1 + 2) NoWord (λ l d. Word ((byteAt code (place + 1) * 2 ^ 8 + byteAt code (place + 1 + 1)) * 2 ^ 16 + l) d) (omega arith))
+
+    -- GO, GO_TRUE and GO_FALSE, of a function with the header h
+    module _ {h : Header} {kind : Jump} {to next : ℕ} (of : headerOf f ≡ h) (inside : place + 1 + 1 < length code) (is : to ≡ getD code (place + 1) 0 * 2 ^ 8 + getD code (place + 1 + 1) 0) (behind : next ≡ (place + 3) % 2 ^ 32) where
+      planned : (jump : Jump) {p : Plan} → kind ≡ jump → p ≡ jumpPlan f (seen s) next jump to → DoneOrKept s p r t → Planned s f r t (jumpAt code (after place) kind)
+      unfolding jumpAt planOf
+      planned jump told same answer = went-as (rw (told, same) (sym (ap (planDecoded f (seen s)) stands))) answer
+        where
+          stands : withHalf (fetchHalf code (after place)) (D.Trap 3 1) (λ b c. done (I.Jump jump (codeAddress b)) c) ≡ D.Instruction (I.Jump jump (codeAddress to)) (codeAddress next)
+          stands =
+              let on : place + 1 + 1 + 1 ≡ place + 3 = omega arith in
+              half-fetched code (place + 1) (D.Trap 3 1) (λ b c. done (I.Jump jump (codeAddress b)) c) inside
+              ∙ rw (on, behind, is)
+
+      pub go-by : kind ≡ J.Go → DoneOrKept s (control.go h to) r t → Planned s f r t (jumpAt code (after place) kind)
+      go-by told answer = planned J.Go told (rw of) answer
+
+      pub go-true-by : kind ≡ J.GoTrue → DoneOrKept s (control.goIf (seen s) h next true to) r t → Planned s f r t (jumpAt code (after place) kind)
+      go-true-by told answer = planned J.GoTrue told (rw of) answer
+
+      pub go-false-by : kind ≡ J.GoFalse → DoneOrKept s (control.goIf (seen s) h next false to) r t → Planned s f r t (jumpAt code (after place) kind)
+      go-false-by told answer = planned J.GoFalse told (rw of) answer
 
 -- ---- the families
 
-module _ (s : List ℕ) (h : Header) (code : List ℕ) (place : ℕ) {first : ℕ} {family : Family} (low : 8 ≤ place) (inside : place < length code) (is : first ≡ getD code place 0) (found : family ≡ familyOf first) where
-  stands : (f : Family) → family ≡ f → instructionAt code place ≡ familyAt code (cursorAt (place + 1)) first f
+module _ (s : List ℕ) (f : Running) (code : List ℕ) (place : ℕ) {first : ℕ} {family : Family} (low : 8 ≤ place) (inside : place < length code) (is : first ≡ getD code place 0) (found : family ≡ familyOf first) {r : Bool} {t : List ℕ} where
+  family-at : (k : Family) → family ≡ k → Planned s f r t (familyAt code (after place) first k) → Planned s f r t (instructionAt code place)
   unfolding instructionAt
-  stands f told =
-      rw (le-ltb place 8 low)
-      (fetched code place (D.Trap 3 1) (λ b next. familyAt code next b (familyOf b)) inside
-      ∙ rw (← is, ← found, told))
+  family-at k told answer = went-as (ap (planDecoded f (seen s)) (sym stands)) answer
+    where
+      stands : cond (ltb place 8) (D.Trap 3 1) (withByte (fetchByte code (cursorAt place)) (D.Trap 3 1) (λ b next. familyAt code next b (familyOf b))) ≡ familyAt code (after place) first k
+      stands =
+          rw (le-ltb place 8 low)
+          (fetched code place (D.Trap 3 1) (λ b next. familyAt code next b (familyOf b)) inside
+          ∙ rw (← is, ← found, told))
 
-  pub short-local-at : {variables next : ℕ} {r : Bool} {t : List ℕ} → family ≡ ShortLocal → variables ≡ variablesOf h → next ≡ (place + 1) % 2 ^ 32 → Went s (loads.load (seen s) next (seen s .local variables (64 - first % 2 ^ 6))) r t → WentAt s h code place r t
-  unfolding familyAt loadAt addressIn callChecked planOf
-  short-local-at told same after answer = went-at (stands ShortLocal told) (went-by (λ f. λ of. rw (after, same, ← of)) answer)
+  pub short-local-at : {variables next : ℕ} → family ≡ ShortLocal → variables ≡ variablesOf (headerOf f) → next ≡ (place + 1) % 2 ^ 32 → DoneOrKept s (loads.load (seen s) next (seen s .local variables (64 - first % 2 ^ 6))) r t → Planned s f r t (instructionAt code place)
+  unfolding familyAt loadAt addressIn planOf
+  short-local-at told same behind answer = family-at ShortLocal told (went-as (rw (behind, same)) answer)
 
-  pub long-local-at : {r : Bool} {t : List ℕ} → family ≡ LongLocal → WentBy s h (loadAt code (cursorAt (place + 1)) first LongLocal) r t → WentAt s h code place r t
+  pub long-local-at : family ≡ LongLocal → Planned s f r t (loadAt code (after place) first LongLocal) → Planned s f r t (instructionAt code place)
   unfolding familyAt
-  long-local-at told answer = went-at (stands LongLocal told) answer
+  long-local-at told answer = family-at LongLocal told answer
 
-  pub long-global-at : {r : Bool} {t : List ℕ} → family ≡ LongGlobal → WentBy s h (loadAt code (cursorAt (place + 1)) first LongGlobal) r t → WentAt s h code place r t
+  pub long-global-at : family ≡ LongGlobal → Planned s f r t (loadAt code (after place) first LongGlobal) → Planned s f r t (instructionAt code place)
   unfolding familyAt
-  long-global-at told answer = went-at (stands LongGlobal told) answer
+  long-global-at told answer = family-at LongGlobal told answer
 
-  pub constant-at : {r : Bool} {t : List ℕ} → family ≡ ShortConst → WentBy s h (shortConstantAt code (cursorAt (place + 1)) first) r t → WentAt s h code place r t
+  pub constant-at : family ≡ ShortConst → Planned s f r t (shortConstantAt code (after place) first) → Planned s f r t (instructionAt code place)
   unfolding familyAt
-  constant-at told answer = went-at (stands ShortConst told) answer
+  constant-at told answer = family-at ShortConst told answer
 
-  pub scalar-at : {sub : Suboperation} {r : Bool} {t : List ℕ} → family ≡ GenScalar → sub ≡ operatorOf (first % 2 ^ 5) → WentBy s h (scalarAt sub (cursorAt (place + 1))) r t → WentAt s h code place r t
+  pub scalar-at : {sub : Suboperation} → family ≡ GenScalar → sub ≡ operatorOf (first % 2 ^ 5) → Planned s f r t (scalarAt sub (after place)) → Planned s f r t (instructionAt code place)
   unfolding familyAt
-  scalar-at told named answer = went-at (stands GenScalar told ∙ rw (← named)) answer
+  scalar-at told named answer = family-at GenScalar told (rw (← named) answer)
 
-  pub memory-at : {sub : MemorySuboperation} {r : Bool} {t : List ℕ} → family ≡ MemRef → sub ≡ memoryOf (first % 2 ^ 5) → WentBy s h (memoryAt code (cursorAt (place + 1)) sub) r t → WentAt s h code place r t
+  pub memory-at : {sub : MemorySuboperation} → family ≡ MemRef → sub ≡ memoryOf (first % 2 ^ 5) → Planned s f r t (memoryAt code (after place) sub) → Planned s f r t (instructionAt code place)
   unfolding familyAt
-  memory-at told named answer = went-at (stands MemRef told ∙ rw (← named)) answer
+  memory-at told named answer = family-at MemRef told (rw (← named) answer)
 
-  pub etc-at : {sub : EtcSuboperation} {r : Bool} {t : List ℕ} → family ≡ Etc → sub ≡ etcOf (first % 2 ^ 5) → WentBy s h (etcAt code (cursorAt (place + 1)) sub) r t → WentAt s h code place r t
+  pub etc-at : {sub : EtcSuboperation} → family ≡ Etc → sub ≡ etcOf (first % 2 ^ 5) → Planned s f r t (etcAt code (after place) sub) → Planned s f r t (instructionAt code place)
   unfolding familyAt
-  etc-at told named answer = went-at (stands Etc told ∙ rw (← named)) answer
+  etc-at told named answer = family-at Etc told (rw (← named) answer)

@@ -3,9 +3,9 @@ use Prim.Native.Nat.{ℕ, _+_, _-_, _*_, _/_, _^_, _≤_, _<_}
 use native.Mathlib.Omega.{arith}
 use native.Mathlib.Nat.{mod-eq-of-lt}
 use mathlib.Core.Path.{_≡_, refl, sym, ap, _∙_}
-use mathlib.Core.Bool.{Bool, true, false, cond, not, _||_}
+use mathlib.Core.Bool.{Bool, true, false, cond, not}
 use mathlib.Core.List.{List, [], _∷_, _++_}
-use lib.Dec.{ltb, leb, eqb}
+use lib.Dec.{eqb}
 use lib.ListN.{set}
 use borrow.Author.Tests.{le-ltb, lt-leb, eqb-true, eqb-false}
 use Rattle.descriptor.specs.Kinds.{bit, kindOf, integerKind, isScalar}
@@ -32,20 +32,14 @@ pub whole-jumped : (s : List ℕ) (place : ℕ) {t : List ℕ} → place < 2 ^ 1
 unfolding setPctr
 whole-jumped s place small done = done ∙ rw (mod-eq-of-lt small)
 
--- A place that is none of the function's code.
-abbrev outside : Header → ℕ → Bool
-outside h place = ltb place codeStart || leb (codeEnd h) place
+-- To a place of the function's code.
+module _ (h : Header) (place : ℕ) (low : codeStart ≤ place) (high : place < codeEnd h) where
+  jump-inside : (before : List Effect) → jumpTo h place before ≡ gives (before ++ (jumps place ∷ []))
+  jump-inside before = rw (le-ltb place codeStart low, lt-leb (codeEnd h) place high)
 
-module _ (h : Header) (place : ℕ) where
-  pub is-inside : 8 ≤ place → place < codeEnd h → outside h place ≡ false
-  is-inside low high = simp (le-ltb _ _ low, lt-leb _ _ high)
-
-  jump-inside : (before : List Effect) → outside h place ≡ false → jumpTo h place before ≡ gives (before ++ (jumps place ∷ []))
-  jump-inside before inside = rw inside
-
-  pub gone : (s : List ℕ) {t : List ℕ} → outside h place ≡ false → t ≡ perform s (jumps place) → did Finished t ≡ carry s (go h place)
+  pub gone : (s : List ℕ) {t : List ℕ} → t ≡ perform s (jumps place) → did Finished t ≡ carry s (go h place)
   unfolding go
-  gone s inside done = ap (did Finished) done ∙ ap (carry s) (sym (jump-inside [] inside))
+  gone s done = ap (did Finished) done ∙ ap (carry s) (sym (jump-inside []))
 
 -- The integers 0 and 1 are read as false and true.
 bit-scalar : (b : Bool) → isScalar (bit b) ≡ true
@@ -101,11 +95,11 @@ module _ (s : List ℕ) (h : Header) (next to : ℕ) (wanted : Bool) (some : 1 �
       truth = ap truthOf is-bit ∙ bit-truth held
 
   module _ {number : ℕ} (named : number ≡ bit wanted) where
-    pub jump-taken : {t : List ℕ} → outside h to ≡ false → operandAt s 0 ≡ number → t ≡ perform left (jumps to) → did Finished t ≡ carry s (goIf (seen s) h next wanted to)
-    jump-taken inside same done = ap (did Finished) done ∙ discards-one to ∙ ap (carry s) (sym taken)
+    pub jump-taken : {t : List ℕ} → codeStart ≤ to → to < codeEnd h → operandAt s 0 ≡ number → t ≡ perform left (jumps to) → did Finished t ≡ carry s (goIf (seen s) h next wanted to)
+    jump-taken low high same done = ap (did Finished) done ∙ discards-one to ∙ ap (carry s) (sym taken)
       where
         taken : goIf (seen s) h next wanted to ≡ gives (discards 1 ∷ jumps to ∷ [])
-        taken = planned ∙ rw (same-bit wanted held (sym is-bit ∙ same ∙ named)) (jump-inside h to (discards 1 ∷ []) inside)
+        taken = planned ∙ rw (same-bit wanted held (sym is-bit ∙ same ∙ named)) (jump-inside h to low high (discards 1 ∷ []))
 
     pub jump-passed : {t : List ℕ} → (operandAt s 0 ≡ number → ⊥) → t ≡ perform left (jumps next) → did Finished t ≡ carry s (goIf (seen s) h next wanted to)
     jump-passed other done = ap (did Finished) done ∙ discards-one next ∙ ap (carry s) (sym passed)

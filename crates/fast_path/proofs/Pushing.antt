@@ -25,7 +25,7 @@ use Rattle.effects.specs.declared.Outcome.the-variants.{Finished}
 use Rattle.effects_code.specs.Done.{replaceShared}
 use Rattle.effects.specs.Carried.{did, carry}
 use Rattle.effects_code.proofs.Carrying.{replace-variable}
-use Rattle.fast_path.specs.Went.{Went}
+use Rattle.fast_path.specs.Answers.{DoneOrKept}
 use Rattle.fast_path.specs.Naming.{variableAt, Stands}
 use Rattle.fast_path.proofs.Answers.{went-alike}
 use Rattle.fast_path.proofs.Words.{scalar-no-array, share-none, itself, scalar-held, scalar-referred, scalar-defined, array-held, array-referred, array-defined, refers}
@@ -65,16 +65,16 @@ module _ (s : List ℕ) (next : ℕ) (t : Target) where
 
   -- What a variable holds is loaded, where it is that variable that was named or referred to.
   module _ {resolved : OrTrap Variable} {r : Bool} {u : List ℕ} where
-    loaded : resolved ≡ itself s t → isUndefined (read s (heldAt s t)) ≡ false → Went s (pushed s next (variable t)) r u → Went s (plan.load (seen s) next resolved) r u
+    loaded : resolved ≡ itself s t → isUndefined (read s (heldAt s t)) ≡ false → DoneOrKept s (pushed s next (variable t)) r u → DoneOrKept s (plan.load (seen s) next resolved) r u
     unfolding plan.load
     loaded found defined answer = went-alike answer (rw (found, defined))
 
-    scalar-found : {w : ℕ} → w ≡ heldAt s t → isScalar w ≡ true → (isScalar (heldAt s t) ≡ true → resolved ≡ itself s t) → Went s (pushed s next (word w)) r u → Went s (plan.load (seen s) next resolved) r u
+    scalar-found : {w : ℕ} → w ≡ heldAt s t → isScalar w ≡ true → (isScalar (heldAt s t) ≡ true → resolved ≡ itself s t) → DoneOrKept s (pushed s next (word w)) r u → DoneOrKept s (plan.load (seen s) next resolved) r u
     scalar-found held scalar found answer =
         let there = scalar-there held scalar in
         loaded (found there) (scalar-defined s t there) (went-alike answer (held-pushed held scalar))
 
-    array-found : {w : ℕ} → w ≡ heldAt s t → isArray w ≡ true → (isArray (heldAt s t) ≡ true → resolved ≡ itself s t) → Went s (pushed s next (variable t)) r u → Went s (plan.load (seen s) next resolved) r u
+    array-found : {w : ℕ} → w ≡ heldAt s t → isArray w ≡ true → (isArray (heldAt s t) ≡ true → resolved ≡ itself s t) → DoneOrKept s (pushed s next (variable t)) r u → DoneOrKept s (plan.load (seen s) next resolved) r u
     array-found held array found answer =
         let there : isArray (heldAt s t) ≡ true = ap isArray (sym held) ∙ array in
         loaded (found there) (array-defined s t there) answer
@@ -85,13 +85,13 @@ module _ (s : List ℕ) (next : ℕ) {resolved : OrTrap Variable} {t : Target} {
   there : w ≡ heldAt s t
   there = held ∙ ap (λ (j : ℕ). getD s j 0) (stands .place)
 
-  pub scalar-loaded : {r : Bool} {u : List ℕ} → isScalar w ≡ true → Went s (pushed s next (word w)) r u → Went s (plan.load (seen s) next resolved) r u
+  pub scalar-loaded : {r : Bool} {u : List ℕ} → isScalar w ≡ true → DoneOrKept s (pushed s next (word w)) r u → DoneOrKept s (plan.load (seen s) next resolved) r u
   scalar-loaded scalar answer = scalar-found s next t there scalar (λ is. stands .resolves ∙ scalar-held s t is) answer
 
-  pub array-loaded : {r : Bool} {u : List ℕ} → isArray w ≡ true → ((v : Target) → w ≡ heldAt s v → Went s (pushed s next (variable v)) r u) → Went s (plan.load (seen s) next resolved) r u
+  pub array-loaded : {r : Bool} {u : List ℕ} → isArray w ≡ true → ((v : Target) → w ≡ heldAt s v → DoneOrKept s (pushed s next (variable v)) r u) → DoneOrKept s (plan.load (seen s) next resolved) r u
   array-loaded array answer = array-found s next t there array (λ is. stands .resolves ∙ array-held s t is) (answer t there)
 
-  pub referred-loaded : {r : Bool} {u : List ℕ} → ((v : Target) → w ≡ heldAt s v → Went s (plan.load (seen s) next (variableAt s v)) r u) → Went s (plan.load (seen s) next resolved) r u
+  pub referred-loaded : {r : Bool} {u : List ℕ} → ((v : Target) → w ≡ heldAt s v → DoneOrKept s (plan.load (seen s) next (variableAt s v)) r u) → DoneOrKept s (plan.load (seen s) next resolved) r u
   referred-loaded answer = went-alike (answer t there) (ap (λ (v : OrTrap Variable). carry s (plan.load (seen s) next v)) (sym (stands .resolves)))
 
 -- ---- the variable that it refers to
@@ -100,8 +100,8 @@ module _ (s : List ℕ) (next : ℕ) (t v : Target) {w x : ℕ} {kind : Kind} (h
   leads : variableAt s t ≡ followed v (read s (heldAt s v))
   leads = refers s t v (ap kindOf (sym held) ∙ sym told ∙ refers-to)
 
-  pub scalar-followed : {r : Bool} {u : List ℕ} → isScalar x ≡ true → Went s (pushed s next (word x)) r u → Went s (plan.load (seen s) next (variableAt s t)) r u
+  pub scalar-followed : {r : Bool} {u : List ℕ} → isScalar x ≡ true → DoneOrKept s (pushed s next (word x)) r u → DoneOrKept s (plan.load (seen s) next (variableAt s t)) r u
   scalar-followed scalar answer = scalar-found s next v holds scalar (λ is. leads ∙ scalar-referred s v is) answer
 
-  pub array-followed : {r : Bool} {u : List ℕ} → isArray x ≡ true → ((y : Target) → x ≡ heldAt s y → Went s (pushed s next (variable y)) r u) → Went s (plan.load (seen s) next (variableAt s t)) r u
+  pub array-followed : {r : Bool} {u : List ℕ} → isArray x ≡ true → ((y : Target) → x ≡ heldAt s y → DoneOrKept s (pushed s next (variable y)) r u) → DoneOrKept s (plan.load (seen s) next (variableAt s t)) r u
   array-followed array answer = array-found s next v holds array (λ is. leads ∙ array-referred s v is) (answer v holds)

@@ -22,8 +22,8 @@ use Rattle.effects.specs.Perform.{discard, storeAt, store, perform}
 use Rattle.operands.proofs.Seen.{count-seen}
 use Rattle.effects.specs.declared.Outcome.the-variants.{Finished}
 use Rattle.effects.specs.Carried.{did, carry}
-use Rattle.fast_path.specs.Naming.{Stands, assignment}
-use Rattle.fast_path.proofs.Words.{isPlain, scalar-no-array, plain-no-array, share-none, drop-none, plain-held, scalar-operand, discarded, copied-stays}
+use Rattle.fast_path.specs.Naming.{Stands, isPlain, assignment}
+use Rattle.fast_path.proofs.Words.{scalar-no-array, plain-no-array, share-none, drop-none, plain-held, scalar-operand, discarded, copied-stays}
 
 module _ (s : List ℕ) (i : ℕ) {w old : ℕ} (top : w ≡ operandAt s 0) (scalar : isScalar w ≡ true) (there : old ≡ getD s i 0) (plain : isPlain old ≡ true) where
   abbrev stored : List ℕ

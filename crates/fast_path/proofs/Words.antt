@@ -28,7 +28,7 @@ use Rattle.effects.specs.Sources.{heldAt, operandAt}
 use Rattle.effects.specs.Seen.{whole, readKind, read, temporaries, seen}
 use Rattle.effects.specs.Perform.{bottomOf, discard}
 use Rattle.operands.proofs.Seen.{operand-seen}
-use Rattle.fast_path.specs.Naming.{variableAt}
+use Rattle.fast_path.specs.Naming.{variableAt, isPlain}
 
 module _ (w : ℕ) where
   array-kinds : isArray w ≡ true → kindOf w ≡ K.Array (segment (address w))
@@ -55,11 +55,7 @@ module _ (w : ℕ) where
       by-kind K.Undefined h = cc
       by-kind K.Invalid h = cc
 
-  -- A scalar, or undefined.
-  abbrev pub isPlain : Bool
-  isPlain = eqb w undefinedWord || isScalar w
-
-  pub plain-no-array : isPlain ≡ true → isArray w ≡ false
+  pub plain-no-array : isPlain w ≡ true → isArray w ≡ false
   plain-no-array plain = by-test (eqb w undefinedWord) refl plain
     where
       by-test : (b : Bool) → eqb w undefinedWord ≡ b → (b || isScalar w) ≡ true → isArray w ≡ false

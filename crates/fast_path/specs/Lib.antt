@@ -1,4 +1,4 @@
--- What the short way of an instruction answers.
-pub mod Went
+-- What the fast path of an instruction answers.
 pub mod Naming
+pub mod Answers
 pub mod Examples

@@ -2,16 +2,20 @@
 -- indirection from the variable that it names itself, which is the word at that place. Assumes nothing.
 use Prim.Native.Nat.{ℕ, _-_}
 use mathlib.Core.Path.{_≡_}
-use mathlib.Core.Bool.{Bool, true, false}
+use mathlib.Core.Bool.{Bool, true, false, _||_}
 use mathlib.Core.List.{List}
+use lib.Dec.{eqb}
 use Rattle.descriptor.specs.declared.Target.{Target}
 use Rattle.descriptor.specs.declared.Target.the-variants.{Local}
-use Rattle.descriptor.specs.Kinds.{stack}
+use Rattle.descriptor.specs.Fields.{undefinedWord}
+use Rattle.descriptor.specs.Kinds.{stack, isScalar}
 use Rattle.segment.specs.State.{lbase}
 use Rattle.procedure.specs.declared.header.Header.{Header}
 use Rattle.instruction.specs.declared.Address.{Address}
 use Rattle.instruction.specs.declared.MemoryOperation.{MemoryOperation}
 use Rattle.instruction.specs.declared.MemoryOperation.the-variants.{Assign, AssignNoResult}
+use Rattle.instruction.specs.declared.table.MemorySuboperation.{MemorySuboperation}
+use Rattle.instruction.specs.declared.table.MemorySuboperation.the-variants.{Defined}
 use Rattle.instruction.specs.declared.variable.FetchedAddress.{FetchedAddress}
 use Rattle.instruction.specs.declared.variable.FetchedAddress.the-variants.{At}
 use Rattle.instruction.specs.Reading.{cursorAt}
@@ -41,7 +45,14 @@ pub record Names (s : List ℕ) (variables : ℕ) (fetched : FetchedAddress) (en
   pub fetches : fetched ≡ At address (cursorAt end)
   pub stands : (h : Header) → variablesOf h ≡ variables → Stands s (resolve (seen s) h address) target i
 
+-- A word that names no array, and is no reference: a scalar, or undefined.
+abbrev pub isPlain : ℕ → Bool
+isPlain w = eqb w undefinedWord || isScalar w
+
 -- ASSIGN keeps the value on the stack, ASSIGN_NORESULT does not.
 abbrev pub assignment : Bool → MemoryOperation
 assignment true = Assign
 assignment false = AssignNoResult
+
+abbrev pub assigning : Bool → MemorySuboperation
+assigning keep = Defined (assignment keep)

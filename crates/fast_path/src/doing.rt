@@ -1,42 +1,35 @@
-// What the instructions of the short way do to the words.
+// What the instructions of the fast path do to the words.
 ghost use mathlib.Core.Path.{_≡_};
-ghost use mathlib.Core.Bool.{Bool, true, false, _||_};
+ghost use mathlib.Core.Bool.{true};
 ghost use Prim.Native.Nat.{_-_, _<_, _≤_};
-ghost use lib.Dec.{ltb, leb, eqb};
 ghost use lib.ListN.{length};
-ghost use Rattle.descriptor.specs.declared.Target.{Target};
-ghost use Rattle.descriptor.specs.Fields.{isArray, undefinedWord};
-ghost use Rattle.descriptor.specs.Kinds.{bit, isScalar};
+ghost use Rattle.descriptor.specs.Fields.{isArray};
+ghost use Rattle.descriptor.specs.Kinds.{isScalar};
 ghost use Rattle.segment.specs.State as fields;
-ghost use Rattle.procedure.specs.Headers.{codeStart, codeEnd};
-ghost use Rattle.manual.specs.OrTrap.{OrTrap};
-ghost use Rattle.manual.specs.Seen.{Variable};
 ghost use Rattle.manual.specs.Effects as effect;
 ghost use Rattle.manual.specs.Loads as loads;
 ghost use Rattle.manual.specs.Memory as memory;
 ghost use Rattle.manual.specs.Scalars as scalars;
-ghost use Rattle.manual.specs.Control as control;
 ghost use Rattle.manual.specs.Instructions.{memoryPlan};
-ghost use Rattle.effects.specs.Sources.{heldAt};
-ghost use Rattle.effects.specs.Seen.{seen};
 ghost use Rattle.effects.specs.Perform.{bottomOf, finish, perform};
-ghost use Rattle.fast_path.specs.Went.{Went};
-ghost use Rattle.fast_path.specs.Naming.{variableAt, Stands, assignment};
+ghost use Rattle.fast_path.specs.Answers.{CarriesOutIf, CarriesOutAt, CarriesOutHeld, CarriesOutGo};
+ghost use Rattle.fast_path.specs.Naming.{variableAt, isPlain, assignment};
+use descriptor::Descriptor;
+use descriptor::Kind;
+use descriptor::address::CodeAddress;
+use descriptor::address::SegmentAddress;
+use descriptor::address::StackAddress;
+use effects_code::taking;
+use effects_code::taking::finish;
+use effects_code::taking::replace_by_share;
+use effects_code::taking::replace_by_word;
+use effects_code::taking::top_cell;
 use operands::reading::count;
 use operands::reading::operand_at;
 use operands::reading::room;
 use operands::variables::held;
-use descriptor::Descriptor;
-use descriptor::Kind;
-use descriptor::address::StackAddress;
 use operator::Dyadic;
 use operator::Monadic;
-use effects_code::taking;
-use effects_code::taking::base;
-use effects_code::taking::replace_by_share;
-use effects_code::taking::replace_by_word;
-use effects_code::taking::top;
-use procedure::header::Header;
 use scalar::Answer;
 use segment::high;
 use segment::minus;
@@ -48,9 +41,9 @@ use segment::state::set_ltop;
 use segment::word;
 
 // What a variable holds, word i, or one that it refers to: a scalar or an array.
-pub fn load_from(seg: &mut [u32], i: usize, next: u32) -> bool
+pub fn load_from(seg: &mut [u32], i: usize, next: CodeAddress) -> bool
     requires { ⌜ length (now seg) ≤ 16384 ⌝ }
-    ensures { λ r. ⌜ ((resolved : OrTrap Variable) (t : Target) → Stands (now (seg .entry)) resolved t i → Went (now (seg .entry)) (loads.load (seen (now (seg .entry))) next resolved) r (now (seg .exit))) ⌝ }
+    ensures { λ r. ⌜ CarriesOutAt (now (seg .entry)) r (now (seg .exit)) i (λ sees. loads.load sees (next .0)) ⌝ }
 {
     let w = word(seg, i);
     if is_scalar(w) {
@@ -63,9 +56,9 @@ pub fn load_from(seg: &mut [u32], i: usize, next: u32) -> bool
 }
 
 // `w` is what the variable that was named holds.
-fn load_referred(seg: &mut [u32], w: u32, next: u32) -> bool
+fn load_referred(seg: &mut [u32], w: u32, next: CodeAddress) -> bool
     requires { ⌜ length (now seg) ≤ 16384 ⌝ }
-    ensures { λ r. ⌜ ((t : Target) → w ≡ heldAt (now (seg .entry)) t → Went (now (seg .entry)) (loads.load (seen (now (seg .entry))) next (variableAt (now (seg .entry)) t)) r (now (seg .exit))) ⌝ }
+    ensures { λ r. ⌜ CarriesOutHeld (now (seg .entry)) r (now (seg .exit)) w (λ sees t. loads.load sees (next .0) (variableAt (now (seg .entry)) t)) ⌝ }
 {
     let Kind::Indirect(t) = Descriptor::of(w).kind() else {
         return false;
@@ -80,9 +73,9 @@ fn load_referred(seg: &mut [u32], w: u32, next: u32) -> bool
     false
 }
 
-pub fn push(seg: &mut [u32], w: u32, next: u32) -> bool
+pub fn push(seg: &mut [u32], w: u32, next: CodeAddress) -> bool
     requires { ⌜ length (now seg) ≤ 16384 ⌝ }
-    ensures { λ r. ⌜ Went (now (seg .entry)) (loads.push (seen (now (seg .entry))) next (effect.word w)) r (now (seg .exit)) ⌝ }
+    ensures { λ r. ⌜ CarriesOutIf (now (seg .entry)) r (now (seg .exit)) (λ sees. loads.push sees (next .0) (effect.word w)) ⌝ }
 {
     if room(seg) < 1 {
         return false;
@@ -93,9 +86,9 @@ pub fn push(seg: &mut [u32], w: u32, next: u32) -> bool
 }
 
 // An array that a variable holds.
-fn push_array(seg: &mut [u32], w: u32, next: u32) -> bool
+fn push_array(seg: &mut [u32], w: u32, next: CodeAddress) -> bool
     requires { ⌜ length (now seg) ≤ 16384 ⌝ }
-    ensures { λ r. ⌜ ((t : Target) → w ≡ heldAt (now (seg .entry)) t → Went (now (seg .entry)) (loads.push (seen (now (seg .entry))) next (effect.variable t)) r (now (seg .exit))) ⌝ }
+    ensures { λ r. ⌜ CarriesOutHeld (now (seg .entry)) r (now (seg .exit)) w (λ sees t. loads.push sees (next .0) (effect.variable t)) ⌝ }
 {
     if room(seg) < 1 {
         return false;
@@ -105,8 +98,8 @@ fn push_array(seg: &mut [u32], w: u32, next: u32) -> bool
     true
 }
 
-pub fn monadic(seg: &mut [u32], op: Monadic, next: u32) -> bool
-    ensures { λ r. ⌜ Went (now (seg .entry)) (scalars.monadic (seen (now (seg .entry))) next op) r (now (seg .exit)) ⌝ }
+pub fn monadic(seg: &mut [u32], op: Monadic, next: CodeAddress) -> bool
+    ensures { λ r. ⌜ CarriesOutIf (now (seg .entry)) r (now (seg .exit)) (λ sees. scalars.monadic sees (next .0) op) ⌝ }
 {
     if count(seg) < 1 {
         return false;
@@ -125,8 +118,8 @@ pub fn monadic(seg: &mut [u32], op: Monadic, next: u32) -> bool
     }
 }
 
-pub fn dyadic(seg: &mut [u32], op: Dyadic, next: u32) -> bool
-    ensures { λ r. ⌜ Went (now (seg .entry)) (scalars.dyadic (seen (now (seg .entry))) next op) r (now (seg .exit)) ⌝ }
+pub fn dyadic(seg: &mut [u32], op: Dyadic, next: CodeAddress) -> bool
+    ensures { λ r. ⌜ CarriesOutIf (now (seg .entry)) r (now (seg .exit)) (λ sees. scalars.dyadic sees (next .0) op) ⌝ }
 {
     if count(seg) < 2 {
         return false;
@@ -154,16 +147,14 @@ fn replace(seg: &mut [u32], n: u32, w: u32)
     requires { ⌜ 0 < n ⌝ }
     ensures { λ _. ⌜ now (seg .exit) ≡ finish (now (seg .entry)) (bottomOf (now (seg .entry)) n) w ⌝ }
 {
-    let base = base(seg) as u32;
-    let b = minus(base + top(seg) as u32 + 1, n);
-    put(seg, 0, base * 0x1_0000 + minus(b, base));
-    put(seg, b as usize, w);
+    let b = minus(top_cell(seg).number() + 1, n);
+    finish(seg, SegmentAddress::of(b), w);
 }
 
 // A scalar is assigned to a variable, word i, that holds a scalar or nothing. Word 0 says where the operand is.
-pub fn store(seg: &mut [u32], i: usize, keep: bool, next: u32) -> bool
+pub fn store(seg: &mut [u32], i: usize, keep: bool, next: CodeAddress) -> bool
     requires { ⌜ 0 < i ⌝ }
-    ensures { λ r. ⌜ ((resolved : OrTrap Variable) (t : Target) → Stands (now (seg .entry)) resolved t i → Went (now (seg .entry)) (memoryPlan (seen (now (seg .entry))) next (assignment keep) resolved) r (now (seg .exit))) ⌝ }
+    ensures { λ r. ⌜ CarriesOutAt (now (seg .entry)) r (now (seg .exit)) i (λ sees. memoryPlan sees (next .0) (assignment keep)) ⌝ }
 {
     if count(seg) < 1 {
         return false;
@@ -184,8 +175,8 @@ pub fn store(seg: &mut [u32], i: usize, keep: bool, next: u32) -> bool
 }
 
 // EAT1. A scalar goes without a look at what it might name.
-pub fn eat(seg: &mut [u32], next: u32) -> bool
-    ensures { λ r. ⌜ Went (now (seg .entry)) (memory.eat (seen (now (seg .entry))) next) r (now (seg .exit)) ⌝ }
+pub fn eat(seg: &mut [u32], next: CodeAddress) -> bool
+    ensures { λ r. ⌜ CarriesOutIf (now (seg .entry)) r (now (seg .exit)) (λ sees. memory.eat sees (next .0)) ⌝ }
 {
     if count(seg) < 1 {
         return false;
@@ -199,7 +190,7 @@ pub fn eat(seg: &mut [u32], next: u32) -> bool
 }
 
 fn is_plain(w: u32) -> bool
-    ensures { λ r. ⌜ r ≡ (eqb w undefinedWord || isScalar w) ⌝ }
+    ensures { λ r. ⌜ r ≡ isPlain w ⌝ }
 {
     if w == Descriptor::UNDEFINED {
         return true;
@@ -219,8 +210,8 @@ fn is_array(w: u32) -> bool
     w / 0x1_0000 == 0x200
 }
 
-pub fn go(seg: &mut [u32], to: u32) -> bool
-    ensures { λ r. ⌜ (r ≡ true) × (now (seg .exit) ≡ perform (now (seg .entry)) (effect.jumps to)) ⌝ }
+pub fn go(seg: &mut [u32], to: CodeAddress) -> bool
+    ensures { λ r. ⌜ (r ≡ true) × (now (seg .exit) ≡ perform (now (seg .entry)) (effect.jumps (to .0))) ⌝ }
 {
     jump(seg, to);
     true
@@ -228,21 +219,21 @@ pub fn go(seg: &mut [u32], to: u32) -> bool
 
 // The current function goes on at that place. PCTR is written with the whole of its word: a read of the word right after its
 // half was written would wait for the write.
-fn jump(seg: &mut [u32], place: u32)
-    ensures { λ _. ⌜ now (seg .exit) ≡ perform (now (seg .entry)) (effect.jumps place) ⌝ }
+fn jump(seg: &mut [u32], place: CodeAddress)
+    ensures { λ _. ⌜ now (seg .exit) ≡ perform (now (seg .entry)) (effect.jumps (place .0)) ⌝ }
 {
-    if 0xFFFF < place {
+    if 0xFFFF < place.number() {
         taking::jump(seg, place);
         return;
     }
     let i = lbase(seg).index(sbase(seg)) + 1;
     let kept = high(word(seg, i)) as u32;
-    put(seg, i, kept * 0x1_0000 + place);
+    put(seg, i, kept * 0x1_0000 + place.number());
 }
 
 // The operand is the integer 0 or 1.
-pub fn go_if(seg: &mut [u32], wanted: u32, to: u32, next: u32) -> bool
-    ensures { λ r. ⌜ ((h : Header) (b : Bool) → wanted ≡ bit b → (ltb to codeStart || leb (codeEnd h) to) ≡ false → Went (now (seg .entry)) (control.goIf (seen (now (seg .entry))) h next b to) r (now (seg .exit))) ⌝ }
+pub fn go_if(seg: &mut [u32], wanted: u32, to: CodeAddress, next: CodeAddress) -> bool
+    ensures { λ r. ⌜ CarriesOutGo (now (seg .entry)) r (now (seg .exit)) wanted to next ⌝ }
 {
     if count(seg) < 1 {
         return false;

@@ -1,21 +1,19 @@
-// A short way for the instructions that run most, where nothing traps: scalars made, moved and combined, variables loaded and
+// A fast path for the instructions that run most, where nothing traps: scalars made, moved and combined, variables loaded and
 // assigned by any form of address, jumps. `false`: no word has changed, and the instruction is still to be done.
 ghost use mathlib.Core.Path.{_≡_};
-ghost use Prim.Native.Nat.{_+_, _-_, _*_, _%_, _^_, _≤_};
+ghost use Prim.Native.Nat.{_+_, _-_, _%_, _^_, _≤_};
 ghost use lib.ListN.{length};
-ghost use Rattle.instruction.specs.Reading.{cursorAt};
 ghost use Rattle.instruction.specs.Decoding as decoding;
-ghost use Rattle.manual.specs.Seen.{variablesOf};
 ghost use Rattle.manual.specs.Loads as loads;
 ghost use Rattle.manual.specs.Instructions as plan;
-ghost use Rattle.effects.specs.Seen.{seen};
-ghost use Rattle.fast_path.specs.Went.{Went, WentBy, WentAt};
-ghost use Rattle.fast_path.specs.Naming.{assignment};
+ghost use Rattle.fast_path.specs.Answers.{CarriesOutIf, CarriesOutIn, Any, WithHeader, WithVariables, past};
+ghost use Rattle.fast_path.specs.Naming.{assigning};
 
 mod doing;
 mod naming;
 
 use descriptor::Descriptor;
+use descriptor::address::CodeAddress;
 use doing::dyadic;
 use doing::eat;
 use doing::go;
@@ -34,9 +32,10 @@ use instruction::table::EtcSuboperation;
 use instruction::table::MemorySuboperation;
 use instruction::table::etc_of;
 use instruction::table::memory_of;
+use naming::half;
 use naming::local;
 use naming::long;
-use naming::variables;
+use operands::variables::variables;
 use operator::Operator;
 use operator::Suboperation;
 use operator::operator_of;
@@ -44,14 +43,14 @@ use procedure::header::Header;
 use segment::word;
 
 // The instruction at a place of the code of a function with that header.
-pub fn quick(seg: &mut [u32], h: Header, code: &[u8], place: u32) -> bool
+pub fn try_fast(seg: &mut [u32], h: Header, code: &[u8], place: CodeAddress) -> bool
     requires { ⌜ length (now seg) ≤ 16384 ⌝ }
-    ensures { λ r. ⌜ WentAt (now (seg .entry)) h (now (code .entry)) place r (now (seg .exit)) ⌝ }
+    ensures { λ r. ⌜ CarriesOutIn (now (seg .entry)) r (now (seg .exit)) (WithHeader h) (decoding.instructionAt (now (code .entry)) (place .0)) ⌝ }
 {
-    if place < 8 {
+    let at = place.number() as usize;
+    if at < 8 {
         return false;
     }
-    let at = place as usize;
     if code.len() <= at {
         return false;
     }
@@ -70,9 +69,9 @@ pub fn quick(seg: &mut [u32], h: Header, code: &[u8], place: u32) -> bool
 }
 
 // A local next to the frame, by its address of one byte. It mostly holds a scalar, which is pushed here, with no further call.
-fn load_local(seg: &mut [u32], variables: u32, first: u8, next: u32) -> bool
+fn load_local(seg: &mut [u32], variables: u32, first: u8, next: CodeAddress) -> bool
     requires { ⌜ length (now seg) ≤ 16384 ⌝ }
-    ensures { λ r. ⌜ Went (now (seg .entry)) (loads.load (seen (now (seg .entry))) next (seen (now (seg .entry)) .local variables (64 - first % 2 ^ 6))) r (now (seg .exit)) ⌝ }
+    ensures { λ r. ⌜ CarriesOutIf (now (seg .entry)) r (now (seg .exit)) (λ sees. loads.load sees (next .0) (sees .local variables (64 - first % 2 ^ 6))) ⌝ }
 {
     let v = 64 - first as u32 % 64;
     let i = local(seg, variables, v);
@@ -93,23 +92,30 @@ fn load_long(
     code: &[u8],
     first: u8,
     family: Family,
-    place: u32,
+    place: CodeAddress,
 ) -> bool
     requires { ⌜ length (now seg) ≤ 16384 ⌝ }
-    ensures { λ r. ⌜ ((h : Header) → variablesOf h ≡ variables → WentBy (now (seg .entry)) h (decoding.loadAt (now (code .entry)) (cursorAt (place + 1)) first family) r (now (seg .exit))) ⌝ }
+    ensures { λ r. ⌜ CarriesOutIn (now (seg .entry)) r (now (seg .exit)) (WithVariables variables) (decoding.loadAt (now (code .entry)) (past place) first family) ⌝ }
 {
-    let i = long(seg, variables, code, first, family, place as usize + 1);
+    let i = long(
+        seg,
+        variables,
+        code,
+        first,
+        family,
+        place.number() as usize + 1,
+    );
     if i == 0 {
         return false;
     }
     load_from(seg, i, after(place, 2))
 }
 
-fn short_constant(seg: &mut [u32], code: &[u8], first: u8, place: u32) -> bool
+fn short_constant(seg: &mut [u32], code: &[u8], first: u8, place: CodeAddress) -> bool
     requires { ⌜ length (now seg) ≤ 16384 ⌝ }
-    ensures { λ r. ⌜ ((h : Header) → WentBy (now (seg .entry)) h (decoding.shortConstantAt (now (code .entry)) (cursorAt (place + 1)) first) r (now (seg .exit))) ⌝ }
+    ensures { λ r. ⌜ CarriesOutIn (now (seg .entry)) r (now (seg .exit)) Any (decoding.shortConstantAt (now (code .entry)) (past place) first) ⌝ }
 {
-    let at = place as usize + 1;
+    let at = place.number() as usize + 1;
     if code.len() <= at {
         return false;
     }
@@ -118,8 +124,8 @@ fn short_constant(seg: &mut [u32], code: &[u8], first: u8, place: u32) -> bool
     push(seg, w, after(place, 2))
 }
 
-fn scalar_operation(seg: &mut [u32], sub: Suboperation, place: u32) -> bool
-    ensures { λ r. ⌜ ((h : Header) → WentBy (now (seg .entry)) h (decoding.scalarAt sub (cursorAt (place + 1))) r (now (seg .exit))) ⌝ }
+fn scalar_operation(seg: &mut [u32], sub: Suboperation, place: CodeAddress) -> bool
+    ensures { λ r. ⌜ CarriesOutIn (now (seg .entry)) r (now (seg .exit)) Any (decoding.scalarAt sub (past place)) ⌝ }
 {
     let Suboperation::Defined(operator) = sub else {
         return false;
@@ -130,8 +136,14 @@ fn scalar_operation(seg: &mut [u32], sub: Suboperation, place: u32) -> bool
     }
 }
 
-fn memory(seg: &mut [u32], variables: u32, code: &[u8], sub: MemorySuboperation, place: u32) -> bool
-    ensures { λ r. ⌜ ((h : Header) → variablesOf h ≡ variables → WentBy (now (seg .entry)) h (decoding.memoryAt (now (code .entry)) (cursorAt (place + 1)) sub) r (now (seg .exit))) ⌝ }
+fn memory(
+    seg: &mut [u32],
+    variables: u32,
+    code: &[u8],
+    sub: MemorySuboperation,
+    place: CodeAddress,
+) -> bool
+    ensures { λ r. ⌜ CarriesOutIn (now (seg .entry)) r (now (seg .exit)) (WithVariables variables) (decoding.memoryAt (now (code .entry)) (past place) sub) ⌝ }
 {
     let MemorySuboperation::Defined(operation) = sub else {
         return false;
@@ -146,10 +158,10 @@ fn memory(seg: &mut [u32], variables: u32, code: &[u8], sub: MemorySuboperation,
 }
 
 // ASSIGN keeps the value on the stack, ASSIGN_NORESULT does not.
-fn assign(seg: &mut [u32], variables: u32, code: &[u8], keep: bool, place: u32) -> bool
-    ensures { λ r. ⌜ ((h : Header) → variablesOf h ≡ variables → WentBy (now (seg .entry)) h (decoding.memoryAt (now (code .entry)) (cursorAt (place + 1)) (MemorySuboperation.Defined (assignment keep))) r (now (seg .exit))) ⌝ }
+fn assign(seg: &mut [u32], variables: u32, code: &[u8], keep: bool, place: CodeAddress) -> bool
+    ensures { λ r. ⌜ CarriesOutIn (now (seg .entry)) r (now (seg .exit)) (WithVariables variables) (decoding.memoryAt (now (code .entry)) (past place) (assigning keep)) ⌝ }
 {
-    let at = place as usize + 1;
+    let at = place.number() as usize + 1;
     if code.len() <= at {
         return false;
     }
@@ -168,9 +180,9 @@ fn assign(seg: &mut [u32], variables: u32, code: &[u8], keep: bool, place: u32) 
     store(seg, i, keep, after(place, 3))
 }
 
-fn etc(seg: &mut [u32], h: Header, code: &[u8], sub: EtcSuboperation, place: u32) -> bool
+fn etc(seg: &mut [u32], h: Header, code: &[u8], sub: EtcSuboperation, place: CodeAddress) -> bool
     requires { ⌜ length (now seg) ≤ 16384 ⌝ }
-    ensures { λ r. ⌜ WentBy (now (seg .entry)) h (decoding.etcAt (now (code .entry)) (cursorAt (place + 1)) sub) r (now (seg .exit)) ⌝ }
+    ensures { λ r. ⌜ CarriesOutIn (now (seg .entry)) r (now (seg .exit)) (WithHeader h) (decoding.etcAt (now (code .entry)) (past place) sub) ⌝ }
 {
     match sub {
         EtcSuboperation::Jump(kind) => jump_to(seg, h, code, kind, place),
@@ -184,8 +196,8 @@ fn etc(seg: &mut [u32], h: Header, code: &[u8], sub: EtcSuboperation, place: u32
     }
 }
 
-fn stack_operation(seg: &mut [u32], op: StackOperation, next: u32) -> bool
-    ensures { λ r. ⌜ Went (now (seg .entry)) (plan.stackPlan (seen (now (seg .entry))) next op) r (now (seg .exit)) ⌝ }
+fn stack_operation(seg: &mut [u32], op: StackOperation, next: CodeAddress) -> bool
+    ensures { λ r. ⌜ CarriesOutIf (now (seg .entry)) r (now (seg .exit)) (λ sees. plan.stackPlan sees (next .0) op) ⌝ }
 {
     match op {
         StackOperation::Eat1 => eat(seg, next),
@@ -196,11 +208,11 @@ fn stack_operation(seg: &mut [u32], op: StackOperation, next: u32) -> bool
     }
 }
 
-fn constant_scalar(seg: &mut [u32], code: &[u8], place: u32) -> bool
+fn constant_scalar(seg: &mut [u32], code: &[u8], place: CodeAddress) -> bool
     requires { ⌜ length (now seg) ≤ 16384 ⌝ }
-    ensures { λ r. ⌜ ((h : Header) → WentBy (now (seg .entry)) h (decoding.constantScalarAt (now (code .entry)) (cursorAt (place + 1))) r (now (seg .exit))) ⌝ }
+    ensures { λ r. ⌜ CarriesOutIn (now (seg .entry)) r (now (seg .exit)) Any (decoding.constantScalarAt (now (code .entry)) (past place)) ⌝ }
 {
-    let at = place as usize + 1;
+    let at = place.number() as usize + 1;
     if code.len() <= at + 3 {
         return false;
     }
@@ -213,20 +225,21 @@ fn constant_scalar(seg: &mut [u32], code: &[u8], place: u32) -> bool
     false
 }
 
-fn jump_to(seg: &mut [u32], h: Header, code: &[u8], kind: Jump, place: u32) -> bool
-    ensures { λ r. ⌜ WentBy (now (seg .entry)) h (decoding.jumpAt (now (code .entry)) (cursorAt (place + 1)) kind) r (now (seg .exit)) ⌝ }
+fn jump_to(seg: &mut [u32], h: Header, code: &[u8], kind: Jump, place: CodeAddress) -> bool
+    ensures { λ r. ⌜ CarriesOutIn (now (seg .entry)) r (now (seg .exit)) (WithHeader h) (decoding.jumpAt (now (code .entry)) (past place) kind) ⌝ }
 {
-    let at = place as usize + 1;
+    let at = place.number() as usize + 1;
     if code.len() <= at + 1 {
         return false;
     }
-    let to = half(code[at], code[at + 1]) as u32;
-    if to < 8 {
+    let number = half(code[at], code[at + 1]) as u32;
+    if number < 8 {
         return false;
     }
-    if 8 + 4 * h.ncode as u32 <= to {
+    if 8 + 4 * h.ncode as u32 <= number {
         return false;
     }
+    let to = CodeAddress::of(number);
     match kind {
         Jump::Go => go(seg, to),
         Jump::GoTrue => go_if(seg, 1, to, after(place, 3)),
@@ -234,16 +247,9 @@ fn jump_to(seg: &mut [u32], h: Header, code: &[u8], kind: Jump, place: u32) -> b
     }
 }
 
-// Two bytes of code, the high one first.
-fn half(high: u8, low: u8) -> u16
-    ensures { λ r. ⌜ r ≡ high * 2 ^ 8 + low ⌝ }
-{
-    high as u16 * 0x100 + low as u16
-}
-
 // The place so many bytes on in the code, as 32 bits.
-fn after(place: u32, bytes: u32) -> u32
-    ensures { λ r. ⌜ r ≡ (place + bytes) % 2 ^ 32 ⌝ }
+fn after(place: CodeAddress, bytes: u32) -> CodeAddress
+    ensures { λ r. ⌜ r .0 ≡ (place .0 + bytes) % 2 ^ 32 ⌝ }
 {
-    ((place as usize + bytes as usize) % 0x1_0000_0000) as u32
+    CodeAddress::of(((place.number() as usize + bytes as usize) % 0x1_0000_0000) as u32)
 }

@@ -1,16 +1,14 @@
 // The variables that addresses in the code name: where they stand in the segment.
 ghost use mathlib.Core.Path.{_≡_};
-ghost use Prim.Native.Nat.{_+_, _*_, _≤_, _%_, _^_};
+ghost use Prim.Native.Nat.{_+_, _*_, _≤_, _^_};
 ghost use Rattle.descriptor.specs.Kinds.{segment};
 ghost use Rattle.descriptor.specs.declared.Target.the-variants as T;
 ghost use Rattle.instruction.specs.Reading.{cursorAt};
 ghost use Rattle.instruction.specs.Variables.{addressIn};
-ghost use Rattle.manual.specs.Seen.{variablesOf};
 ghost use Rattle.effects.specs.Seen.{seen};
 ghost use Rattle.fast_path.specs.Naming.{localOf, Stands, Names};
 use descriptor::address::StackAddress;
 use instruction::family::Family;
-use procedure::header::Header;
 use segment::minus;
 use segment::state::blockptr;
 use segment::state::lbase;
@@ -24,8 +22,8 @@ pub fn long(seg: &[u32], variables: u32, code: &[u8], first: u8, family: Family,
         return 0;
     }
     match family {
-        Family::LongLocal => local(seg, variables, 4096 - twelve(first, code[at])),
-        Family::LongGlobal => global(seg, twelve(first, code[at])),
+        Family::LongLocal => local(seg, variables, 4096 - half(first, code[at]) as u32 % 0x1000),
+        Family::LongGlobal => global(seg, half(first, code[at]) as u32 % 0x1000),
         Family::ShortLocal => 0,
         Family::ShortConst => 0,
         Family::GenScalar => 0,
@@ -59,15 +57,9 @@ fn global(seg: &[u32], g: u32) -> usize
     g as usize
 }
 
-pub fn variables(h: Header) -> u32
-    ensures { λ r. ⌜ r ≡ variablesOf h ⌝ }
+// Two bytes of code, the high one first.
+pub fn half(high: u8, low: u8) -> u16
+    ensures { λ r. ⌜ r ≡ high * 2 ^ 8 + low ⌝ }
 {
-    h.nargs as u32 + h.nlocals as u32
-}
-
-// Twelve bits of two bytes.
-fn twelve(high: u8, low: u8) -> u32
-    ensures { λ r. ⌜ r ≡ (high * 2 ^ 8 + low) % 2 ^ 12 ⌝ }
-{
-    (high as u32 * 0x100 + low as u32) % 0x1000
+    high as u16 * 0x100 + low as u16
 }

@@ -6,7 +6,8 @@ use mathlib.Core.List.{List, [], _∷_, _++_}
 use lib.Dec.{ltb, eqb}
 use Rattle.scalar.specs.Reading.{wholeOf}
 use Rattle.procedure.specs.declared.header.Header.{Header}
-use Rattle.procedure.specs.declared.header.Line.{Line}
+use Rattle.procedure.specs.declared.header.Block.{Block}
+use Rattle.procedure.specs.Headers.{lineOf}
 use Rattle.procedure.specs.Directory.{selected, inDirectory, headerOfFunction}
 use Rattle.manual.specs.OrTrap.{OrTrap, gives, trap, stopIf}
 use Rattle.manual.specs.Values as values
@@ -26,12 +27,12 @@ abbrev pub leftBy : Leaving → Header → List Effect → Plan
 leftBy L.Allowed h before = gives (before ++ (leaves (variablesOf h) (h .result) ∷ []))
 leftBy (L.Trap class number) h before = trap class number
 
--- BRANCH by its operand's value.
-abbrev pub branchBy : Seen → Header → (ℕ → Line) → ℕ → values.Value → Plan
-branchBy seen h line next v =
+-- BRANCH by its operand's value, in the function of a block of the procedure segment `p`.
+abbrev pub branchBy : Seen → List ℕ → Block → ℕ → values.Value → Plan
+branchBy seen p block next v =
     stopIf (ltb 1 (values.rank v)) 5 0
     (cond (eqb (values.size v) 0) (gives (discards 1 ∷ jumps next ∷ []))
-    (control.branchTo seen h line (wholeOf (values.first (v .ravel)))))
+    (control.branchTo seen (block .header) (lineOf p block) (wholeOf (values.first (v .ravel)))))
 
 -- CALL with these procedure segments: `callPlan` of a function that runs with them.
 abbrev pub callIn : List ℕ → List ℕ → Seen → ℕ → ℕ → Bool → ℕ → Plan

@@ -6,30 +6,29 @@ ghost use Prim.Native.Nat.{_^_, _≤_, _<_, _-_};
 ghost use lib.ListN.{length};
 ghost use Rattle.procedure.specs.Directory as directory;
 ghost use Rattle.manual.specs.Effects as effect;
-ghost use Rattle.manual.specs.Seen.{variablesOf};
 ghost use Rattle.manual.specs.Loads as loads;
 ghost use Rattle.manual.specs.Control as control;
 ghost use Rattle.effects.specs.Seen.{seen};
-ghost use Rattle.effects.specs.Carried.{did, carry};
+ghost use Rattle.effects.specs.Carried.{CarriesOut};
 ghost use Rattle.instructions_control.specs.Answers as answers;
-use operands::reading::count;
-use operands::reading::is_undefined;
-use operands::reading::room;
+use descriptor::address::CodeAddress;
 use effects::Outcome;
 use effects_code::frames::enter;
 use effects_code::frames::leave;
-use effects_code::taking::base;
+use effects_code::frames::result_word;
 use effects_code::taking::discard;
 use effects_code::taking::jump;
+use operands::reading::count;
+use operands::reading::is_undefined;
+use operands::reading::room;
+use operands::variables::variables;
 use procedure::directory::in_directory;
 use procedure::directory::start_of;
 use procedure::header::Header;
 use procedure::header::header_at;
-use segment::high;
 use segment::minus;
 use segment::stack::last_lbase;
 use segment::state::lbase;
-use segment::word;
 
 // Whether the current function can be left.
 pub enum Leaving {
@@ -45,10 +44,10 @@ pub fn call(
     arguments: u16,
     alternate: bool,
     number: u16,
-    next: u32,
+    next: CodeAddress,
 ) -> Outcome
     requires { ⌜ (number < 2 ^ 11) × (length (now seg) ≤ 16384) ⌝ }
-    ensures { λ r. ⌜ did r (now (seg .exit)) ≡ carry (now (seg .entry)) (answers.callIn (now (regular .entry)) (now (other .entry)) (seen (now (seg .entry))) next arguments alternate number) ⌝ }
+    ensures { λ r. ⌜ CarriesOut (now (seg .entry)) r (now (seg .exit)) (λ sees. answers.callIn (now (regular .entry)) (now (other .entry)) sees (next .0) arguments alternate number) ⌝ }
 {
     if in_directory(alternate, regular, other, number) {
         let h = called(alternate, regular, other, number);
@@ -57,7 +56,8 @@ pub fn call(
     Outcome::Trapped(3, 1)
 }
 
-fn called(alternate: bool, regular: &[u8], other: &[u8], number: u16) -> Header
+// The header of function `number`, in the segment that P names.
+pub fn called(alternate: bool, regular: &[u8], other: &[u8], number: u16) -> Header
     ensures { λ r. ⌜ r ≡ directory.headerOfFunction (directory.selected alternate (now (regular .entry)) (now (other .entry))) number ⌝ }
 {
     if alternate {
@@ -72,10 +72,10 @@ fn call_into(
     arguments: u16,
     alternate: bool,
     number: u16,
-    next: u32,
+    next: CodeAddress,
 ) -> Outcome
     requires { ⌜ (number < 2 ^ 11) × (length (now seg) ≤ 16384) ⌝ }
-    ensures { λ r. ⌜ did r (now (seg .exit)) ≡ carry (now (seg .entry)) (control.call (seen (now (seg .entry))) next called alternate number arguments) ⌝ }
+    ensures { λ r. ⌜ CarriesOut (now (seg .entry)) r (now (seg .exit)) (λ sees. control.call sees (next .0) called alternate number arguments) ⌝ }
 {
     if count(seg) < arguments as u32 {
         return Outcome::Trapped(3, 4);
@@ -104,7 +104,7 @@ fn frame_word(alternate: bool, number: u16) -> u32
 
 // RETURN.
 pub fn return_from(seg: &mut [u32], h: Header) -> Outcome
-    ensures { λ r. ⌜ did r (now (seg .exit)) ≡ carry (now (seg .entry)) (control.return (seen (now (seg .entry))) h) ⌝ }
+    ensures { λ r. ⌜ CarriesOut (now (seg .entry)) r (now (seg .exit)) (λ sees. control.return sees h) ⌝ }
 {
     match may_leave(seg, h, count(seg)) {
         Leaving::Trap(class, number) => Outcome::Trapped(class, number),
@@ -117,7 +117,7 @@ pub fn return_from(seg: &mut [u32], h: Header) -> Outcome
 
 // BRANCH to no line: its operand goes first of all.
 pub fn leave_by_branch(seg: &mut [u32], h: Header) -> Outcome
-    ensures { λ r. ⌜ did r (now (seg .exit)) ≡ carry (now (seg .entry)) (control.leaving (seen (now (seg .entry))) h (seen (now (seg .entry)) .count - 1) (effect.discards 1 ∷ [])) ⌝ }
+    ensures { λ r. ⌜ CarriesOut (now (seg .entry)) r (now (seg .exit)) (λ sees. control.leaving sees h (sees .count - 1) (effect.discards 1 ∷ [])) ⌝ }
 {
     match may_leave(seg, h, minus(count(seg), 1)) {
         Leaving::Trap(class, number) => Outcome::Trapped(class, number),
@@ -158,14 +158,7 @@ fn lacks_result(seg: &[u32], result: bool) -> bool
     ensures { λ r. ⌜ r ≡ (result && loads.isUndefined (seen (now (seg .entry)) .result result)) ⌝ }
 {
     if result {
-        let above = base(seg) as u32 + high(word(seg, 1)) as u32;
-        return is_undefined(word(seg, minus(above, 1) as usize));
+        return is_undefined(result_word(seg));
     }
     false
-}
-
-fn variables(h: Header) -> u32
-    ensures { λ r. ⌜ r ≡ variablesOf h ⌝ }
-{
-    h.nargs as u32 + h.nlocals as u32
 }

@@ -4,7 +4,6 @@ ghost use mathlib.Core.Bool.{true, cond, not, _||_};
 ghost use mathlib.Core.List.{[], _∷_};
 ghost use lib.Dec.{ltb, leb};
 ghost use Rattle.scalar.specs.Reading.{wholeOf, truthOf};
-ghost use Rattle.segment.specs.Blocks as layout;
 ghost use Rattle.procedure.specs.Headers as headers;
 ghost use Rattle.manual.specs.OrTrap.{andThen};
 ghost use Rattle.manual.specs.Values as values;
@@ -12,20 +11,22 @@ ghost use Rattle.manual.specs.Scalars.{valueOf};
 ghost use Rattle.manual.specs.Effects as effect;
 ghost use Rattle.manual.specs.Control as control;
 ghost use Rattle.effects.specs.Perform.{performs};
-ghost use Rattle.effects.specs.Seen.{read, seen, whole};
-ghost use Rattle.effects.specs.Carried.{did, carry};
+ghost use Rattle.effects.specs.Seen.{read, whole};
+ghost use Rattle.effects.specs.Carried.{CarriesOut};
+ghost use Rattle.operands.specs.Operands.{held};
 ghost use Rattle.instructions_control.specs.Answers as answers;
 use crate::calls::leave_by_branch;
+use descriptor::address::CodeAddress;
+use descriptor::address::SegmentAddress;
+use effects::Outcome;
+use effects_code::taking::discard;
+use effects_code::taking::jump;
 use operands::reading::Operand;
 use operands::reading::Value;
 use operands::reading::count;
 use operands::reading::elements_of;
 use operands::reading::operand_at;
 use operands::reading::value_of;
-use descriptor::address::SegmentAddress;
-use effects::Outcome;
-use effects_code::taking::discard;
-use effects_code::taking::jump;
 use procedure::header::Block;
 use procedure::header::Header;
 use procedure::header::Line;
@@ -39,8 +40,8 @@ pub enum Condition {
     Trap(u8, u8),
 }
 
-pub fn go(seg: &mut [u32], h: Header, place: u32) -> Outcome
-    ensures { λ r. ⌜ did r (now (seg .exit)) ≡ carry (now (seg .entry)) (control.go h place) ⌝ }
+pub fn go(seg: &mut [u32], h: Header, place: CodeAddress) -> Outcome
+    ensures { λ r. ⌜ CarriesOut (now (seg .entry)) r (now (seg .exit)) (λ _. control.go h (place .0)) ⌝ }
 {
     if outside(h, place) {
         return Outcome::Trapped(3, 1);
@@ -50,8 +51,14 @@ pub fn go(seg: &mut [u32], h: Header, place: u32) -> Outcome
 }
 
 // GO_TRUE and GO_FALSE.
-pub fn go_if(seg: &mut [u32], h: Header, wanted: bool, place: u32, next: u32) -> Outcome
-    ensures { λ r. ⌜ did r (now (seg .exit)) ≡ carry (now (seg .entry)) (control.goIf (seen (now (seg .entry))) h next wanted place) ⌝ }
+pub fn go_if(
+    seg: &mut [u32],
+    h: Header,
+    wanted: bool,
+    place: CodeAddress,
+    next: CodeAddress,
+) -> Outcome
+    ensures { λ r. ⌜ CarriesOut (now (seg .entry)) r (now (seg .exit)) (λ sees. control.goIf sees h (next .0) wanted (place .0)) ⌝ }
 {
     if count(seg) < 1 {
         return Outcome::Trapped(3, 4);
@@ -68,8 +75,8 @@ pub fn go_if(seg: &mut [u32], h: Header, wanted: bool, place: u32, next: u32) ->
     }
 }
 
-pub fn branch(seg: &mut [u32], p: &[u8], block: Block, next: u32) -> Outcome
-    ensures { λ r. ⌜ did r (now (seg .exit)) ≡ carry (now (seg .entry)) (control.branch (seen (now (seg .entry))) (block .header) (headers.lineOf (now (p .entry)) block) next) ⌝ }
+pub fn branch(seg: &mut [u32], p: &[u8], block: Block, next: CodeAddress) -> Outcome
+    ensures { λ r. ⌜ CarriesOut (now (seg .entry)) r (now (seg .exit)) (λ sees. control.branch sees (block .header) (headers.lineOf (now (p .entry)) block) (next .0)) ⌝ }
 {
     if count(seg) < 1 {
         return Outcome::Trapped(3, 4);
@@ -84,9 +91,15 @@ pub fn branch(seg: &mut [u32], p: &[u8], block: Block, next: u32) -> Outcome
 }
 
 // A vector's first element is the line; an empty vector only goes.
-fn branch_by(seg: &mut [u32], p: &[u8], block: Block, next: u32, array: SegmentAddress) -> Outcome
+fn branch_by(
+    seg: &mut [u32],
+    p: &[u8],
+    block: Block,
+    next: CodeAddress,
+    array: SegmentAddress,
+) -> Outcome
     requires { ⌜ whole (now seg) (array .0) ≡ true ⌝ }
-    ensures { λ r. ⌜ did r (now (seg .exit)) ≡ carry (now (seg .entry)) (answers.branchBy (seen (now (seg .entry))) (block .header) (headers.lineOf (now (p .entry)) block) next (values.value (layout.shapeAt (now (seg .entry)) (array .0)) (layout.elementsAt (now (seg .entry)) (array .0)))) ⌝ }
+    ensures { λ r. ⌜ CarriesOut (now (seg .entry)) r (now (seg .exit)) (λ sees. answers.branchBy sees (now (p .entry)) block (next .0) (held (now (seg .entry)) (Value.Array array))) ⌝ }
 {
     if 1 < rank(seg, array) {
         return Outcome::Trapped(5, 0);
@@ -101,7 +114,7 @@ fn branch_by(seg: &mut [u32], p: &[u8], block: Block, next: u32, array: SegmentA
 }
 
 fn branch_on(seg: &mut [u32], p: &[u8], block: Block, w: u32) -> Outcome
-    ensures { λ r. ⌜ did r (now (seg .exit)) ≡ carry (now (seg .entry)) (control.branchTo (seen (now (seg .entry))) (block .header) (headers.lineOf (now (p .entry)) block) (wholeOf w)) ⌝ }
+    ensures { λ r. ⌜ CarriesOut (now (seg .entry)) r (now (seg .exit)) (λ sees. control.branchTo sees (block .header) (headers.lineOf (now (p .entry)) block) (wholeOf w)) ⌝ }
 {
     match scalar::reading::whole(w) {
         Whole::Character => Outcome::Trapped(7, 0),
@@ -115,10 +128,10 @@ fn branch_on(seg: &mut [u32], p: &[u8], block: Block, w: u32) -> Outcome
 
 // To the line of that number, or out of the function.
 fn branch_to(seg: &mut [u32], p: &[u8], block: Block, number: u32) -> Outcome
-    ensures { λ r. ⌜ did r (now (seg .exit)) ≡ carry (now (seg .entry)) (control.lineOrLeave (seen (now (seg .entry))) (block .header) (headers.lineOf (now (p .entry)) block number)) ⌝ }
+    ensures { λ r. ⌜ CarriesOut (now (seg .entry)) r (now (seg .exit)) (λ sees. control.lineOrLeave sees (block .header) (headers.lineOf (now (p .entry)) block number)) ⌝ }
 {
     match block.line(p, number) {
-        Line::At(place) => jump_to(seg, block.header, place.number()),
+        Line::At(place) => jump_to(seg, block.header, place),
         Line::Absent => leave_by_branch(seg, block.header),
     }
 }
@@ -130,8 +143,8 @@ fn line_number(negative: bool, magnitude: u32) -> u32
 }
 
 // The operand goes, and the function goes on at that place of its code.
-fn jump_to(seg: &mut [u32], h: Header, place: u32) -> Outcome
-    ensures { λ r. ⌜ did r (now (seg .exit)) ≡ carry (now (seg .entry)) (control.jumpTo h place (effect.discards 1 ∷ [])) ⌝ }
+fn jump_to(seg: &mut [u32], h: Header, place: CodeAddress) -> Outcome
+    ensures { λ r. ⌜ CarriesOut (now (seg .entry)) r (now (seg .exit)) (λ _. control.jumpTo h (place .0) (effect.discards 1 ∷ [])) ⌝ }
 {
     if outside(h, place) {
         return Outcome::Trapped(3, 1);
@@ -140,21 +153,21 @@ fn jump_to(seg: &mut [u32], h: Header, place: u32) -> Outcome
     Outcome::Finished
 }
 
-fn go_on(seg: &mut [u32], place: u32)
-    ensures { λ _. ⌜ now (seg .exit) ≡ performs (now (seg .entry)) (effect.discards 1 ∷ effect.jumps place ∷ []) ⌝ }
+fn go_on(seg: &mut [u32], place: CodeAddress)
+    ensures { λ _. ⌜ now (seg .exit) ≡ performs (now (seg .entry)) (effect.discards 1 ∷ effect.jumps (place .0) ∷ []) ⌝ }
 {
     discard(seg, 1);
     jump(seg, place);
 }
 
 // Whether the place is none of the function's code.
-fn outside(h: Header, place: u32) -> bool
-    ensures { λ r. ⌜ r ≡ (ltb place headers.codeStart || leb (headers.codeEnd h) place) ⌝ }
+fn outside(h: Header, place: CodeAddress) -> bool
+    ensures { λ r. ⌜ r ≡ (ltb (place .0) headers.codeStart || leb (headers.codeEnd h) (place .0)) ⌝ }
 {
-    if place < 8 {
+    if place.number() < 8 {
         return true;
     }
-    8 + 4 * h.ncode as u32 <= place
+    8 + 4 * h.ncode as u32 <= place.number()
 }
 
 fn taken(wanted: bool, b: bool) -> bool

@@ -1,9 +1,16 @@
 use mathlib.Core.Path.{refl, sym, _∙_}
-use Rattle.fast_path.proofs.Answers.{left-by}
+use native.Mathlib.Omega.{arith}
+use Rattle.fast_path.proofs.Answers.{left}
 use Rattle.fast_path.proofs.Decoding.{constant-scalar-by}
 use borrow.Author.Needs.{needs}
 use Rattle.fast_path.proofs.constant_scalar.Statement.{statement}
 use Rattle.fast_path.proofs.constant_scalar.Tie as tie
+
+number-requires : tie.Need-number-requires
+number-requires c κs = search needs
+
+cast-at : tie.Need-cast-at
+cast-at c = search needs
 
 add-at : tie.Need-add-at
 add-at c = search needs
@@ -12,7 +19,7 @@ add-if1 : tie.Need-add-if1
 add-if1 c = search needs
 
 returns : tie.Need-returns
-returns c = λ h. left-by
+returns c = λ f. λ of. left
 
 shared-slice-read-half : tie.Need-shared-slice-read-half
 shared-slice-read-half c = search needs
@@ -66,15 +73,17 @@ same-length : tie.Need-same-length
 same-length c = search needs
 
 returns-2 : tie.Need-returns-2
-returns-2 c = λ h. constant-scalar-by _ h _ _ (c .before .before .before .before .before .before .before .before .before .before .before .before .before .if1 .left) (c .before .before .before .before .before .before .before .before .before .before .half .ensures) (c .before .before .before .before .before .before .before .half2 .ensures) refl (c .before .before .before .after .ensures) (sym (c .before .before .before .before .before .before .is-scalar .ensures) ∙ c .before .before .before .before .before .if2 .taken) (c .before .before .push .ensures)
+returns-2 c = λ f. λ of. constant-scalar-by _ f _ _ (omega arith) (cc) (cc) refl (c .before .before .before .after .ensures) (sym (c .before .before .before .before .before .before .is-scalar .ensures) ∙ c .before .before .before .before .before .if2 .taken) (c .before .before .push .ensures)
 
 returns-3 : tie.Need-returns-3
-returns-3 c = λ h. left-by
+returns-3 c = λ f. λ of. left
 
 pub constant-scalar-spec : {M : Type 1} → statement M
 constant-scalar-spec =
     tie.close
     (tie.spec
+    number-requires
+    cast-at
     add-at
     add-if1
     returns

@@ -1,6 +1,4 @@
-use Rattle.fast_path.proofs.Answers.{left-by}
-use Rattle.fast_path.proofs.Decoding.{etc-by, stack-by, constant-in}
-use Rattle.fast_path.proofs.Answers.{left-by}
+use Rattle.fast_path.proofs.Answers.{left}
 use Rattle.fast_path.proofs.Decoding.{etc-by, stack-by, constant-in}
 use borrow.Author.Needs.{needs}
 use Rattle.fast_path.proofs.etc.Statement.{statement}
@@ -46,34 +44,34 @@ same-length : tie.Need-same-length
 same-length c = search needs
 
 returns : tie.Need-returns
-returns c = etc-by _ _ _ _ (c .before .before .before .before .before .sub .given .1) (c .before .before .jump-to .ensures)
+returns c = λ f. λ of. etc-by _ f _ _ (c .before .before .before .before .before .sub .given .1) (c .before .before .jump-to .ensures f of)
 
 same-length-2 : tie.Need-same-length-2
 same-length-2 c = search needs
 
 returns-2 : tie.Need-returns-2
-returns-2 c = stack-by _ _ _ _ (c .before .before .before .before .before .before .sub2 .given .1) (c .before .before .before .after .ensures) (c .before .before .stack-operation .ensures)
+returns-2 c = λ f. λ of. stack-by _ f _ _ (c .before .before .before .before .before .before .sub2 .given .1) (c .before .before .before .after .ensures) (c .before .before .stack-operation .ensures)
 
 same-length-3 : tie.Need-same-length-3
 same-length-3 c = search needs
 
 returns-3 : tie.Need-returns-3
-returns-3 c = constant-in _ _ _ _ (c .before .before .before .before .enum-told .given .1) (c .before .before .constant-scalar .ensures _)
+returns-3 c = λ f. λ of. constant-in _ f _ _ (c .before .before .before .before .enum-told .given .1) (c .before .before .constant-scalar .ensures f tt)
 
 returns-4 : tie.Need-returns-4
-returns-4 c = left-by
+returns-4 c = λ f. λ of. left
 
 returns-5 : tie.Need-returns-5
-returns-5 c = left-by
+returns-5 c = λ f. λ of. left
 
 returns-6 : tie.Need-returns-6
-returns-6 c = left-by
+returns-6 c = λ f. λ of. left
 
 returns-7 : tie.Need-returns-7
-returns-7 c = left-by
+returns-7 c = λ f. λ of. left
 
 returns-8 : tie.Need-returns-8
-returns-8 c = left-by
+returns-8 c = λ f. λ of. left
 
 pub etc-spec : {M : Type 1} → statement M
 etc-spec =

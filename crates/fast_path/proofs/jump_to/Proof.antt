@@ -1,12 +1,18 @@
 use mathlib.Core.Path.{refl}
 use mathlib.Core.Bool.{true, false}
 use native.Mathlib.Omega.{arith}
-use Rattle.fast_path.proofs.Going.{is-inside, gone}
+use Rattle.fast_path.proofs.Going.{gone}
 use Rattle.fast_path.proofs.Decoding.{go-by, go-true-by, go-false-by}
-use Rattle.fast_path.proofs.Answers.{left-by, went}
+use Rattle.fast_path.proofs.Answers.{left, went}
 use borrow.Author.Needs.{needs}
 use Rattle.fast_path.proofs.jump_to.Statement.{statement}
 use Rattle.fast_path.proofs.jump_to.Tie as tie
+
+number-requires : tie.Need-number-requires
+number-requires c κs = search needs
+
+cast-at : tie.Need-cast-at
+cast-at c = search needs
 
 add-at : tie.Need-add-at
 add-at c = search needs
@@ -15,7 +21,7 @@ add-if1 : tie.Need-add-if1
 add-if1 c = search needs
 
 returns : tie.Need-returns
-returns c = left-by
+returns c = λ f. λ of. left
 
 shared-slice-read-half : tie.Need-shared-slice-read-half
 shared-slice-read-half c = search needs
@@ -29,11 +35,11 @@ shared-slice-read-half-2 c = search needs
 half-requires : tie.Need-half-requires
 half-requires c κs = search needs
 
-cast-to : tie.Need-cast-to
-cast-to c = search needs
+cast-number : tie.Need-cast-number
+cast-number c = search needs
 
 returns-2 : tie.Need-returns-2
-returns-2 c = left-by
+returns-2 c = λ f. λ of. left
 
 cast-if3 : tie.Need-cast-if3
 cast-if3 c = search needs
@@ -45,7 +51,10 @@ add-if3 : tie.Need-add-if3
 add-if3 c = search needs
 
 returns-3 : tie.Need-returns-3
-returns-3 c = left-by
+returns-3 c = λ f. λ of. left
+
+of-requires : tie.Need-of-requires
+of-requires c κs = search needs
 
 enum-told : tie.Need-enum-told
 enum-told c = search needs
@@ -75,24 +84,26 @@ same-length : tie.Need-same-length
 same-length c = search needs
 
 returns-4 : tie.Need-returns-4
-returns-4 c = let k = c .before .before .before .before .before .before .before .before in let h = k .before .before .before .before .before .before .before .args .h in go-by _ h _ _ (omega arith) refl refl (k .before .half .ensures) refl (c .before .before .before .before .enum-told .given .1) (went (c .before .before .go .ensures .0) (gone h _ _ (is-inside h _ (k .if2 .left) (c .before .before .before .before .before .before .if3 .left)) (c .before .before .go .ensures .1)))
+returns-4 c = λ f. λ of. go-by _ f _ _ of (omega arith) (cc) refl (c .before .before .before .before .enum-told .given .1) (went (c .before .before .go .ensures .0) (gone _ _ (omega arith) (omega arith) _ (c .before .before .go .ensures .1)))
 
 same-length-2 : tie.Need-same-length-2
 same-length-2 c = search needs
 
 returns-5 : tie.Need-returns-5
-returns-5 c = let k = c .before .before .before .before .before .before .before .before .before in let h = k .before .before .before .before .before .before .before .args .h in go-true-by _ h _ _ (omega arith) refl refl (k .before .half .ensures) (c .before .before .before .after .ensures) (c .before .before .before .before .before .enum-told2 .given .1) (c .before .before .go-if .ensures h true refl (is-inside h _ (k .if2 .left) (c .before .before .before .before .before .before .before .if3 .left)))
+returns-5 c = λ f. λ of. go-true-by _ f _ _ of (omega arith) (cc) (c .before .before .before .after .ensures) (c .before .before .before .before .before .enum-told2 .given .1) (c .before .before .go-if .ensures _ true refl (omega arith) (omega arith))
 
 same-length-3 : tie.Need-same-length-3
 same-length-3 c = search needs
 
 returns-6 : tie.Need-returns-6
-returns-6 c = let k = c .before .before .before .before .before .before .before .before .before in let h = k .before .before .before .before .before .before .before .args .h in go-false-by _ h _ _ (omega arith) refl refl (k .before .half .ensures) (c .before .before .before .after2 .ensures) (c .before .before .before .before .before .enum-told3 .given .1) (c .before .before .go-if2 .ensures h false refl (is-inside h _ (k .if2 .left) (c .before .before .before .before .before .before .before .if3 .left)))
+returns-6 c = λ f. λ of. go-false-by _ f _ _ of (omega arith) (cc) (c .before .before .before .after2 .ensures) (c .before .before .before .before .before .enum-told3 .given .1) (c .before .before .go-if2 .ensures _ false refl (omega arith) (omega arith))
 
 pub jump-to-spec : {M : Type 1} → statement M
 jump-to-spec =
     tie.close
     (tie.spec
+    number-requires
+    cast-at
     add-at
     add-if1
     returns
@@ -100,12 +111,13 @@ jump-to-spec =
     add-half
     shared-slice-read-half-2
     half-requires
-    cast-to
+    cast-number
     returns-2
     cast-if3
     mul-if3
     add-if3
     returns-3
+    of-requires
     enum-told
     go-requires
     enum-told-2

@@ -1,10 +1,15 @@
-use Rattle.fast_path.proofs.Answers.{left-by}
-use Rattle.fast_path.proofs.Decoding.{load-by}
-use Rattle.fast_path.proofs.Answers.{left-by}
+use native.Mathlib.Omega.{arith}
+use Rattle.fast_path.proofs.Answers.{left}
 use Rattle.fast_path.proofs.Decoding.{load-by}
 use borrow.Author.Needs.{needs}
 use Rattle.fast_path.proofs.load_long.Statement.{statement}
 use Rattle.fast_path.proofs.load_long.Tie as tie
+
+number-requires : tie.Need-number-requires
+number-requires c κs = search needs
+
+cast-long : tie.Need-cast-long
+cast-long c = search needs
 
 add-long : tie.Need-add-long
 add-long c = search needs
@@ -16,7 +21,7 @@ same-length : tie.Need-same-length
 same-length c = search needs
 
 returns : tie.Need-returns
-returns c = λ h. λ same. left-by
+returns c = λ f. λ of. left
 
 after-requires : tie.Need-after-requires
 after-requires c κs = search needs
@@ -28,12 +33,14 @@ same-length-2 : tie.Need-same-length-2
 same-length-2 c = search needs
 
 returns-2 : tie.Need-returns-2
-returns-2 c = λ h. λ same. let named = c .before .before .before .before .before .before .long .ensures (c .before .before .before .before .before .if1 .left) in load-by _ h _ _ _ _ named (c .before .before .before .after .ensures) (c .before .before .load-from .ensures _ _ (named .stands h same))
+returns-2 c = λ f. λ of. let named = c .before .before .before .before .before .before .long .ensures (c .before .before .before .before .before .if1 .left) in load-by _ f _ _ (omega arith) _ _ named (c .before .before .before .after .ensures) (c .before .before .load-from .ensures _ _ (named .stands _ of))
 
 pub load-long-spec : {M : Type 1} → statement M
 load-long-spec =
     tie.close
     (tie.spec
+    number-requires
+    cast-long
     add-long
     long-requires
     same-length

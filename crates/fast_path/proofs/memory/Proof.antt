@@ -1,8 +1,5 @@
 use mathlib.Core.Bool.{true, false}
-use Rattle.fast_path.proofs.Answers.{left-by}
-use Rattle.fast_path.proofs.Decoding.{memory-by}
-use mathlib.Core.Bool.{true, false}
-use Rattle.fast_path.proofs.Answers.{left-by}
+use Rattle.fast_path.proofs.Answers.{left}
 use Rattle.fast_path.proofs.Decoding.{memory-by}
 use borrow.Author.Needs.{needs}
 use Rattle.fast_path.proofs.memory.Statement.{statement}
@@ -15,7 +12,7 @@ enum-told : tie.Need-enum-told
 enum-told c = search needs
 
 returns : tie.Need-returns
-returns c = λ h. λ same. left-by
+returns c = λ f. λ of. left
 
 enum-told-2 : tie.Need-enum-told-2
 enum-told-2 c = search needs
@@ -42,22 +39,22 @@ same-length : tie.Need-same-length
 same-length c = search needs
 
 returns-2 : tie.Need-returns-2
-returns-2 c = λ h. λ same. memory-by _ h _ _ true (c .before .before .before .before .before .before .before .sub .given .1) (c .before .before .before .before .enum-told2 .given .1) (c .before .before .assign .ensures h same)
+returns-2 c = λ f. λ of. memory-by _ f _ _ true (c .before .before .before .before .before .before .before .sub .given .1) (c .before .before .before .before .enum-told2 .given .1) (c .before .before .assign .ensures f of)
 
 same-length-2 : tie.Need-same-length-2
 same-length-2 c = search needs
 
 returns-3 : tie.Need-returns-3
-returns-3 c = λ h. λ same. memory-by _ h _ _ false (c .before .before .before .before .before .before .before .sub .given .1) (c .before .before .before .before .enum-told3 .given .1) (c .before .before .assign2 .ensures h same)
+returns-3 c = λ f. λ of. memory-by _ f _ _ false (c .before .before .before .before .before .before .before .sub .given .1) (c .before .before .before .before .enum-told3 .given .1) (c .before .before .assign2 .ensures f of)
 
 returns-4 : tie.Need-returns-4
-returns-4 c = λ h. λ same. left-by
+returns-4 c = λ f. λ of. left
 
 returns-5 : tie.Need-returns-5
-returns-5 c = λ h. λ same. left-by
+returns-5 c = λ f. λ of. left
 
 returns-6 : tie.Need-returns-6
-returns-6 c = λ h. λ same. left-by
+returns-6 c = λ f. λ of. left
 
 pub memory-spec : {M : Type 1} → statement M
 memory-spec =

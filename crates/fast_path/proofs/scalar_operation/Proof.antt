@@ -1,6 +1,4 @@
-use Rattle.fast_path.proofs.Answers.{left-by}
-use Rattle.fast_path.proofs.Decoding.{dyadic-by, monadic-by}
-use Rattle.fast_path.proofs.Answers.{left-by}
+use Rattle.fast_path.proofs.Answers.{left}
 use Rattle.fast_path.proofs.Decoding.{dyadic-by, monadic-by}
 use borrow.Author.Needs.{needs}
 use Rattle.fast_path.proofs.scalar_operation.Statement.{statement}
@@ -13,7 +11,7 @@ enum-told : tie.Need-enum-told
 enum-told c = search needs
 
 returns : tie.Need-returns
-returns c = λ h. left-by
+returns c = λ f. λ of. left
 
 enum-known-operator : tie.Need-enum-known-operator
 enum-known-operator c = search needs
@@ -37,13 +35,13 @@ same-length : tie.Need-same-length
 same-length c = search needs
 
 returns-2 : tie.Need-returns-2
-returns-2 c = λ h. dyadic-by _ h _ (c .before .before .before .before .before .before .before .before .before .sub .given .1) (c .before .before .before .before .before .before .operator .given .1) (c .before .before .before .after .ensures) (c .before .before .dyadic .ensures)
+returns-2 c = λ f. λ of. dyadic-by _ f _ (c .before .before .before .before .before .before .before .before .before .sub .given .1) (c .before .before .before .after .ensures) (c .before .before .before .before .before .before .operator .given .1) (c .before .before .dyadic .ensures)
 
 same-length-2 : tie.Need-same-length-2
 same-length-2 c = search needs
 
 returns-3 : tie.Need-returns-3
-returns-3 c = λ h. monadic-by _ h _ (c .before .before .before .before .before .before .before .before .before .sub .given .1) (c .before .before .before .before .before .before .operator2 .given .1) (c .before .before .before .after2 .ensures) (c .before .before .monadic .ensures)
+returns-3 c = λ f. λ of. monadic-by _ f _ (c .before .before .before .before .before .before .before .before .before .sub .given .1) (c .before .before .before .after2 .ensures) (c .before .before .before .before .before .before .operator2 .given .1) (c .before .before .monadic .ensures)
 
 pub scalar-operation-spec : {M : Type 1} → statement M
 scalar-operation-spec =

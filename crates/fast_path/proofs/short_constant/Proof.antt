@@ -1,15 +1,22 @@
-use mathlib.Core.Path.{refl, _∙_}
-use Rattle.fast_path.proofs.Answers.{left-by}
+use mathlib.Core.Path.{_∙_}
+use native.Mathlib.Omega.{arith}
+use Rattle.fast_path.proofs.Answers.{left}
 use Rattle.fast_path.proofs.Decoding.{constant-by}
 use borrow.Author.Needs.{needs}
 use Rattle.fast_path.proofs.short_constant.Statement.{statement}
 use Rattle.fast_path.proofs.short_constant.Tie as tie
 
+number-requires : tie.Need-number-requires
+number-requires c κs = search needs
+
+cast-at : tie.Need-cast-at
+cast-at c = search needs
+
 add-at : tie.Need-add-at
 add-at c = search needs
 
 returns : tie.Need-returns
-returns c = λ h. left-by
+returns c = λ f. λ of. left
 
 shared-slice-read-half : tie.Need-shared-slice-read-half
 shared-slice-read-half c = search needs
@@ -36,12 +43,14 @@ same-length : tie.Need-same-length
 same-length c = search needs
 
 returns-2 : tie.Need-returns-2
-returns-2 c = λ h. let k = c .before .before .before .before .before in constant-by _ h _ _ _ (k .before .before .before .before .if1 .left) refl (k .before .before .half .ensures) (k .word .ensures ∙ k .before .integer .ensures) (c .before .before .before .after .ensures) (c .before .before .push .ensures)
+returns-2 c = λ f. λ of. let k = c .before .before .before .before .before in constant-by _ f _ _ _ (omega arith) (k .before .before .half .ensures ∙ (cc)) (k .word .ensures ∙ k .before .integer .ensures) (c .before .before .before .after .ensures) (c .before .before .push .ensures)
 
 pub short-constant-spec : {M : Type 1} → statement M
 short-constant-spec =
     tie.close
     (tie.spec
+    number-requires
+    cast-at
     add-at
     returns
     shared-slice-read-half

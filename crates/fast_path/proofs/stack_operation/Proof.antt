@@ -1,5 +1,4 @@
 use Rattle.fast_path.proofs.Answers.{left}
-use Rattle.fast_path.proofs.Answers.{left}
 use borrow.Author.Needs.{needs}
 use Rattle.fast_path.proofs.stack_operation.Statement.{statement}
 use Rattle.fast_path.proofs.stack_operation.Tie as tie

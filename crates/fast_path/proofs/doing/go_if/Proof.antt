@@ -12,7 +12,7 @@ same-length : tie.Need-same-length
 same-length c = search needs
 
 returns : tie.Need-returns
-returns c = λ h. λ b. λ named. λ inside. left
+returns c = λ h. λ b. λ named. λ low. λ high. left
 
 operand-at-requires : tie.Need-operand-at-requires
 operand-at-requires c κs = search needs
@@ -21,7 +21,7 @@ same-length-2 : tie.Need-same-length-2
 same-length-2 c = search needs
 
 returns-2 : tie.Need-returns-2
-returns-2 c = λ h. λ b. λ named. λ inside. left
+returns-2 c = λ h. λ b. λ named. λ low. λ high. left
 
 discard-requires : tie.Need-discard-requires
 discard-requires c κs = search needs
@@ -33,7 +33,7 @@ same-length-3 : tie.Need-same-length-3
 same-length-3 c = search needs
 
 returns-3 : tie.Need-returns-3
-returns-3 c = λ h. λ b. λ named. λ inside. went (c .before .before .go .ensures .0) (jump-taken _ h _ _ b (omega arith) (omega arith) named inside (cc) (cc))
+returns-3 c = λ h. λ b. λ named. λ low. λ high. went (c .before .before .go .ensures .0) (jump-taken _ h _ _ b (omega arith) (omega arith) named low high (cc) (cc))
 
 go-requires-2 : tie.Need-go-requires-2
 go-requires-2 c κs = search needs
@@ -42,7 +42,7 @@ same-length-4 : tie.Need-same-length-4
 same-length-4 c = search needs
 
 returns-4 : tie.Need-returns-4
-returns-4 c = λ h. λ b. λ named. λ inside. went (c .before .before .go2 .ensures .0) (jump-passed _ h _ _ b (omega arith) (omega arith) named (λ same. c .before .before .before .before .if3 .left (cc)) (cc))
+returns-4 c = λ h. λ b. λ named. λ low. λ high. went (c .before .before .go2 .ensures .0) (jump-passed _ h _ _ b (omega arith) (omega arith) named (λ same. c .before .before .before .before .if3 .left (cc)) (cc))
 
 pub go-if-spec : {M : Type 1} → statement M
 go-if-spec =

@@ -4,6 +4,9 @@ use borrow.Author.Needs.{needs}
 use Rattle.fast_path.proofs.doing.jump.Statement.{statement}
 use Rattle.fast_path.proofs.doing.jump.Tie as tie
 
+number-requires : tie.Need-number-requires
+number-requires c κs = search needs
+
 jump-requires : tie.Need-jump-requires
 jump-requires c κs = search needs
 
@@ -37,6 +40,9 @@ cast-kept c = search needs
 mul-put : tie.Need-mul-put
 mul-put c = search needs
 
+number-requires-2 : tie.Need-number-requires-2
+number-requires-2 c κs = search needs
+
 add-put : tie.Need-add-put
 add-put c = search needs
 
@@ -53,6 +59,7 @@ pub jump-spec : {M : Type 1} → statement M
 jump-spec =
     tie.close
     (tie.spec
+    number-requires
     jump-requires
     same-length
     returns
@@ -64,6 +71,7 @@ jump-spec =
     high-requires
     cast-kept
     mul-put
+    number-requires-2
     add-put
     put-requires
     same-length-2

@@ -2,10 +2,6 @@ use mathlib.Core.Path.{refl, sym, _∙_}
 use native.Mathlib.Omega.{arith}
 use Rattle.fast_path.proofs.Answers.{not-false, left, went}
 use Rattle.fast_path.proofs.Operating.{scalar-computed}
-use mathlib.Core.Path.{refl, sym, _∙_}
-use native.Mathlib.Omega.{arith}
-use Rattle.fast_path.proofs.Answers.{not-false, left, went}
-use Rattle.fast_path.proofs.Operating.{scalar-computed}
 use borrow.Author.Needs.{needs}
 use Rattle.fast_path.proofs.doing.monadic.Statement.{statement}
 use Rattle.fast_path.proofs.doing.monadic.Tie as tie

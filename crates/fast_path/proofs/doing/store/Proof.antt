@@ -2,10 +2,6 @@ use mathlib.Core.Path.{sym, _∙_}
 use native.Mathlib.Omega.{arith}
 use Rattle.fast_path.proofs.Answers.{not-false, left, went}
 use Rattle.fast_path.proofs.Storing.{scalar-kept, scalar-stored}
-use mathlib.Core.Path.{sym, _∙_}
-use native.Mathlib.Omega.{arith}
-use Rattle.fast_path.proofs.Answers.{not-false, left, went}
-use Rattle.fast_path.proofs.Storing.{scalar-kept, scalar-stored}
 use borrow.Author.Needs.{needs}
 use Rattle.fast_path.proofs.doing.store.Statement.{statement}
 use Rattle.fast_path.proofs.doing.store.Tie as tie

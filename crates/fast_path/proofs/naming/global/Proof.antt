@@ -1,9 +1,6 @@
 use mathlib.Core.Path.{refl}
 use native.Mathlib.Omega.{arith}
 use Rattle.fast_path.proofs.Standing.{global-stands}
-use mathlib.Core.Path.{refl}
-use native.Mathlib.Omega.{arith}
-use Rattle.fast_path.proofs.Standing.{global-stands}
 use borrow.Author.Needs.{needs}
 use Rattle.fast_path.proofs.naming.global.Statement.{statement}
 use Rattle.fast_path.proofs.naming.global.Tie as tie

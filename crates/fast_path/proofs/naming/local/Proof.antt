@@ -1,9 +1,6 @@
 use mathlib.Core.Path.{refl}
 use native.Mathlib.Omega.{arith}
 use Rattle.fast_path.proofs.Standing.{local-stands}
-use mathlib.Core.Path.{refl}
-use native.Mathlib.Omega.{arith}
-use Rattle.fast_path.proofs.Standing.{local-stands}
 use borrow.Author.Needs.{needs}
 use Rattle.fast_path.proofs.naming.local.Statement.{statement}
 use Rattle.fast_path.proofs.naming.local.Tie as tie

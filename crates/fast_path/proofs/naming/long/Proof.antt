@@ -1,6 +1,5 @@
-use mathlib.Core.Path.{refl}
-use Rattle.fast_path.proofs.Standing.{local-names, global-names}
-use mathlib.Core.Path.{refl}
+use Prim.Native.Nat.{ℕ, _%_, _^_}
+use mathlib.Core.Path.{refl, ap}
 use Rattle.fast_path.proofs.Standing.{local-names, global-names}
 use borrow.Author.Needs.{needs}
 use Rattle.fast_path.proofs.naming.long.Statement.{statement}
@@ -12,11 +11,14 @@ returns c = λ none. absurd (none refl)
 enum-told : tie.Need-enum-told
 enum-told c = search needs
 
-shared-slice-read-twelve : tie.Need-shared-slice-read-twelve
-shared-slice-read-twelve c = search needs
+shared-slice-read-half : tie.Need-shared-slice-read-half
+shared-slice-read-half c = search needs
 
-twelve-requires : tie.Need-twelve-requires
-twelve-requires c κs = search needs
+half-requires : tie.Need-half-requires
+half-requires c κs = search needs
+
+cast-local : tie.Need-cast-local
+cast-local c = search needs
 
 sub-local : tie.Need-sub-local
 sub-local c = search needs
@@ -27,11 +29,14 @@ local-requires c κs = search needs
 enum-told-2 : tie.Need-enum-told-2
 enum-told-2 c = search needs
 
-shared-slice-read-twelve-2 : tie.Need-shared-slice-read-twelve-2
-shared-slice-read-twelve-2 c = search needs
+shared-slice-read-half-2 : tie.Need-shared-slice-read-half-2
+shared-slice-read-half-2 c = search needs
 
-twelve-requires-2 : tie.Need-twelve-requires-2
-twelve-requires-2 c κs = search needs
+half-requires-2 : tie.Need-half-requires-2
+half-requires-2 c κs = search needs
+
+cast-global : tie.Need-cast-global
+cast-global c = search needs
 
 global-requires : tie.Need-global-requires
 global-requires c κs = search needs
@@ -58,10 +63,10 @@ enum-told-9 : tie.Need-enum-told-9
 enum-told-9 c = search needs
 
 returns-2 : tie.Need-returns-2
-returns-2 c = λ some. local-names _ _ _ _ (c .before .before .before .before .before .if1 .left) (c .before .twelve .ensures) _ (c .before .before .before .enum-told .given .1) (c .local .ensures some)
+returns-2 c = λ some. local-names _ _ _ _ (c .before .before .before .before .before .if1 .left) (ap (λ (n : ℕ). n % 2 ^ 12) (c .before .half .ensures)) _ (c .before .before .before .enum-told .given .1) (c .local .ensures some)
 
 returns-3 : tie.Need-returns-3
-returns-3 c = λ some. global-names _ _ _ _ (c .before .before .before .before .before .if1 .left) (c .before .twelve2 .ensures) _ (c .before .before .before .enum-told2 .given .1) (c .global .ensures some)
+returns-3 c = λ some. global-names _ _ _ _ (c .before .before .before .before .before .if1 .left) (ap (λ (n : ℕ). n % 2 ^ 12) (c .before .half2 .ensures)) _ (c .before .before .before .enum-told2 .given .1) (c .global .ensures some)
 
 returns-4 : tie.Need-returns-4
 returns-4 c = λ none. absurd (none refl)
@@ -90,13 +95,15 @@ long-spec =
     (tie.spec
     returns
     enum-told
-    shared-slice-read-twelve
-    twelve-requires
+    shared-slice-read-half
+    half-requires
+    cast-local
     sub-local
     local-requires
     enum-told-2
-    shared-slice-read-twelve-2
-    twelve-requires-2
+    shared-slice-read-half-2
+    half-requires-2
+    cast-global
     global-requires
     enum-told-3
     enum-told-4

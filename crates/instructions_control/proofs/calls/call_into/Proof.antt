@@ -44,7 +44,7 @@ frame-word-requires : tie.Need-frame-word-requires
 frame-word-requires c κs = search needs
 
 enter-requires : tie.Need-enter-requires
-enter-requires c κs = let s = c .before .before .before .before .before .before .before .before .before .before .before .before .before .before .before .before .before in room-kept (s .args .seg .now) (s .args .next) (s .args .called .nlocals) (c .before .before .before .before .before .jump .ensures) (omega arith) (s .pre .1)
+enter-requires c κs = let s = c .before .before .before .before .before .before .before .before .before .before .before .before .before .before .before .before .before in room-kept (s .args .seg .now) (s .args .next .0) (s .args .called .nlocals) (c .before .before .before .before .before .jump .ensures) (omega arith) (s .pre .1)
 
 same-length-4 : tie.Need-same-length-4
 same-length-4 c = search needs

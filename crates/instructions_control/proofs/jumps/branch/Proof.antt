@@ -1,6 +1,5 @@
 use mathlib.Core.Path.{ap, _∙_}
 use native.Mathlib.Omega.{arith}
-use Rattle.procedure.specs.Headers.{lineOf}
 use Rattle.effects.specs.Sources.{operandAt}
 use Rattle.operands.specs.declared.reading.Operand.the-variants as operands
 use Rattle.operands.specs.declared.reading.Value.the-variants as values
@@ -36,7 +35,7 @@ same-length-2 : tie.Need-same-length-2
 same-length-2 c = search needs
 
 returns-2 : tie.Need-returns-2
-returns-2 c = let a = c .before .before .before .before .before .before .before .before .before .before .args in ap (carry (a .seg .now)) (branch-is (a .seg .now) (a .block .header) (lineOf (a .p .now) (a .block)) (a .next) operands.Other (omega arith) (cc))
+returns-2 c = let a = c .before .before .before .before .before .before .before .before .before .before .args in ap (carry (a .seg .now)) (branch-is (a .seg .now) (a .p .now) (a .block) (a .next .0) operands.Other (omega arith) (cc))
 
 enum-known-v-2 : tie.Need-enum-known-v-2
 enum-known-v-2 c = search needs
@@ -54,13 +53,13 @@ same-length-3 : tie.Need-same-length-3
 same-length-3 c = search needs
 
 returns-3 : tie.Need-returns-3
-returns-3 c = let a = c .before .before .before .before .before .before .before .before .before .before .before .before .before .before .before .before .before .before .args in c .before .before .branch-on .ensures ∙ ap (carry (a .seg .now)) (branch-is (a .seg .now) (a .block .header) (lineOf (a .p .now) (a .block)) (a .next) (operands.Value (values.Scalar (c .before .before .before .before .before .v2 .given .0 .0))) (omega arith) (cc))
+returns-3 c = let a = c .before .before .before .before .before .before .before .before .before .before .before .before .before .before .before .before .before .before .args in c .before .before .branch-on .ensures ∙ ap (carry (a .seg .now)) (branch-is (a .seg .now) (a .p .now) (a .block) (a .next .0) (operands.Value (values.Scalar (c .before .before .before .before .before .v2 .given .0 .0))) (omega arith) (cc))
 
 same-length-4 : tie.Need-same-length-4
 same-length-4 c = search needs
 
 returns-4 : tie.Need-returns-4
-returns-4 c = let a = c .before .before .before .before .before .before .before .before .before .before .before .before .before .before .before .before .before .before .args in c .before .before .branch-by .ensures ∙ ap (carry (a .seg .now)) (branch-is (a .seg .now) (a .block .header) (lineOf (a .p .now) (a .block)) (a .next) (operands.Value (values.Array (c .before .before .before .before .before .v3 .given .0 .0))) (omega arith) (cc))
+returns-4 c = let a = c .before .before .before .before .before .before .before .before .before .before .before .before .before .before .before .before .before .before .args in c .before .before .branch-by .ensures ∙ ap (carry (a .seg .now)) (branch-is (a .seg .now) (a .p .now) (a .block) (a .next .0) (operands.Value (values.Array (c .before .before .before .before .before .v3 .given .0 .0))) (omega arith) (cc))
 
 pub branch-spec : {M : Type 1} → statement M
 branch-spec =

@@ -8,9 +8,6 @@ line-requires c κs = search needs
 enum-known-place : tie.Need-enum-known-place
 enum-known-place c = search needs
 
-number-requires : tie.Need-number-requires
-number-requires c κs = search needs
-
 jump-to-requires : tie.Need-jump-to-requires
 jump-to-requires c κs = search needs
 
@@ -24,7 +21,7 @@ same-length : tie.Need-same-length
 same-length c = search needs
 
 returns : tie.Need-returns
-returns c = simp (← c .before .before .before .before .before .before .before .before .line .ensures, c .before .before .before .before .before .before .place .given .1, ← c .before .before .before .number .ensures, ← c .before .before .jump-to .ensures)
+returns c = simp (← c .before .before .before .before .before .before .before .line .ensures, c .before .before .before .before .before .place .given .1, ← c .before .before .jump-to .ensures)
 
 same-length-2 : tie.Need-same-length-2
 same-length-2 c = search needs
@@ -38,7 +35,6 @@ branch-to-spec =
     (tie.spec
     line-requires
     enum-known-place
-    number-requires
     jump-to-requires
     enum-told
     leave-by-branch-requires

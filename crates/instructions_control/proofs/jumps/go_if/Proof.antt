@@ -36,7 +36,7 @@ same-length-2 : tie.Need-same-length-2
 same-length-2 c = search needs
 
 returns-2 : tie.Need-returns-2
-returns-2 c = let k = c .before .before .before .before .before .before .before in let a = k .before .before .before .before .before .before .before .before .before .args in (cc) ∙ go-if-taken (a .seg .now) (a .h) (a .next) (a .wanted) (a .place) _ (omega arith) (k .before .before .condition-of .ensures) (k .before .before .before .operand-at .ensures) (k .b .given .1) (cc)
+returns-2 c = let k = c .before .before .before .before .before .before .before in let a = k .before .before .before .before .before .before .before .before .before .args in (cc) ∙ go-if-taken (a .seg .now) (a .h) (a .next .0) (a .wanted) (a .place .0) _ (omega arith) (k .before .before .condition-of .ensures) (k .before .before .before .operand-at .ensures) (k .b .given .1) (cc)
 
 go-on-requires : tie.Need-go-on-requires
 go-on-requires c κs = search needs
@@ -45,13 +45,13 @@ same-length-3 : tie.Need-same-length-3
 same-length-3 c = search needs
 
 returns-3 : tie.Need-returns-3
-returns-3 c = let k = c .before in let a = k .before .before .before .before .before .before .before .before .before .args in go-if-trap (a .seg .now) (a .h) (a .next) (a .wanted) (a .place) _ (omega arith) (k .before .before .condition-of .ensures) (k .before .before .before .operand-at .ensures) (k .class .given .1)
+returns-3 c = let k = c .before in let a = k .before .before .before .before .before .before .before .before .before .args in go-if-trap (a .seg .now) (a .h) (a .next .0) (a .wanted) (a .place .0) _ (omega arith) (k .before .before .condition-of .ensures) (k .before .before .before .operand-at .ensures) (k .class .given .1)
 
 same-length-4 : tie.Need-same-length-4
 same-length-4 c = search needs
 
 returns-4 : tie.Need-returns-4
-returns-4 c = let k = c .before .before .before .before .before .before .before in let a = k .before .before .before .before .before .before .before .before .before .args in go-if-passed (a .seg .now) (a .h) (a .next) (a .wanted) (a .place) _ (omega arith) (k .before .before .condition-of .ensures) (k .before .before .before .operand-at .ensures) (k .b .given .1) (cc) (cc)
+returns-4 c = let k = c .before .before .before .before .before .before .before in let a = k .before .before .before .before .before .before .before .before .before .args in go-if-passed (a .seg .now) (a .h) (a .next .0) (a .wanted) (a .place .0) _ (omega arith) (k .before .before .condition-of .ensures) (k .before .before .before .operand-at .ensures) (k .b .given .1) (cc) (cc)
 
 pub go-if-spec : {M : Type 1} → statement M
 go-if-spec =
