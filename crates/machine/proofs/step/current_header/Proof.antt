@@ -10,11 +10,7 @@ current-header-spec =
     (tie.spec
     (λ c κs. search needs)
     (λ c κs. search needs)
+    (λ c κs. search needs)
     (λ c. search needs)
     (λ c κs. search needs)
-    (λ c κs. search needs)
-    (λ c κs. search needs)
-    (λ c. simp (← c .before .before .before .before .before .lbase .ensures, ← c .before .before .before .before .function-number .ensures, ← c .before .before .before .alternate .ensures, c .before .before .if1 .taken, ← c .before .start-of .ensures, ← c .header-at .ensures))
-    (λ c κs. search needs)
-    (λ c κs. search needs)
-    (λ c. simp (← c .before .before .before .before .before .lbase .ensures, ← c .before .before .before .before .function-number .ensures, ← c .before .before .before .alternate .ensures, c .before .before .if1 .left, ← c .before .start-of2 .ensures, ← c .header-at2 .ensures)))
+    (λ c. (cc)))
