@@ -13,11 +13,11 @@ use Rattle.effects.specs.Run.{Outcome, ended, stepsFrom}
 use Rattle.machine.specs.Stretches.{resumed, Advanced}
 
 -- a stretch by what it answers
-module _ (regular other : List ℕ) (budget n : ℕ) (t : List ℕ) {r : Ran} {o : Outcome} where
-  pub goes-on : r ≡ Done n → resumed r budget regular other t ≡ o → stepsFrom (budget - n) n regular other t ≡ o
+module _ (regular alternate : List ℕ) (budget n : ℕ) (t : List ℕ) {r : Ran} {o : Outcome} where
+  pub goes-on : r ≡ Done n → resumed r budget regular alternate t ≡ o → stepsFrom (budget - n) n regular alternate t ≡ o
   goes-on is told = rw is at told
 
-  pub stops : r ≡ Trapped n → resumed r budget regular other t ≡ o → ended (Trapped n) t ≡ o
+  pub stops : r ≡ Trapped n → resumed r budget regular alternate t ≡ o → ended (Trapped n) t ≡ o
   stops is told = rw is at told
 
 pub advances : (start budget n : ℕ) {r : Ran} → r ≡ Done n → Advanced start budget r → (start < n) × (n ≤ budget)
@@ -29,30 +29,30 @@ left-later {start} {n} from same is differs =
     let later : (n ≡ start → ⊥) = λ e. differs (rw is (same e)) in
     omega arith
 
-module _ (regular other : List ℕ) (budget n : ℕ) (s : List ℕ) where
-  pub run-ends : budget ≤ n → ended (Done n) s ≡ stepsFrom (budget - n) n regular other s
+module _ (regular alternate : List ℕ) (budget n : ℕ) (s : List ℕ) where
+  pub run-ends : budget ≤ n → ended (Done n) s ≡ stepsFrom (budget - n) n regular alternate s
   unfolding stepsFrom
   run-ends done =
       let none : budget - n ≡ 0 = omega arith in
       rw none
 
   -- by what the next step answers
-  module _ (r : Stepped) (t : List ℕ) (more : n < budget) (is : after r t ≡ stepOf regular other s) where
+  module _ (r : Stepped) (t : List ℕ) (more : n < budget) (is : after r t ≡ stepOf regular alternate s) where
     one : budget - n ≡ suc (budget - (n + 1))
     one = omega arith
 
-    pub run-goes : r ≡ answers.Finished → stepsFrom (budget - (n + 1)) (n + 1) regular other t ≡ stepsFrom (budget - n) n regular other s
+    pub run-goes : r ≡ answers.Finished → stepsFrom (budget - (n + 1)) (n + 1) regular alternate t ≡ stepsFrom (budget - n) n regular alternate s
     unfolding stepsFrom
     run-goes done = rw (one, ← is, done)
 
-    pub run-traced : (class number : ℕ) → r ≡ answers.Traced class number → ended (Trapped (n + 1)) t ≡ stepsFrom (budget - n) n regular other s
+    pub run-traced : (class number : ℕ) → r ≡ answers.Traced class number → ended (Trapped (n + 1)) t ≡ stepsFrom (budget - n) n regular alternate s
     unfolding stepsFrom
     run-traced class number traced = rw (one, ← is, traced)
 
-    pub run-trapped : (class number : ℕ) → r ≡ answers.Trapped class number → ended (Trapped n) t ≡ stepsFrom (budget - n) n regular other s
+    pub run-trapped : (class number : ℕ) → r ≡ answers.Trapped class number → ended (Trapped n) t ≡ stepsFrom (budget - n) n regular alternate s
     unfolding stepsFrom
     run-trapped class number trapped = rw (one, ← is, trapped)
 
   -- a stretch in a function that is not there
-  pub run-absent : {r : Ran} {t : List ℕ} → n < budget → trapped s 3 1 ≡ stepOf regular other s → r ≡ Trapped n → t ≡ setTrap s 3 1 → (resumed r budget regular other t ≡ stepsFrom (budget - n) n regular other s) × Advanced n budget r
+  pub run-absent : {r : Ran} {t : List ℕ} → n < budget → trapped s 3 1 ≡ stepOf regular alternate s → r ≡ Trapped n → t ≡ setTrap s 3 1 → (resumed r budget regular alternate t ≡ stepsFrom (budget - n) n regular alternate s) × Advanced n budget r
   run-absent more absent is words = rw (is, words) (run-trapped (answers.Trapped 3 1) (setTrap s 3 1) more absent 3 1 refl, tt)

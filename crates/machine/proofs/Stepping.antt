@@ -9,15 +9,12 @@ use borrow.Author.Tests.{eq-eqb, ne-eqb, eqb-true, eqb-false}
 use mir.Val.{boolByte}
 use Rattle.procedure.specs.declared.header.Block.{Block}
 use Rattle.procedure.specs.declared.directory.Function.the-variants as F
-use Rattle.procedure.specs.Headers.{codeOf}
 use Rattle.procedure.specs.Directory.{selected, functionOf}
-use Rattle.instruction.specs.Decoding.{decodeOf}
 use Rattle.segment.specs.State.{lbase, flags, stepFlag, setTrap}
-use Rattle.segment.specs.Stack.{codeWordAt, alternate, functionNumber, pctr}
-use Rattle.manual.specs.Instructions.{Running, segmentOf, headerOf, planDecoded, planAt}
-use Rattle.effects.specs.Seen.{seen}
+use Rattle.segment.specs.Stack.{codeWordAt, alternate as bitP, functionNumber, pctr}
+use Rattle.manual.specs.Instructions.{Running, running, headerOf, planAt}
 use Rattle.effects.specs.declared.Outcome.{Outcome}
-use Rattle.effects.specs.Carried.{did, carry}
+use Rattle.effects.specs.Carried.{CarriesOut}
 use Rattle.effects.specs.declared.Stepped.the-variants.{Finished, Traced, Trapped}
 use Rattle.effects.specs.Step.{after, selectorOf, numberOf, trapped, finished, settled, settle, stepIn, stepFound, stepOf}
 
@@ -37,14 +34,14 @@ number-small s is = omega arith
 
 -- P and the function's number in a frame's word, apart and at once
 module _ (w number : ℕ) where
-  pub function-in : (P : Bool) → eqb (alternate w) 1 ≡ P → functionNumber w ≡ number → w / 2 ^ 16 % 2 ^ 12 ≡ number + 2048 * boolByte P
-  function-in true set is = omega (arith, eqb-true (alternate w) 1 set)
-  function-in false clear is = omega (arith, eqb-false (alternate w) 1 clear)
+  pub function-in : (P : Bool) → eqb (bitP w) 1 ≡ P → functionNumber w ≡ number → w / 2 ^ 16 % 2 ^ 12 ≡ number + 2048 * boolByte P
+  function-in true set is = omega (arith, eqb-true (bitP w) 1 set)
+  function-in false clear is = omega (arith, eqb-false (bitP w) 1 clear)
 
   module _ (small : number < 2 ^ 11) where
-    pub selector-of : (P : Bool) → w / 2 ^ 16 % 2 ^ 12 ≡ number + 2048 * boolByte P → eqb (alternate w) 1 ≡ P
-    selector-of true is = eq-eqb (alternate w) 1 (omega arith)
-    selector-of false is = ne-eqb (alternate w) 1 (omega arith)
+    pub selector-of : (P : Bool) → w / 2 ^ 16 % 2 ^ 12 ≡ number + 2048 * boolByte P → eqb (bitP w) 1 ≡ P
+    selector-of true is = eq-eqb (bitP w) 1 (omega arith)
+    selector-of false is = ne-eqb (bitP w) 1 (omega arith)
 
     pub number-of : (P : Bool) → w / 2 ^ 16 % 2 ^ 12 ≡ number + 2048 * boolByte P → functionNumber w ≡ number
     number-of true is = omega arith
@@ -63,35 +60,31 @@ module _ (s : List ℕ) where
   pub step-clear : eqb (stepFlag (flags s)) 1 ≡ false → after Finished s ≡ finished (stepFlag (flags s)) s
   step-clear clear = ap (λ (n : ℕ). finished n s) (sym (flag-clear (flags s) (eqb-false (stepFlag (flags s)) 1 clear)))
 
-  -- the instruction at PCTR, done in a function whose code is at hand
-  module _ (f : Running) {code : List ℕ} {place at : ℕ} (is : code ≡ codeOf (segmentOf f) (f .block)) (held : at ≡ place) (counted : place ≡ pctr (codeWordAt s (lbase s))) where
-    planned : planDecoded f (seen s) (decodeOf (f .regular) (f .alternate) code at) ≡ planAt f (seen s) (pctr (codeWordAt s (lbase s)))
-    unfolding planAt
-    planned = rw (is, held, counted)
-
-    pub step-done : {r : Outcome} {t : List ℕ} → did r t ≡ carry s (planDecoded f (seen s) (decodeOf (f .regular) (f .alternate) code at)) → settled (f .regular) (f .alternate) (headerOf f .rtntrace) r t ≡ stepIn f s
+  -- the instruction at PCTR, done as its plan says
+  module _ (f : Running) {place : ℕ} (counted : place ≡ pctr (codeWordAt s (lbase s))) where
+    pub step-done : {r : Outcome} {t : List ℕ} → CarriesOut s r t (λ sees. planAt f sees place) → settled (f .regular) (f .alternate) (headerOf f .rtntrace) r t ≡ stepIn f s
     unfolding stepIn
-    step-done done = ap (settle (f .regular) (f .alternate) (headerOf f .rtntrace)) (done ∙ ap (carry s) planned)
+    step-done done = ap (settle (f .regular) (f .alternate) (headerOf f .rtntrace)) (rw counted at done)
 
     -- after what has changed no word
-    pub step-kept : (u : List ℕ) {r : Outcome} {t : List ℕ} → u ≡ s → did r t ≡ carry u (planDecoded f (seen u) (decodeOf (f .regular) (f .alternate) code at)) → settled (f .regular) (f .alternate) (headerOf f .rtntrace) r t ≡ stepIn f s
+    pub step-kept : (u : List ℕ) {r : Outcome} {t : List ℕ} → u ≡ s → CarriesOut u r t (λ sees. planAt f sees place) → settled (f .regular) (f .alternate) (headerOf f .rtntrace) r t ≡ stepIn f s
     step-kept u kept done = step-done (rw kept at done)
 
   -- the function of the current frame
-  module _ (regular other : List ℕ) {selector : Bool} {number : ℕ} (P : selectorOf s ≡ selector) (n : numberOf s ≡ number) where
-    found : stepFound regular other s selector (functionOf (selected selector regular other) number) ≡ stepOf regular other s
+  module _ (regular alternate : List ℕ) {selector : Bool} {number : ℕ} (P : selectorOf s ≡ selector) (n : numberOf s ≡ number) where
+    found : stepFound regular alternate s selector (functionOf (selected selector regular alternate) number) ≡ stepOf regular alternate s
     unfolding stepOf
     found = rw (← P, ← n)
 
-    pub step-absent : functionOf (selected selector regular other) number ≡ F.Absent → trapped s 3 1 ≡ stepOf regular other s
-    step-absent is = ap (stepFound regular other s selector) (sym is) ∙ found
+    pub step-absent : functionOf (selected selector regular alternate) number ≡ F.Absent → trapped s 3 1 ≡ stepOf regular alternate s
+    step-absent is = ap (stepFound regular alternate s selector) (sym is) ∙ found
 
-    pub step-found : (block : Block) → functionOf (selected selector regular other) number ≡ F.At block → stepIn (record { regular = regular; alternate = other; selector = selector; block = block }) s ≡ stepOf regular other s
-    step-found block is = ap (stepFound regular other s selector) (sym is) ∙ found
+    pub step-found : (block : Block) → functionOf (selected selector regular alternate) number ≡ F.At block → stepIn (running regular alternate selector block) s ≡ stepOf regular alternate s
+    step-found block is = ap (stepFound regular alternate s selector) (sym is) ∙ found
 
   -- the function that the second word of the current frame tells at once
-  pub step-here : (regular other : List ℕ) (P : Bool) {number : ℕ} (block : Block) {w : ℕ} → number < 2 ^ 11 → functionOf (selected P regular other) number ≡ F.At block → w ≡ codeWordAt s (lbase s) → w / 2 ^ 16 % 2 ^ 12 ≡ number + 2048 * boolByte P → stepIn (record { regular = regular; alternate = other; selector = P; block = block }) s ≡ stepOf regular other s
-  step-here regular other P {number} block {w} small is held same =
+  pub step-here : (regular alternate : List ℕ) (P : Bool) {number : ℕ} (block : Block) {w : ℕ} → number < 2 ^ 11 → functionOf (selected P regular alternate) number ≡ F.At block → w ≡ codeWordAt s (lbase s) → w / 2 ^ 16 % 2 ^ 12 ≡ number + 2048 * boolByte P → stepIn (running regular alternate P block) s ≡ stepOf regular alternate s
+  step-here regular alternate P {number} block {w} small is held same =
       let word = codeWordAt s (lbase s) in
       let told : word / 2 ^ 16 % 2 ^ 12 ≡ number + 2048 * boolByte P = rw (← held) same in
-      step-found regular other (selector-of word number small P told) (number-of word number small P told) block is
+      step-found regular alternate (selector-of word number small P told) (number-of word number small P told) block is

@@ -1,3 +1,2 @@
--- What the contracts inside the crate cite: an instruction by how it was read, and a run that is under way.
-pub mod Obeying
+-- What the contracts inside the crate cite: a run that is under way.
 pub mod Stretches

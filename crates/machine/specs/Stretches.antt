@@ -1,17 +1,33 @@
 -- A run that is under way: some instructions have finished, and it goes on or has trapped. Contracts inside the crate cite it and
 -- that of `run` does not, so a reader need not believe it. Assumes nothing.
 use Prim.Native.Nat.{ℕ, _-_, _<_, _≤_}
+use mathlib.Core.Path.{_≡_}
 use mathlib.Core.List.{List}
+use Rattle.procedure.specs.declared.directory.Function.the-variants.{At}
+use Rattle.procedure.specs.Directory.{functionOf}
+use Rattle.manual.specs.Instructions.{Running, segmentOf}
 use Rattle.effects.specs.declared.Ran.{Ran}
 use Rattle.effects.specs.declared.Ran.the-variants.{Done, Trapped}
+use Rattle.effects.specs.Step.{selectorOf, numberOf}
 use Rattle.effects.specs.Run.{Outcome, ended, stepsFrom}
+
+-- The current frame is of the function `f`, which has that number in its directory.
+pub record Current (f : Running) (number : ℕ) (s : List ℕ) : Type 0 where
+  pub found : functionOf (segmentOf f) number ≡ At (f .block)
+  pub selects : selectorOf s ≡ f .selector
+  pub numbers : numberOf s ≡ number
 
 -- What the whole run comes to, of `budget` instructions, when a stretch of it has answered so.
 abbrev pub resumed : Ran → ℕ → List ℕ → List ℕ → List ℕ → Outcome
-resumed (Done n) budget regular other s = stepsFrom (budget - n) n regular other s
-resumed (Trapped n) budget regular other s = ended (Trapped n) s
+resumed (Done n) budget regular alternate s = stepsFrom (budget - n) n regular alternate s
+resumed (Trapped n) budget regular alternate s = ended (Trapped n) s
 
 -- A stretch that begins after `start` instructions and has not trapped has done at least one more.
 abbrev pub Advanced : ℕ → ℕ → Ran → Type 0
 Advanced start budget (Done n) = (start < n) × (n ≤ budget)
 Advanced start budget (Trapped n) = Unit {0}
+
+-- A stretch's contract: begun after `start` instructions on the words `s`, it answers `r` and leaves the words `t`.
+abbrev pub Resumes : List ℕ → List ℕ → ℕ → ℕ → List ℕ → Ran → List ℕ → Type 0
+Resumes regular alternate start budget s r t =
+    (resumed r budget regular alternate t ≡ stepsFrom (budget - start) start regular alternate s) × Advanced start budget r

@@ -1,313 +1,129 @@
-// The instruction at a place of a function's code: each is done as its bytes are read.
+// The long way of a step: the instruction at a place of a function's code, decoded and then done.
 ghost use mathlib.Core.Path.{_≡_};
 ghost use Prim.Native.Nat.{_≤_};
 ghost use lib.ListN.{length};
-ghost use Rattle.procedure.specs.Headers.{codeOf, lineOf};
 ghost use Rattle.procedure.specs.Directory.{selected};
-ghost use Rattle.instruction.specs.Decoding as decoding;
-ghost use Rattle.instruction.specs.Families.{familyOf};
-ghost use Rattle.manual.specs.Seen.{variablesOf};
+ghost use Rattle.procedure.specs.Headers.{lineOf};
+ghost use Rattle.manual.specs.Loads as loading;
 ghost use Rattle.manual.specs.Control as going;
 ghost use Rattle.manual.specs.Instructions as plan;
-ghost use Rattle.effects.specs.Seen.{seen};
+ghost use Rattle.effects.specs.Carried.{CarriesOut};
 ghost use Rattle.operands.specs.Variables.{variableSeen, Sure};
-ghost use Rattle.effects.specs.Carried.{did, carry};
-ghost use Rattle.machine.specs.Obeying.{obeyed};
-use operands::variables::Resolved;
-use operands::variables::resolve;
-use instructions_control::calls;
-use instructions_control::jumps;
 use descriptor::address::CodeAddress;
+use effects::Outcome;
+use instruction::Address;
 use instruction::ArrayOperation;
 use instruction::ControlOperation;
+use instruction::Decoded;
+use instruction::Instruction;
 use instruction::Jump;
 use instruction::MemoryOperation;
 use instruction::StackOperation;
-use instruction::cursor::Cursor;
-use instruction::cursor::FetchedByte;
-use instruction::cursor::FetchedHalf;
-use instruction::cursor::FetchedWord;
-use instruction::cursor::FetchedWords;
-use instruction::family::Family;
-use instruction::family::family_of;
-use instruction::table::EtcSuboperation;
-use instruction::table::MemorySuboperation;
-use instruction::table::etc_of;
-use instruction::table::memory_of;
-use instruction::variable::FetchedAddress;
-use instruction::variable::address_in;
-use instruction::variable::read_address;
+use instruction::decode::instruction_at;
+use instructions_control::calls;
+use instructions_control::jumps;
 use instructions_memory::loads;
 use instructions_memory::memory;
-use operator::Operator;
-use operator::Suboperation;
-use operator::operator_of;
-use effects::Outcome;
-use procedure::header::Block;
-use procedure::header::Header;
 use instructions_values::arrays;
 use instructions_values::scalars;
 use instructions_values::subscripts;
+use operands::variables::Resolved;
+use operands::variables::resolve;
+use operands::variables::variables;
+use operator::Operator;
+use procedure::header::Block;
+use procedure::header::Header;
 
 // `code` is that of `block`, which stands in the segment that P names.
 pub fn obey(
     seg: &mut [u32],
     regular: &[u8],
-    other: &[u8],
+    alternate: &[u8],
     selector: bool,
     block: Block,
     code: &[u8],
     place: CodeAddress,
     scratch: &mut [u32],
 ) -> Outcome
-    requires { ⌜ (length (now seg) ≤ 16384) × (length (now scratch) ≡ 16384) × (now code ≡ codeOf (selected selector (now regular) (now other)) block) ⌝ }
-    ensures { λ r. ⌜ did r (now (seg .exit)) ≡ carry (now (seg .entry)) (plan.planDecoded (record { regular = now (regular .entry); alternate = now (other .entry); selector = selector; block = block }) (seen (now (seg .entry))) (decoding.decodeOf (now (regular .entry)) (now (other .entry)) (now (code .entry)) (place .0))) ⌝ }
-{
-    if place.number() < 8 {
-        return Outcome::Trapped(3, 1);
-    }
-    match Cursor::new(place).byte(code) {
-        FetchedByte::Outside => Outcome::Trapped(3, 1),
-        FetchedByte::Byte(first, c) => obey_first(
-            seg,
-            regular,
-            other,
-            selector,
-            block,
-            code,
-            first,
-            c,
-            scratch,
-        ),
-    }
-}
-
-// The instruction whose first byte stands before the cursor.
-fn obey_first(
-    seg: &mut [u32],
-    regular: &[u8],
-    other: &[u8],
-    selector: bool,
-    block: Block,
-    code: &[u8],
-    first: u8,
-    c: Cursor,
-    scratch: &mut [u32],
-) -> Outcome
-    requires { ⌜ (length (now seg) ≤ 16384) × (length (now scratch) ≡ 16384) × (now code ≡ codeOf (selected selector (now regular) (now other)) block) ⌝ }
-    ensures { λ r. ⌜ did r (now (seg .exit)) ≡ obeyed (record { regular = now (regular .entry); alternate = now (other .entry); selector = selector; block = block }) (now (seg .entry)) (decoding.familyAt (now (code .entry)) c first (familyOf first)) ⌝ }
-{
-    match family_of(first) {
-        Family::ShortLocal => load(seg, block.header, code, c, first, Family::ShortLocal),
-        Family::ShortConst => short_constant(seg, code, c, first),
-        Family::GenScalar => scalar(seg, operator_of(first % 32), c, scratch),
-        Family::MemRef => memory(seg, block.header, code, memory_of(first % 32), c, scratch),
-        Family::Etc => etc(
-            seg,
-            regular,
-            other,
-            selector,
-            block,
-            code,
-            etc_of(first % 32),
-            c,
-            scratch,
-        ),
-        Family::LongLocal => load(seg, block.header, code, c, first, Family::LongLocal),
-        Family::LongGlobal => load(seg, block.header, code, c, first, Family::LongGlobal),
-        Family::Index => subscripts::index(seg, first % 16, c.place().number()),
-        Family::Unassigned => Outcome::Trapped(3, 11),
-    }
-}
-
-fn load(seg: &mut [u32], h: Header, code: &[u8], c: Cursor, first: u8, family: Family) -> Outcome
-    requires { ⌜ length (now seg) ≤ 16384 ⌝ }
-    ensures { λ r. ⌜ ((f : plan.Running) → plan.headerOf f ≡ h → did r (now (seg .exit)) ≡ obeyed f (now (seg .entry)) (decoding.loadAt (now (code .entry)) c first family)) ⌝ }
-{
-    match address_in(code, c, first, family) {
-        FetchedAddress::Trap(class, number) => Outcome::Trapped(class, number),
-        FetchedAddress::At(a, next) => {
-            let variable = resolve(seg, variables(h), a);
-            loads::load(seg, variable, next.place().number())
-        }
-    }
-}
-
-fn short_constant(seg: &mut [u32], code: &[u8], c: Cursor, first: u8) -> Outcome
-    requires { ⌜ length (now seg) ≤ 16384 ⌝ }
-    ensures { λ r. ⌜ ((f : plan.Running) → did r (now (seg .exit)) ≡ obeyed f (now (seg .entry)) (decoding.shortConstantAt (now (code .entry)) c first)) ⌝ }
-{
-    match c.byte(code) {
-        FetchedByte::Outside => Outcome::Trapped(3, 1),
-        FetchedByte::Byte(second, next) => {
-            let half = first as u32 * 0x100 + second as u32;
-            loads::short_constant(
-                seg,
-                half / 0x1000 % 2 == 1,
-                half % 0x1000,
-                next.place().number(),
-            )
-        }
-    }
-}
-
-fn scalar(seg: &mut [u32], sub: Suboperation, c: Cursor, scratch: &mut [u32]) -> Outcome
     requires { ⌜ (length (now seg) ≤ 16384) × (length (now scratch) ≡ 16384) ⌝ }
-    ensures { λ r. ⌜ ((f : plan.Running) → did r (now (seg .exit)) ≡ obeyed f (now (seg .entry)) (decoding.scalarAt sub c)) ⌝ }
+    requires { ⌜ now code ≡ plan.codeIn (plan.running (now regular) (now alternate) selector block) ⌝ }
+    ensures { λ r. ⌜ CarriesOut (now (seg .entry)) r (now (seg .exit)) (λ sees.
+        plan.planAt (plan.running (now (regular .entry)) (now (alternate .entry)) selector block) sees (place .0)) ⌝ }
 {
-    match sub {
-        Suboperation::Defined(op) => scalar_operation(seg, op, c.place().number(), scratch),
-        Suboperation::Undefined => Outcome::Trapped(3, 9),
-    }
-}
-
-fn memory(
-    seg: &mut [u32],
-    h: Header,
-    code: &[u8],
-    sub: MemorySuboperation,
-    c: Cursor,
-    scratch: &mut [u32],
-) -> Outcome
-    requires { ⌜ (length (now seg) ≤ 16384) × (length (now scratch) ≡ 16384) ⌝ }
-    ensures { λ r. ⌜ ((f : plan.Running) → plan.headerOf f ≡ h → did r (now (seg .exit)) ≡ obeyed f (now (seg .entry)) (decoding.memoryAt (now (code .entry)) c sub)) ⌝ }
-{
-    match sub {
-        MemorySuboperation::Undefined => Outcome::Trapped(3, 8),
-        MemorySuboperation::Defined(op) => match read_address(code, c) {
-            FetchedAddress::Trap(class, number) => Outcome::Trapped(class, number),
-            FetchedAddress::At(a, next) => {
-                let variable = resolve(seg, variables(h), a);
-                memory_operation(seg, op, variable, next.place().number(), scratch)
-            }
-        },
-    }
-}
-
-fn etc(
-    seg: &mut [u32],
-    regular: &[u8],
-    other: &[u8],
-    selector: bool,
-    block: Block,
-    code: &[u8],
-    sub: EtcSuboperation,
-    c: Cursor,
-    scratch: &mut [u32],
-) -> Outcome
-    requires { ⌜ (length (now seg) ≤ 16384) × (length (now scratch) ≡ 16384) × (now code ≡ codeOf (selected selector (now regular) (now other)) block) ⌝ }
-    ensures { λ r. ⌜ did r (now (seg .exit)) ≡ obeyed (record { regular = now (regular .entry); alternate = now (other .entry); selector = selector; block = block }) (now (seg .entry)) (decoding.etcAt (now (code .entry)) c sub) ⌝ }
-{
-    match sub {
-        EtcSuboperation::Stack(op) => stack_operation(seg, op, c.place().number()),
-        EtcSuboperation::Array(op) => array_operation(seg, op, c.place().number(), scratch),
-        EtcSuboperation::Control(op) => control_operation(
-            seg,
-            regular,
-            other,
-            selector,
-            block,
-            op,
-            c.place().number(),
-        ),
-        EtcSuboperation::Jump(jump) => jump_to(seg, block.header, code, c, jump),
-        EtcSuboperation::ConstantScalar => constant_scalar(seg, code, c),
-        EtcSuboperation::ConstantVector => constant_vector(seg, code, c, scratch),
-        EtcSuboperation::Call => call(seg, regular, other, code, c),
-        EtcSuboperation::Undefined => Outcome::Trapped(3, 11),
-    }
-}
-
-fn jump_to(seg: &mut [u32], h: Header, code: &[u8], c: Cursor, jump: Jump) -> Outcome
-    ensures { λ r. ⌜ ((f : plan.Running) → plan.headerOf f ≡ h → did r (now (seg .exit)) ≡ obeyed f (now (seg .entry)) (decoding.jumpAt (now (code .entry)) c jump)) ⌝ }
-{
-    match c.half(code) {
-        FetchedHalf::Outside => Outcome::Trapped(3, 1),
-        FetchedHalf::Half(to, next) => jump_operation(
-            seg,
-            h,
-            jump,
-            to as u32,
-            next.place().number(),
-        ),
-    }
-}
-
-fn constant_scalar(seg: &mut [u32], code: &[u8], c: Cursor) -> Outcome
-    requires { ⌜ length (now seg) ≤ 16384 ⌝ }
-    ensures { λ r. ⌜ ((f : plan.Running) → did r (now (seg .exit)) ≡ obeyed f (now (seg .entry)) (decoding.constantScalarAt (now (code .entry)) c)) ⌝ }
-{
-    match c.word(code) {
-        FetchedWord::Outside => Outcome::Trapped(3, 1),
-        FetchedWord::Word(w, next) => loads::constant_scalar(seg, w, next.place().number()),
-    }
-}
-
-// The words stand in the code.
-fn constant_vector(seg: &mut [u32], code: &[u8], c: Cursor, scratch: &mut [u32]) -> Outcome
-    requires { ⌜ (length (now seg) ≤ 16384) × (length (now scratch) ≡ 16384) ⌝ }
-    ensures { λ r. ⌜ ((f : plan.Running) → codeOf (plan.segmentOf f) (f .block) ≡ now (code .entry) → did r (now (seg .exit)) ≡ obeyed f (now (seg .entry)) (decoding.constantVectorAt (now (code .entry)) c)) ⌝ }
-{
-    match c.byte(code) {
-        FetchedByte::Outside => Outcome::Trapped(3, 1),
-        FetchedByte::Byte(count, next) => match next.words(code, count) {
-            FetchedWords::Outside => Outcome::Trapped(3, 1),
-            FetchedWords::Words(first, after) => loads::constant_vector(
+    match instruction_at(code, place) {
+        Decoded::Trap(class, number) => Outcome::Trapped(class, number),
+        Decoded::Instruction(i, next) => match i {
+            Instruction::Load(a) => load(seg, block.header, a, next),
+            Instruction::ShortConstant {
+                negative,
+                magnitude,
+            } => loads::short_constant(seg, negative, magnitude, next),
+            Instruction::Scalar(op) => scalar(seg, op, next, scratch),
+            Instruction::Memory(op, a) => memory_reference(seg, block.header, op, a, next, scratch),
+            Instruction::Stack(op) => stack(seg, op, next),
+            Instruction::Array(op) => array(seg, op, next, scratch),
+            Instruction::Control(op) => control(seg, regular, alternate, selector, block, op, next),
+            Instruction::Jump(jump, to) => jump_to(seg, block.header, jump, to, next),
+            Instruction::ConstantScalar(w) => loads::constant_scalar(seg, w, next),
+            Instruction::ConstantVector { count, first } => loads::constant_vector(
                 seg,
                 code,
                 count,
-                first.place(),
-                after.place().number(),
+                first,
+                next,
                 scratch,
             ),
+            Instruction::Call {
+                arguments,
+                alternate: p,
+                function,
+            } => calls::call(
+                seg,
+                regular,
+                alternate,
+                arguments,
+                p,
+                function % 0x800,
+                next,
+            ),
+            Instruction::Index(rank) => subscripts::index(seg, rank, next),
         },
     }
 }
 
-fn call(seg: &mut [u32], regular: &[u8], other: &[u8], code: &[u8], c: Cursor) -> Outcome
+fn load(seg: &mut [u32], h: Header, a: Address, next: CodeAddress) -> Outcome
     requires { ⌜ length (now seg) ≤ 16384 ⌝ }
-    ensures { λ r. ⌜ ((f : plan.Running) → f .regular ≡ now (regular .entry) → f .alternate ≡ now (other .entry) → did r (now (seg .exit)) ≡ obeyed f (now (seg .entry)) (decoding.callAt (now (code .entry)) c)) ⌝ }
+    ensures { λ r. ⌜ CarriesOut (now (seg .entry)) r (now (seg .exit)) (λ sees. loading.load sees (next .0) (plan.resolve sees h a)) ⌝ }
 {
-    match c.half(code) {
-        FetchedHalf::Outside => Outcome::Trapped(3, 1),
-        FetchedHalf::Half(half, next) => calls::call(
-            seg,
-            regular,
-            other,
-            half / 0x1000,
-            half / 0x800 % 2 == 1,
-            half % 0x800,
-            next.place().number(),
-        ),
-    }
+    let variable = resolve(seg, variables(h), a);
+    loads::load(seg, variable, next)
 }
 
-// The variables of a function's frame.
-fn variables(h: Header) -> u32
-    ensures { λ r. ⌜ r ≡ variablesOf h ⌝ }
-{
-    h.nargs as u32 + h.nlocals as u32
-}
-
-fn scalar_operation(seg: &mut [u32], op: Operator, next: u32, scratch: &mut [u32]) -> Outcome
+fn memory_reference(
+    seg: &mut [u32],
+    h: Header,
+    op: MemoryOperation,
+    a: Address,
+    next: CodeAddress,
+    scratch: &mut [u32],
+) -> Outcome
     requires { ⌜ (length (now seg) ≤ 16384) × (length (now scratch) ≡ 16384) ⌝ }
-    ensures { λ r. ⌜ did r (now (seg .exit)) ≡ carry (now (seg .entry)) (plan.scalarPlan (seen (now (seg .entry))) next op) ⌝ }
+    ensures { λ r. ⌜ CarriesOut (now (seg .entry)) r (now (seg .exit)) (λ sees. plan.memoryPlan sees (next .0) op (plan.resolve sees h a)) ⌝ }
 {
-    match op {
-        Operator::Monadic(m) => scalars::monadic(seg, m, next, scratch),
-        Operator::Dyadic(d) => scalars::dyadic(seg, d, next, scratch),
-    }
+    let variable = resolve(seg, variables(h), a);
+    memory_operation(seg, op, variable, next, scratch)
 }
 
 fn memory_operation(
     seg: &mut [u32],
     op: MemoryOperation,
     variable: Resolved,
-    next: u32,
+    next: CodeAddress,
     scratch: &mut [u32],
 ) -> Outcome
     requires { ⌜ (length (now seg) ≤ 16384) × (length (now scratch) ≡ 16384) × Sure (now seg) variable ⌝ }
-    ensures { λ r. ⌜ did r (now (seg .exit)) ≡ carry (now (seg .entry)) (plan.memoryPlan (seen (now (seg .entry))) next op (variableSeen (now (seg .entry)) variable)) ⌝ }
+    ensures { λ r. ⌜ CarriesOut (now (seg .entry)) r (now (seg .exit)) (λ sees.
+        plan.memoryPlan sees (next .0) op (variableSeen (now (seg .entry)) variable)) ⌝ }
 {
     match op {
         MemoryOperation::AssignIndexed(rank) => memory::assign_indexed(
@@ -324,9 +140,19 @@ fn memory_operation(
     }
 }
 
-fn stack_operation(seg: &mut [u32], op: StackOperation, next: u32) -> Outcome
+fn scalar(seg: &mut [u32], op: Operator, next: CodeAddress, scratch: &mut [u32]) -> Outcome
+    requires { ⌜ (length (now seg) ≤ 16384) × (length (now scratch) ≡ 16384) ⌝ }
+    ensures { λ r. ⌜ CarriesOut (now (seg .entry)) r (now (seg .exit)) (λ sees. plan.scalarPlan sees (next .0) op) ⌝ }
+{
+    match op {
+        Operator::Monadic(m) => scalars::monadic(seg, m, next, scratch),
+        Operator::Dyadic(d) => scalars::dyadic(seg, d, next, scratch),
+    }
+}
+
+fn stack(seg: &mut [u32], op: StackOperation, next: CodeAddress) -> Outcome
     requires { ⌜ length (now seg) ≤ 16384 ⌝ }
-    ensures { λ r. ⌜ did r (now (seg .exit)) ≡ carry (now (seg .entry)) (plan.stackPlan (seen (now (seg .entry))) next op) ⌝ }
+    ensures { λ r. ⌜ CarriesOut (now (seg .entry)) r (now (seg .exit)) (λ sees. plan.stackPlan sees (next .0) op) ⌝ }
 {
     match op {
         StackOperation::Undefined => loads::push_undefined(seg, next),
@@ -337,9 +163,9 @@ fn stack_operation(seg: &mut [u32], op: StackOperation, next: u32) -> Outcome
     }
 }
 
-fn array_operation(seg: &mut [u32], op: ArrayOperation, next: u32, scratch: &mut [u32]) -> Outcome
+fn array(seg: &mut [u32], op: ArrayOperation, next: CodeAddress, scratch: &mut [u32]) -> Outcome
     requires { ⌜ (length (now seg) ≤ 16384) × (length (now scratch) ≡ 16384) ⌝ }
-    ensures { λ r. ⌜ did r (now (seg .exit)) ≡ carry (now (seg .entry)) (plan.arrayPlan (seen (now (seg .entry))) next op) ⌝ }
+    ensures { λ r. ⌜ CarriesOut (now (seg .entry)) r (now (seg .exit)) (λ sees. plan.arrayPlan sees (next .0) op) ⌝ }
 {
     match op {
         ArrayOperation::Shape => arrays::shape(seg, next),
@@ -350,20 +176,21 @@ fn array_operation(seg: &mut [u32], op: ArrayOperation, next: u32, scratch: &mut
     }
 }
 
-fn control_operation(
+fn control(
     seg: &mut [u32],
     regular: &[u8],
-    other: &[u8],
+    alternate: &[u8],
     selector: bool,
     block: Block,
     op: ControlOperation,
-    next: u32,
+    next: CodeAddress,
 ) -> Outcome
     requires { ⌜ length (now seg) ≤ 16384 ⌝ }
-    ensures { λ r. ⌜ did r (now (seg .exit)) ≡ carry (now (seg .entry)) (plan.controlPlan (record { regular = now (regular .entry); alternate = now (other .entry); selector = selector; block = block }) (seen (now (seg .entry))) next op) ⌝ }
+    ensures { λ r. ⌜ CarriesOut (now (seg .entry)) r (now (seg .exit)) (λ sees.
+        plan.controlPlan (plan.running (now (regular .entry)) (now (alternate .entry)) selector block) sees (next .0) op) ⌝ }
 {
     match op {
-        ControlOperation::Branch => branch(seg, regular, other, selector, block, next),
+        ControlOperation::Branch => branch(seg, regular, alternate, selector, block, next),
         ControlOperation::Return => calls::return_from(seg, block.header),
         ControlOperation::NoOperation => memory::no_operation(seg, next),
         ControlOperation::Breakpoint => Outcome::Trapped(2, 4),
@@ -374,25 +201,27 @@ fn control_operation(
 fn branch(
     seg: &mut [u32],
     regular: &[u8],
-    other: &[u8],
+    alternate: &[u8],
     selector: bool,
     block: Block,
-    next: u32,
+    next: CodeAddress,
 ) -> Outcome
-    ensures { λ r. ⌜ did r (now (seg .exit)) ≡ carry (now (seg .entry)) (going.branch (seen (now (seg .entry))) (block .header) (lineOf (selected selector (now (regular .entry)) (now (other .entry))) block) next) ⌝ }
+    ensures { λ r. ⌜ CarriesOut (now (seg .entry)) r (now (seg .exit)) (λ sees.
+        going.branch sees (block .header) (lineOf (selected selector (now (regular .entry)) (now (alternate .entry))) block) (next .0)) ⌝ }
 {
     if selector {
-        return jumps::branch(seg, other, block, next);
+        return jumps::branch(seg, alternate, block, next);
     }
     jumps::branch(seg, regular, block, next)
 }
 
-fn jump_operation(seg: &mut [u32], h: Header, jump: Jump, place: u32, next: u32) -> Outcome
-    ensures { λ r. ⌜ ((f : plan.Running) → plan.headerOf f ≡ h → did r (now (seg .exit)) ≡ carry (now (seg .entry)) (plan.jumpPlan f (seen (now (seg .entry))) next jump place)) ⌝ }
+fn jump_to(seg: &mut [u32], h: Header, jump: Jump, to: CodeAddress, next: CodeAddress) -> Outcome
+    ensures { λ r. ⌜ ((f : plan.Running) → plan.headerOf f ≡ h
+        → CarriesOut (now (seg .entry)) r (now (seg .exit)) (λ sees. plan.jumpPlan f sees (next .0) jump (to .0))) ⌝ }
 {
     match jump {
-        Jump::Go => jumps::go(seg, h, place),
-        Jump::GoTrue => jumps::go_if(seg, h, true, place, next),
-        Jump::GoFalse => jumps::go_if(seg, h, false, place, next),
+        Jump::Go => jumps::go(seg, h, to),
+        Jump::GoTrue => jumps::go_if(seg, h, true, to, next),
+        Jump::GoFalse => jumps::go_if(seg, h, false, to, next),
     }
 }

@@ -1,58 +1,68 @@
-use mathlib.Core.Path.{_∙_}
-use borrow.Author.Tests.{lt-ltb, le-ltb}
-use Rattle.instruction.specs.Decoding.{decodeOf, callChecked, instructionAt}
+use mathlib.Core.Path.{refl}
+use Rattle.manual.specs.Instructions.{planOf}
+use Rattle.machine.proofs.Dispatching.{obeyed}
 use borrow.Author.Needs.{needs}
 use Rattle.machine.proofs.dispatch.obey.Statement.{statement}
 use Rattle.machine.proofs.dispatch.obey.Tie as tie
 
-number-requires : tie.Need-number-requires
-number-requires c κs = search needs
-
-returns : tie.Need-returns
-unfolding decodeOf callChecked instructionAt
-returns c = simp (← c .before .number .ensures, lt-ltb _ _ (c .if1 .taken))
-
-new-requires : tie.Need-new-requires
-new-requires c κs = search needs
-
-byte-requires : tie.Need-byte-requires
-byte-requires c κs = search needs
-
-enum-told : tie.Need-enum-told
-enum-told c = search needs
-
-enum-known-first : tie.Need-enum-known-first
-enum-known-first c = search needs
-
-obey-first-requires : tie.Need-obey-first-requires
-obey-first-requires c κs = search needs
-
-returns-2 : tie.Need-returns-2
-unfolding decodeOf callChecked instructionAt
-returns-2 c = simp (le-ltb _ _ (rw (c .before .before .before .before .before .number .ensures) at (c .before .before .before .before .if1 .left)), ← c .before .before .before .new .ensures, ← c .before .before .byte .ensures, c .enum-told .given .1)
-
-same-length : tie.Need-same-length
-same-length c = search needs
-
-same-length-2 : tie.Need-same-length-2
-same-length-2 c = search needs
-
-returns-3 : tie.Need-returns-3
-unfolding decodeOf instructionAt
-returns-3 c = c .before .before .before .before .obey-first .ensures ∙ simp (le-ltb _ _ (rw (c .before .before .before .before .before .before .before .before .before .before .before .before .before .number .ensures) at (c .before .before .before .before .before .before .before .before .before .before .before .before .if1 .left)), ← c .before .before .before .before .before .before .before .before .before .before .before .new .ensures, ← c .before .before .before .before .before .before .before .before .before .before .byte .ensures, c .before .before .before .before .before .before .before .before .first .given .1)
-
 pub obey-spec : {M : Type 1} → statement M
+unfolding planOf
 obey-spec =
     tie.close
     (tie.spec
-    number-requires
-    returns
-    new-requires
-    byte-requires
-    enum-told
-    enum-known-first
-    obey-first-requires
-    returns-2
-    same-length
-    same-length-2
-    returns-3)
+    (λ c κs. search needs)
+    (λ c. search needs)
+    (λ c. search needs)
+    (λ c. search needs)
+    (λ c κs. search needs)
+    (λ c. search needs)
+    (λ c κs. search needs)
+    (λ c. search needs)
+    (λ c κs. search needs)
+    (λ c. search needs)
+    (λ c κs. search needs)
+    (λ c. search needs)
+    (λ c κs. search needs)
+    (λ c. search needs)
+    (λ c κs. search needs)
+    (λ c. search needs)
+    (λ c κs. search needs)
+    (λ c. search needs)
+    (λ c κs. search needs)
+    (λ c. search needs)
+    (λ c κs. search needs)
+    (λ c. search needs)
+    (λ c κs. search needs)
+    (λ c. search needs)
+    (λ c κs. search needs)
+    (λ c. search needs)
+    (λ c κs. search needs)
+    (λ c. obeyed _ _ _ (c .before .before .before .before .before .before .before .before .before .pre .1) (c .before .before .before .instruction-at .ensures) (c .before .class .given .1) refl)
+    (λ c. search needs)
+    (λ c. obeyed _ _ _ (c .before .before .before .before .before .before .before .before .before .before .before .before .before .before .before .before .pre .1) (c .before .before .before .before .before .before .before .before .before .before .instruction-at .ensures) (rw (c .before .before .before .before .before .i2 .given .1) at (c .before .before .before .before .before .before .before .before .i .given .1)) (c .before .before .load .ensures))
+    (λ c. search needs)
+    (λ c. obeyed _ _ _ (c .before .before .before .before .before .before .before .before .before .before .before .before .before .before .before .before .pre .1) (c .before .before .before .before .before .before .before .before .before .before .instruction-at .ensures) (rw (c .before .before .before .before .before .i3 .given .1) at (c .before .before .before .before .before .before .before .before .i .given .1)) (c .before .before .short-constant .ensures))
+    (λ c. search needs)
+    (λ c. search needs)
+    (λ c. obeyed _ _ _ (c .before .before .before .before .before .before .before .before .before .before .before .before .before .before .before .before .before .before .before .pre .1) (c .before .before .before .before .before .before .before .before .before .before .before .before .before .instruction-at .ensures) (rw (c .before .before .before .before .before .before .before .before .i4 .given .1) at (c .before .before .before .before .before .before .before .before .before .before .before .i .given .1)) (c .before .before .before .before .scalar .ensures))
+    (λ c. search needs)
+    (λ c. search needs)
+    (λ c. obeyed _ _ _ (c .before .before .before .before .before .before .before .before .before .before .before .before .before .before .before .before .before .before .before .pre .1) (c .before .before .before .before .before .before .before .before .before .before .before .before .before .instruction-at .ensures) (rw (c .before .before .before .before .before .before .before .before .i5 .given .1) at (c .before .before .before .before .before .before .before .before .before .before .before .i .given .1)) (c .before .before .before .before .memory-reference .ensures))
+    (λ c. search needs)
+    (λ c. obeyed _ _ _ (c .before .before .before .before .before .before .before .before .before .before .before .before .before .before .before .before .pre .1) (c .before .before .before .before .before .before .before .before .before .before .instruction-at .ensures) (rw (c .before .before .before .before .before .i6 .given .1) at (c .before .before .before .before .before .before .before .before .i .given .1)) (c .before .before .stack .ensures))
+    (λ c. search needs)
+    (λ c. search needs)
+    (λ c. obeyed _ _ _ (c .before .before .before .before .before .before .before .before .before .before .before .before .before .before .before .before .before .before .before .pre .1) (c .before .before .before .before .before .before .before .before .before .before .before .before .before .instruction-at .ensures) (rw (c .before .before .before .before .before .before .before .before .i7 .given .1) at (c .before .before .before .before .before .before .before .before .before .before .before .i .given .1)) (c .before .before .before .before .array .ensures))
+    (λ c. search needs)
+    (λ c. obeyed _ _ _ (c .before .before .before .before .before .before .before .before .before .before .before .before .before .before .before .before .pre .1) (c .before .before .before .before .before .before .before .before .before .before .instruction-at .ensures) (rw (c .before .before .before .before .before .i8 .given .1) at (c .before .before .before .before .before .before .before .before .i .given .1)) (c .before .before .control .ensures))
+    (λ c. search needs)
+    (λ c. obeyed _ _ _ (c .before .before .before .before .before .before .before .before .before .before .before .before .before .before .before .before .pre .1) (c .before .before .before .before .before .before .before .before .before .before .instruction-at .ensures) (rw (c .before .before .before .before .before .i9 .given .1) at (c .before .before .before .before .before .before .before .before .i .given .1)) (c .before .before .jump-to .ensures _ refl))
+    (λ c. search needs)
+    (λ c. obeyed _ _ _ (c .before .before .before .before .before .before .before .before .before .before .before .before .before .before .before .before .pre .1) (c .before .before .before .before .before .before .before .before .before .before .instruction-at .ensures) (rw (c .before .before .before .before .before .i10 .given .1) at (c .before .before .before .before .before .before .before .before .i .given .1)) (c .before .before .constant-scalar .ensures))
+    (λ c. search needs)
+    (λ c. search needs)
+    (λ c. obeyed _ _ _ (c .before .before .before .before .before .before .before .before .before .before .before .before .before .before .before .before .before .before .before .pre .1) (c .before .before .before .before .before .before .before .before .before .before .before .before .before .instruction-at .ensures) (rw (c .before .before .before .before .before .before .before .before .i11 .given .1) at (c .before .before .before .before .before .before .before .before .before .before .before .i .given .1)) (rw (c .before .before .before .before .before .before .before .before .before .before .before .before .before .before .before .before .before .before .before .pre .1) at (c .before .before .before .before .constant-vector .ensures)))
+    (λ c. search needs)
+    (λ c. obeyed _ _ _ (c .before .before .before .before .before .before .before .before .before .before .before .before .before .before .before .before .pre .1) (c .before .before .before .before .before .before .before .before .before .before .instruction-at .ensures) (rw (c .before .before .before .before .before .i12 .given .1) at (c .before .before .before .before .before .before .before .before .i .given .1)) (c .before .before .call .ensures))
+    (λ c. search needs)
+    (λ c. obeyed _ _ _ (c .before .before .before .before .before .before .before .before .before .before .before .before .before .before .before .before .pre .1) (c .before .before .before .before .before .before .before .before .before .before .instruction-at .ensures) (rw (c .before .before .before .before .before .i13 .given .1) at (c .before .before .before .before .before .before .before .before .i .given .1)) (c .before .before .index .ensures)))

@@ -9,49 +9,13 @@ use Rattle.machine.proofs.run.steps_up_to.Statement.{statement}
 use Rattle.machine.proofs.run.steps_up_to.Tie as tie
 
 abbrev Inv-loop : tie.InvT-loop
-Inv-loop seg₀ regular other budget scratch₀ steps₀ seg scratch steps =
+Inv-loop seg₀ regular alternate budget scratch₀ steps₀ seg scratch steps =
     (steps ≤ budget) × (length seg ≡ length seg₀) × (length scratch ≡ length scratch₀)
-    × (stepsFrom (budget - steps) steps regular other seg ≡ stepsFrom budget 0 regular other seg₀)
+    × (stepsFrom (budget - steps) steps regular alternate seg ≡ stepsFrom budget 0 regular alternate seg₀)
 
 abbrev μ-loop : tie.MeasureT-loop
-μ-loop seg₀ regular other budget scratch₀ steps₀ seg scratch steps =
+μ-loop seg₀ regular alternate budget scratch₀ steps₀ seg scratch steps =
     budget - steps
-
-loop-holds : tie.Need-loop-holds Inv-loop μ-loop
-loop-holds c = let all = c .before .before .before .before .args .budget in let none : all - 0 ≡ all = omega arith in (search needs, refl, refl, rw none)
-
-stretch-requires : tie.Need-stretch-requires Inv-loop μ-loop
-stretch-requires c κs = search needs
-
-enum-known-n : tie.Need-enum-known-n Inv-loop μ-loop
-enum-known-n c = search needs
-
-same-length : tie.Need-same-length Inv-loop μ-loop
-same-length c = search needs
-
-same-length-2 : tie.Need-same-length-2 Inv-loop μ-loop
-same-length-2 c = search needs
-
-returns : tie.Need-returns Inv-loop μ-loop
-returns c = let a = c .before .before .before .before .before .before .before .before .before .before .before .before .before .before .before .before .args in let p = c .before .before .before .before .before .before .before .stretch in stops (a .regular .now) (a .other .now) (a .budget) _ (p .last .0) (c .before .n .given .1) (p .ensures .0) ∙ c .before .before .before .before .before .before .before .before .before .before .before .loop .inv .3
-
-enum-known-n-2 : tie.Need-enum-known-n-2 Inv-loop μ-loop
-enum-known-n-2 c = search needs
-
-loop-less : tie.Need-loop-less Inv-loop μ-loop
-loop-less c = let p = c .before .before .before .before .before .before .before .stretch in omega (arith, advances _ _ _ (c .before .n2 .given .1) (p .ensures .1))
-
-loop-again : tie.Need-loop-again Inv-loop μ-loop
-loop-again c = let a = c .before .before .before .before .before .before .before .before .before .before .before .before .before .before .before .before .args in let p = c .before .before .before .before .before .before .before .stretch in let l = c .before .before .before .before .before .before .before .before .before .before .before .loop in let on = advances (l .steps) (a .budget) _ (c .before .n2 .given .1) (p .ensures .1) in (on .1, p .kept .0 ∙ l .inv .1, search needs, goes-on (a .regular .now) (a .other .now) (a .budget) _ (p .last .0) (c .before .n2 .given .1) (p .ensures .0) ∙ l .inv .3)
-
-same-length-3 : tie.Need-same-length-3 Inv-loop μ-loop
-same-length-3 c = search needs
-
-same-length-4 : tie.Need-same-length-4 Inv-loop μ-loop
-same-length-4 c = search needs
-
-returns-2 : tie.Need-returns-2 Inv-loop μ-loop
-returns-2 c = run-ends _ _ _ _ _ (omega arith) ∙ c .before .loop .inv .3
 
 pub steps-up-to-spec : {M : Type 1} → statement M
 steps-up-to-spec =
@@ -59,15 +23,15 @@ steps-up-to-spec =
     (tie.spec
     Inv-loop
     μ-loop
-    loop-holds
-    stretch-requires
-    enum-known-n
-    same-length
-    same-length-2
-    returns
-    enum-known-n-2
-    loop-less
-    loop-again
-    same-length-3
-    same-length-4
-    returns-2)
+    (λ c. let all = c .before .before .before .before .args .budget in let none : all - 0 ≡ all = omega arith in (search needs, refl, refl, rw none))
+    (λ c κs. search needs)
+    (λ c. search needs)
+    (λ c. search needs)
+    (λ c. search needs)
+    (λ c. let a = c .before .before .before .before .before .before .before .before .before .before .before .before .before .before .before .before .args in let p = c .before .before .before .before .before .before .before .stretch in stops (a .regular .now) (a .alternate .now) (a .budget) _ (p .last .0) (c .before .n .given .1) (p .ensures .0) ∙ c .before .before .before .before .before .before .before .before .before .before .before .loop .inv .3)
+    (λ c. search needs)
+    (λ c. let p = c .before .before .before .before .before .before .before .stretch in omega (arith, advances _ _ _ (c .before .n2 .given .1) (p .ensures .1)))
+    (λ c. let a = c .before .before .before .before .before .before .before .before .before .before .before .before .before .before .before .before .args in let p = c .before .before .before .before .before .before .before .stretch in let l = c .before .before .before .before .before .before .before .before .before .before .before .loop in let on = advances (l .steps) (a .budget) _ (c .before .n2 .given .1) (p .ensures .1) in (on .1, p .kept .0 ∙ l .inv .1, search needs, goes-on (a .regular .now) (a .alternate .now) (a .budget) _ (p .last .0) (c .before .n2 .given .1) (p .ensures .0) ∙ l .inv .3))
+    (λ c. search needs)
+    (λ c. search needs)
+    (λ c. run-ends _ _ _ _ _ (omega arith) ∙ c .before .loop .inv .3))

@@ -1,51 +1,21 @@
 use mathlib.Core.Path.{refl, _∙_}
-use Rattle.manual.specs.Instructions.{Running}
+use Rattle.manual.specs.Instructions.{running}
+use Rattle.machine.proofs.Dispatching.{obeyed}
 use Rattle.machine.proofs.Stepping.{step-done, step-kept}
 use borrow.Author.Needs.{needs}
 use Rattle.machine.proofs.step.step_in.Statement.{statement}
 use Rattle.machine.proofs.step.step_in.Tie as tie
 
-quick-requires : tie.Need-quick-requires
-quick-requires c κs = search needs
-
-step-trap-requires : tie.Need-step-trap-requires
-step-trap-requires c κs = search needs
-
-same-length : tie.Need-same-length
-same-length c = search needs
-
-returns : tie.Need-returns
-returns c = let a = c .before .before .before .before .before .before .before .before .before .before .before .before .before .before .args in let q = c .before .before .before .before .before .before .before .before .before .before .before .before .before .before .pre in let f : Running = record { regular = a .regular .now; alternate = a .other .now; selector = a .selector; block = a .block } in c .before .before .step-trap .ensures ∙ step-done (a .seg .now) f (q .1 .0) refl (q .1 .1) (c .before .before .before .before .before .before .before .quick .ensures .done (c .before .before .before .before .if1 .taken) f refl)
-
-of-requires : tie.Need-of-requires
-of-requires c κs = search needs
-
-obey-requires : tie.Need-obey-requires
-obey-requires c κs = search needs
-
-settle-requires : tie.Need-settle-requires
-settle-requires c κs = search needs
-
-same-length-2 : tie.Need-same-length-2
-same-length-2 c = search needs
-
-same-length-3 : tie.Need-same-length-3
-same-length-3 c = search needs
-
-returns-2 : tie.Need-returns-2
-returns-2 c = let a = c .before .before .before .before .before .before .before .before .before .before .before .before .before .before .before .before .before .before .before .before .before .before .args in let q = c .before .before .before .before .before .before .before .before .before .before .before .before .before .before .before .before .before .before .before .before .before .before .pre in let f : Running = record { regular = a .regular .now; alternate = a .other .now; selector = a .selector; block = a .block } in let p = c .before .before .before .before .before .before .before .before .before .before .before .before .before .before .before .quick in c .before .before .settle .ensures ∙ step-kept (a .seg .now) f (q .1 .0) (c .before .before .before .before .before .before .before .before .before .before .of .ensures) (q .1 .1) (p .last .0) (p .ensures .kept (c .before .before .before .before .before .before .before .before .before .before .before .before .if1 .left)) (c .before .before .before .before .before .before .before .before .obey .ensures)
-
 pub step-in-spec : {M : Type 1} → statement M
 step-in-spec =
     tie.close
     (tie.spec
-    quick-requires
-    step-trap-requires
-    same-length
-    returns
-    of-requires
-    obey-requires
-    settle-requires
-    same-length-2
-    same-length-3
-    returns-2)
+    (λ c κs. search needs)
+    (λ c κs. search needs)
+    (λ c. search needs)
+    (λ c. let a = c .before .before .before .before .before .before .before .before .before .before .before .before .before .before .args in let q = c .before .before .before .before .before .before .before .before .before .before .before .before .before .before .pre in let f = running (a .regular .now) (a .alternate .now) (a .selector) (a .block) in c .before .before .step-trap .ensures ∙ step-done (a .seg .now) f (q .1 .1) (obeyed _ f _ (q .1 .0) refl refl (c .before .before .before .before .before .before .before .try-fast .ensures f refl .done (c .before .before .before .before .if1 .taken))))
+    (λ c κs. search needs)
+    (λ c κs. search needs)
+    (λ c. search needs)
+    (λ c. search needs)
+    (λ c. let a = c .before .before .before .before .before .before .before .before .before .before .before .before .before .before .before .before .before .before .before .before .before .args in let q = c .before .before .before .before .before .before .before .before .before .before .before .before .before .before .before .before .before .before .before .before .before .pre in let f = running (a .regular .now) (a .alternate .now) (a .selector) (a .block) in let p = c .before .before .before .before .before .before .before .before .before .before .before .before .before .before .try-fast in c .before .before .settle .ensures ∙ step-kept (a .seg .now) f (q .1 .1) (p .last .0) (p .ensures f refl .kept (c .before .before .before .before .before .before .before .before .before .before .before .if1 .left)) (c .before .before .before .before .before .before .before .before .obey .ensures)))

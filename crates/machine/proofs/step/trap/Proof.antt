@@ -5,14 +5,10 @@ use borrow.Author.Needs.{needs}
 use Rattle.machine.proofs.step.trap.Statement.{statement}
 use Rattle.machine.proofs.step.trap.Tie as tie
 
-set-trap-requires : tie.Need-set-trap-requires
-set-trap-requires c κs = search needs
-
-same-length : tie.Need-same-length
-same-length c = search needs
-
-returns : tie.Need-returns
-returns c = let a = c .before .before .before .before .before .args in (cc) ∙ trap-set (a .seg .now) (a .class) (a .number) (omega arith) (omega arith)
-
 pub trap-spec : {M : Type 1} → statement M
-trap-spec = tie.close (tie.spec set-trap-requires same-length returns)
+trap-spec =
+    tie.close
+    (tie.spec
+    (λ c κs. search needs)
+    (λ c. search needs)
+    (λ c. let a = c .before .before .before .before .before .args in (cc) ∙ trap-set (a .seg .now) (a .class) (a .number) (omega arith) (omega arith)))

@@ -1,9 +1,9 @@
 use borrow.Author.Needs.{needs}
-use Rattle.machine.proofs.dispatch.stack_operation.Statement.{statement}
-use Rattle.machine.proofs.dispatch.stack_operation.Tie as tie
+use Rattle.machine.proofs.dispatch.stack.Statement.{statement}
+use Rattle.machine.proofs.dispatch.stack.Tie as tie
 
-pub stack-operation-spec : {M : Type 1} → statement M
-stack-operation-spec =
+pub stack-spec : {M : Type 1} → statement M
+stack-spec =
     tie.close
     (tie.spec
     (λ c. search needs)
