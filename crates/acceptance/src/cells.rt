@@ -175,7 +175,7 @@ fn is_direct(w: u32, arrays: &mut [u16]) -> bool
     if w <= Descriptor::INTEGER_LIMIT {
         return true;
     }
-    if w / 0x1_0000 == 0x200 {
+    if w / 0x1_0000 == Descriptor::TYPE_ARRAY * 0x100 {
         return raise_marked(arrays, (w % 0x1_0000) as usize);
     }
     if w == Descriptor::UNDEFINED {

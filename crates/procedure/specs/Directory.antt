@@ -51,11 +51,5 @@ ncodeOf p fn = headerOfFunction p fn .ncode
 abbrev pub resultOf : List ℕ → ℕ → Bool
 resultOf p fn = headerOfFunction p fn .result
 
-abbrev pub calltraceOf : List ℕ → ℕ → Bool
-calltraceOf p fn = headerOfFunction p fn .calltrace
-
-abbrev pub rtntraceOf : List ℕ → ℕ → Bool
-rtntraceOf p fn = headerOfFunction p fn .rtntrace
-
 unfoldable pub functionOf : List ℕ → ℕ → Function
 functionOf p fn = cond (hasFunction p fn) (F.At (blockAt p (startOf p fn))) F.Absent
