@@ -11,6 +11,7 @@ use borrow.Author.Tests.{leb-true, ltb-false, eqb-true, eqb-false, not-true, not
 use Rattle.descriptor.specs.declared.Target.{Target}
 use Rattle.descriptor.specs.declared.Target.the-variants.{Global}
 use Rattle.descriptor.specs.Kinds.{segment, isScalar}
+use Rattle.descriptor.proofs.Truth.{neither}
 use Rattle.segment.specs.Blocks.{product, need}
 use Rattle.segment.specs.Cells.{Cell, undefined, value}
 use Rattle.storage.specs.Heap.{count}
@@ -29,7 +30,6 @@ use Rattle.effects.specs.Fits.{Available, Fits}
 use Rattle.effects.specs.Perform.{noneFor, store, perform, sourceNeed}
 use Rattle.effects.specs.Perform as performing
 use Rattle.effects_theorems.specs.Theorems.{Performed}
-use Rattle.effects_theorems.proofs.Tests.{none-holds}
 use Rattle.effects_theorems.proofs.Variables.{in-view}
 use Rattle.effects_theorems.proofs.Theorems.{effects-theorems}
 use Rattle.plan_theorems.specs.Fitting.{Words}
@@ -54,7 +54,7 @@ use Rattle.audit.proofs.Look.{global-within}
 none-of : (test : ℕ → Bool) (l : List ℕ) → any test l ≡ false → (w : ℕ) → 0 < count w l → test w ≡ false
 none-of test [] h w k = absurd (omega arith)
 none-of test (x ∷ l) h w k =
-    let n = none-holds (test x) (any test l) h in
+    let n = neither (test x) (any test l) h in
     ⊎-elim (λ e. ap test (e .0) ∙ n .0) (λ e. none-of test l (n .1) w (omega (arith, e, k))) (hit-cases w x)
 
 record Value (lengths ravel : List ℕ) : Type 0 where
@@ -227,7 +227,7 @@ module _ (s : List ℕ) (p : Procedures) (g : ℕ) (lengths ravel : List ℕ) wh
 
       in-vain : judgement ≡ 0 → (isGlobal s g ≡ true) × (isValue lengths ravel ≡ true) × (hasRoom s lengths ravel ≡ false) → LoadInVain s p g lengths ravel
       in-vain h k =
-          let n = none-holds (eqb (length lengths) 0) (longEnough s (need lengths ravel)) (k .2) in
+          let n = neither (eqb (length lengths) 0) (longEnough s (need lengths ravel)) (k .2) in
           record { accepted = segment-told s p ∙ h; global = k .0; value = k .1; asks = eqb-false (length lengths) 0 (n .0); none = n .1 }
 
       full : LoadInVain s p g lengths ravel → first ≡ 24

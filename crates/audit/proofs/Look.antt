@@ -11,6 +11,7 @@ use borrow.Author.Tests.{leb-true, ltb-true, eqb-true, eq-eqb, ne-eqb}
 use Rattle.descriptor.specs.declared.Kind.{Kind}
 use Rattle.descriptor.specs.declared.Kind.the-variants as K
 use Rattle.descriptor.specs.Kinds.{kindOf}
+use Rattle.descriptor.proofs.Truth as truth
 use Rattle.segment.specs.State.{blockptr}
 use Rattle.segment.specs.Blocks.{sizeAt, rankAt, product, shapeAt, elementsAt}
 use Rattle.segment.specs.Parts.{shapePart, elementsPart}
@@ -24,7 +25,6 @@ use Rattle.manual.specs.Loads.{isUndefined}
 use Rattle.effects.specs.Seen.{whole, readKind, read}
 use Rattle.effects_theorems.proofs.Tests.{never}
 use Rattle.effects_theorems.proofs.Reading.{read-cell}
-use Rattle.plan_theorems.proofs.Given.{and-true}
 use Rattle.legality.specs.Legal.{DirectCell}
 use Rattle.legality.proofs.Legal.{global-direct}
 use Rattle.legality.proofs.Cells.{look-global}
@@ -53,8 +53,8 @@ module _ (s : List ℕ) (a : ℕ) where
   parts-seen : whole s a ≡ true → value (shapeAt s a) (elementsAt s a) ≡ value (shapePart s a) (elementsPart s a)
   unfolding whole
   parts-seen h =
-      let r = and-true (leb 1 (rankAt s a)) _ h in
-      let k = and-true (eqb (sizeAt s a) (2 + rankAt s a + product (shapeAt s a))) (leb (a + sizeAt s a) (length s)) (r .1) in
+      let r = truth.both (leb 1 (rankAt s a)) _ h in
+      let k = truth.both (eqb (sizeAt s a) (2 + rankAt s a + product (shapeAt s a))) (leb (a + sizeAt s a) (length s)) (r .1) in
       let size : sizeAt s a ≡ 2 + rankAt s a + product (shapeAt s a) = eqb-true _ _ (k .0) in
       let fits : a + sizeAt s a ≤ length s = leb-true _ _ (k .1) in
       rw (shape-part s a (omega arith), elements-part s a size fits)
