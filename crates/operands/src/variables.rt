@@ -1,6 +1,6 @@
 // The variable that an address leads to, with one indirection.
 ghost use mathlib.Core.Path.{_≡_};
-ghost use lib.ListN.{set};
+ghost use Rattle.manual.specs.Seen.{variablesOf};
 ghost use Rattle.effects.specs.Sources as sources;
 ghost use Rattle.operands.specs.Variables as meaning;
 use descriptor::Descriptor;
@@ -9,8 +9,8 @@ use descriptor::Target;
 use descriptor::address::SegmentAddress;
 use descriptor::address::StackAddress;
 use instruction::Address;
+use procedure::header::Header;
 use segment::minus;
-use segment::put;
 use segment::state::blockptr;
 use segment::state::lbase;
 use segment::state::sbase;
@@ -20,6 +20,13 @@ use segment::word;
 pub enum Resolved {
     At(Target, u32),
     Trap(u8, u8),
+}
+
+// How many variables a function's frame has.
+pub fn variables(h: Header) -> u32
+    ensures { λ r. ⌜ r ≡ variablesOf h ⌝ }
+{
+    h.nargs as u32 + h.nlocals as u32
 }
 
 pub fn resolve(seg: &[u32], variables: u32, address: Address) -> Resolved
@@ -100,13 +107,6 @@ pub fn held(seg: &[u32], t: Target) -> u32
     ensures { λ r. ⌜ r ≡ sources.heldAt (now (seg .entry)) t ⌝ }
 {
     word(seg, place_of(seg, t))
-}
-
-pub fn set_held(seg: &mut [u32], t: Target, w: u32)
-    ensures { λ _. ⌜ now (seg .exit) ≡ set (now (seg .entry)) (sources.addressOf (now (seg .entry)) t) w ⌝ }
-{
-    let i = place_of(seg, t);
-    put(seg, i, w);
 }
 
 // The indirect word that names the variable.
