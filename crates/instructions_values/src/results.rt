@@ -1,18 +1,16 @@
 // Results that take the place of operands.
 ghost use mathlib.Core.Path.{_≡_};
-ghost use mathlib.Core.List.{[], _∷_};
 ghost use mathlib.Core.Bool.{true};
 ghost use Prim.Native.Nat.{_≤_};
 ghost use lib.ListN.{length};
 ghost use Rattle.segment.specs.Blocks as layout;
-ghost use Rattle.manual.specs.OrTrap.{gives, andThen};
-ghost use Rattle.manual.specs.Effects.{word, made, replaces, jumps};
+ghost use Rattle.manual.specs.OrTrap.{gives};
 ghost use Rattle.manual.specs.Values as values;
-ghost use Rattle.manual.specs.Scalars as plan;
 ghost use Rattle.effects.specs.Seen.{whole};
 ghost use Rattle.elements.specs.Answers.{finished};
-ghost use Rattle.effects.specs.Carried.{did, carry};
+ghost use Rattle.instructions_values.specs.Parts.{Carries, ReplacesBy, wordOf, madeOf};
 use operands::reading::lengths_of;
+use descriptor::address::CodeAddress;
 use descriptor::address::SegmentAddress;
 use elements::Finished;
 use effects_code::Done;
@@ -24,9 +22,9 @@ use effects_code::taking::replace_by_word;
 use scalar::Answer;
 
 // A scalar, or its trap.
-pub fn replace_by_answer(seg: &mut [u32], operands: u32, answer: Answer, next: u32) -> Outcome
+pub fn replace_by_answer(seg: &mut [u32], operands: u32, answer: Answer, next: CodeAddress) -> Outcome
     requires { ⌜ 1 ≤ operands ⌝ }
-    ensures { λ r. ⌜ did r (now (seg .exit)) ≡ carry (now (seg .entry)) (andThen (values.answered answer) (λ w. gives (replaces operands (word w) ∷ jumps next ∷ []))) ⌝ }
+    ensures { λ r. ⌜ Carries (now (seg .entry)) r (now (seg .exit)) (λ _. wordOf (next .0) operands (values.answered answer)) ⌝ }
 {
     match answer {
         Answer::Trap(class, number) => Outcome::Trapped(class, number),
@@ -44,10 +42,10 @@ pub fn replace_by_new(
     operands: u32,
     lengths: &[u32],
     ravel: &[u32],
-    next: u32,
+    next: CodeAddress,
 ) -> Outcome
     requires { ⌜ 1 ≤ operands ⌝ }
-    ensures { λ r. ⌜ did r (now (seg .exit)) ≡ carry (now (seg .entry)) (gives (replaces operands (made (now (lengths .entry)) (now (ravel .entry))) ∷ jumps next ∷ [])) ⌝ }
+    ensures { λ r. ⌜ Carries (now (seg .entry)) r (now (seg .exit)) (λ _. madeOf (next .0) operands (now (lengths .entry)) (gives (now (ravel .entry)))) ⌝ }
 {
     match replace_by_array(seg, operands, lengths, ravel) {
         Done::Full => Outcome::Trapped(1, 2),
@@ -64,10 +62,10 @@ pub fn replace_by_like(
     operands: u32,
     block: SegmentAddress,
     ravel: &[u32],
-    next: u32,
+    next: CodeAddress,
 ) -> Outcome
     requires { ⌜ (1 ≤ operands) × (whole (now seg) (block .0) ≡ true) ⌝ }
-    ensures { λ r. ⌜ did r (now (seg .exit)) ≡ carry (now (seg .entry)) (gives (replaces operands (made (layout.shapeAt (now (seg .entry)) (block .0)) (now (ravel .entry))) ∷ jumps next ∷ [])) ⌝ }
+    ensures { λ r. ⌜ Carries (now (seg .entry)) r (now (seg .exit)) (λ s. madeOf (next .0) operands (layout.shapeAt s (block .0)) (gives (now (ravel .entry)))) ⌝ }
 {
     let mut lengths = [0u32; 16];
     let rank = keep(lengths_of(seg, block), &mut lengths);
@@ -81,10 +79,10 @@ pub fn replace_by_elements(
     block: SegmentAddress,
     done: Finished,
     ravel: &[u32],
-    next: u32,
+    next: CodeAddress,
 ) -> Outcome
     requires { ⌜ (1 ≤ operands) × (whole (now seg) (block .0) ≡ true) ⌝ }
-    ensures { λ r. ⌜ did r (now (seg .exit)) ≡ carry (now (seg .entry)) (andThen (finished done (now (ravel .entry))) (λ words. gives (replaces operands (made (layout.shapeAt (now (seg .entry)) (block .0)) words) ∷ jumps next ∷ []))) ⌝ }
+    ensures { λ r. ⌜ Carries (now (seg .entry)) r (now (seg .exit)) (λ s. madeOf (next .0) operands (layout.shapeAt s (block .0)) (finished done (now (ravel .entry)))) ⌝ }
 {
     match done {
         Finished::Trap(class, number) => Outcome::Trapped(class, number),
@@ -93,9 +91,9 @@ pub fn replace_by_elements(
 }
 
 // A new vector.
-pub fn replace_by_vector(seg: &mut [u32], operands: u32, ravel: &[u32], next: u32) -> Outcome
+pub fn replace_by_vector(seg: &mut [u32], operands: u32, ravel: &[u32], next: CodeAddress) -> Outcome
     requires { ⌜ (1 ≤ operands) × (length (now ravel) ≤ 16384) ⌝ }
-    ensures { λ r. ⌜ did r (now (seg .exit)) ≡ carry (now (seg .entry)) (gives (replaces operands (plan.resultOf (values.vector (now (ravel .entry)))) ∷ jumps next ∷ [])) ⌝ }
+    ensures { λ r. ⌜ ReplacesBy (now (seg .entry)) r (now (seg .exit)) (next .0) operands (λ _. gives (values.vector (now (ravel .entry)))) ⌝ }
 {
     let lengths = [ravel.len() as u32];
     replace_by_new(seg, operands, &lengths, ravel, next)

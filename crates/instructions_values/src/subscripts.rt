@@ -1,14 +1,10 @@
 // INDEX: the element that subscripts lead to.
 ghost use mathlib.Core.Path.{_≡_};
-ghost use mathlib.Core.Bool.{true};
 ghost use Prim.Native.Nat.{_≤_, _<_, _%_, _^_};
 ghost use lib.ListN.{length};
-ghost use Rattle.segment.specs.State as fields;
 ghost use Rattle.manual.specs.Scalars as plan;
-ghost use Rattle.effects.specs.Seen.{seen, whole};
-ghost use Rattle.operands.specs.Operands.{held};
-ghost use Rattle.effects.specs.Carried.{did, carry};
-ghost use Rattle.instructions_values.specs.Parts.{indexed};
+ghost use Rattle.effects.specs.Carried.{CarriesOut};
+ghost use Rattle.instructions_values.specs.Parts.{Whole, Carries, arrayAt, originOf, indexed};
 use operands::reading::Operand;
 use operands::reading::Value;
 use operands::reading::count;
@@ -18,6 +14,7 @@ use operands::reading::operand_at;
 use operands::reading::value_of;
 use operands::taken::Taken;
 use operands::taken::take_scalars;
+use descriptor::address::CodeAddress;
 use descriptor::address::SegmentAddress;
 use elements::Found;
 use elements::subscripts::place;
@@ -27,9 +24,9 @@ use effects_code::taking::replace_by_word;
 use segment::state::iorg;
 use segment::word;
 
-pub fn index(seg: &mut [u32], rank: u8, next: u32) -> Outcome
+pub fn index(seg: &mut [u32], rank: u8, next: CodeAddress) -> Outcome
     requires { ⌜ length (now seg) ≤ 16384 ⌝ }
-    ensures { λ r. ⌜ did r (now (seg .exit)) ≡ carry (now (seg .entry)) (plan.index (seen (now (seg .entry))) next (rank % 2 ^ 4)) ⌝ }
+    ensures { λ r. ⌜ CarriesOut (now (seg .entry)) r (now (seg .exit)) (λ sees. plan.index sees (next .0) (rank % 2 ^ 4)) ⌝ }
 {
     let n = (rank % 16) as u32;
     if count(seg) < n + 1 {
@@ -49,9 +46,9 @@ pub fn index(seg: &mut [u32], rank: u8, next: u32) -> Outcome
     }
 }
 
-fn element(seg: &mut [u32], block: SegmentAddress, subscripts: &[u32], next: u32) -> Outcome
-    requires { ⌜ (whole (now seg) (block .0) ≡ true) × (length (now subscripts) < 16) ⌝ }
-    ensures { λ r. ⌜ did r (now (seg .exit)) ≡ carry (now (seg .entry)) (indexed (fields.iorg (fields.flags (now (seg .entry)))) next (now (subscripts .entry)) (held (now (seg .entry)) (Value.Array block))) ⌝ }
+fn element(seg: &mut [u32], block: SegmentAddress, subscripts: &[u32], next: CodeAddress) -> Outcome
+    requires { ⌜ Whole (now seg) block × (length (now subscripts) < 16) ⌝ }
+    ensures { λ r. ⌜ Carries (now (seg .entry)) r (now (seg .exit)) (λ s. indexed (originOf s) (next .0) (now (subscripts .entry)) (arrayAt s block)) ⌝ }
 {
     let lengths = lengths_of(seg, block);
     if subscripts.len() != lengths.len() {

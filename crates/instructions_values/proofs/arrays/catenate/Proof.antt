@@ -18,7 +18,7 @@ returns : tie.Need-returns
 unfolding plan.catenate
 returns c =
     let a = c .before .before .before .before .before .args in
-    two-missing (a .seg .now) (a .next) values.catenate (omega arith)
+    two-missing (a .seg .now) (a .next .0) values.catenate (omega arith)
 
 operand-at-requires : tie.Need-operand-at-requires
 operand-at-requires c κs = search needs
@@ -39,7 +39,7 @@ returns-2 : tie.Need-returns-2
 unfolding plan.catenate
 returns-2 c =
     let a = c .before .before .before .before .before .before .before .before .before .before .args in
-    two-first-other (a .seg .now) (a .next) values.catenate (omega arith) (cc)
+    two-first-other (a .seg .now) (a .next .0) values.catenate (omega arith) (cc)
 
 operand-at-requires-2 : tie.Need-operand-at-requires-2
 operand-at-requires-2 c κs = search needs
@@ -60,7 +60,7 @@ returns-3 : tie.Need-returns-3
 unfolding plan.catenate
 returns-3 c =
     let a = c .before .before .before .before .before .before .before .before .before .before .before .before .before .before .before .before .args in
-    two-second-other (a .seg .now) (a .next) values.catenate (omega arith) (c .before .before .before .before .before .before .a .given .0 .0) (cc) (cc)
+    two-second-other (a .seg .now) (a .next .0) values.catenate (omega arith) (c .before .before .before .before .before .before .a .given .0 .0) (cc) (cc)
 
 rank-of-requires : tie.Need-rank-of-requires
 rank-of-requires c κs = readable (c .before .before .before .before .before .before .before .before .before .before .before .before .before .before .before .before .before .before .args .seg .now) (c .before .before .before .before .before .before .before .before .before .before .before .operand-at .result) _ (sym (c .before .before .before .before .before .before .before .before .before .before .value-of .ensures) ∙ c .before .before .before .before .before .before .before .before .a .given .1)
@@ -72,7 +72,7 @@ returns-4 : tie.Need-returns-4
 unfolding plan.catenate
 returns-4 c =
     let a = c .before .before .before .before .before .before .before .before .before .before .before .before .before .before .before .before .before .before .before .before .args in
-    two-refused (a .seg .now) (a .next) values.catenate (omega arith) (c .before .before .before .before .before .before .before .before .before .before .a .given .0 .0) (cc) (c .before .before .before .before .b .given .0 .0) (cc) 5 0 (catenate-first _ _ (omega arith))
+    two-refused (a .seg .now) (a .next .0) values.catenate (omega arith) (c .before .before .before .before .before .before .before .before .before .before .a .given .0 .0) (cc) (c .before .before .before .before .b .given .0 .0) (cc) 5 0 (catenate-first _ _ (omega arith))
 
 rank-of-requires-2 : tie.Need-rank-of-requires-2
 rank-of-requires-2 c κs = readable (c .before .before .before .before .before .before .before .before .before .before .before .before .before .before .before .before .before .before .before .before .before .args .seg .now) (c .before .before .before .before .before .before .before .before .operand-at2 .result) _ (sym (c .before .before .before .before .before .before .before .value-of2 .ensures) ∙ c .before .before .before .before .before .b .given .1)
@@ -84,7 +84,7 @@ returns-5 : tie.Need-returns-5
 unfolding plan.catenate
 returns-5 c =
     let a = c .before .before .before .before .before .before .before .before .before .before .before .before .before .before .before .before .before .before .before .before .before .before .before .args in
-    two-refused (a .seg .now) (a .next) values.catenate (omega arith) (c .before .before .before .before .before .before .before .before .before .before .before .before .before .a .given .0 .0) (cc) (c .before .before .before .before .before .before .before .b .given .0 .0) (cc) 5 0 (catenate-second _ _ (omega arith) (omega arith))
+    two-refused (a .seg .now) (a .next .0) values.catenate (omega arith) (c .before .before .before .before .before .before .before .before .before .before .before .before .before .a .given .0 .0) (cc) (c .before .before .before .before .before .before .before .b .given .0 .0) (cc) 5 0 (catenate-second _ _ (omega arith) (omega arith))
 
 join-requires : tie.Need-join-requires
 join-requires c κs =
@@ -101,7 +101,7 @@ returns-6 : tie.Need-returns-6
 unfolding plan.catenate
 returns-6 c =
     let a = c .before .before .before .before .before .before .before .before .before .before .before .before .before .before .before .before .before .before .before .before .before .before .before .before .before .before .before .before .before .before .args in
-    (c .before .before .before .before .join .ensures) ∙ two-values (a .seg .now) (a .next) values.catenate (omega arith) (c .before .before .before .before .before .before .before .before .before .before .before .before .before .before .before .before .before .before .before .before .a .given .0 .0) (cc) (c .before .before .before .before .before .before .before .before .before .before .before .before .before .before .b .given .0 .0) (cc)
+    (c .before .before .before .before .join .ensures) ∙ two-values (a .seg .now) (a .next .0) values.catenate (omega arith) (c .before .before .before .before .before .before .before .before .before .before .before .before .before .before .before .before .before .before .before .before .a .given .0 .0) (cc) (c .before .before .before .before .before .before .before .before .before .before .before .before .before .before .b .given .0 .0) (cc)
 
 pub catenate-spec : {M : Type 1} → statement M
 catenate-spec =

@@ -24,7 +24,7 @@ returns : tie.Need-returns
 unfolding plan.indexGenerator
 returns c =
     let a = c .before .before .before .before .before .args in
-    one-missing (a .seg .now) (a .next) (values.indexGenerator ((seen (a .seg .now)) .origin)) (omega arith)
+    one-missing (a .seg .now) (a .next .0) (values.indexGenerator ((seen (a .seg .now)) .origin)) (omega arith)
 
 operand-at-requires : tie.Need-operand-at-requires
 operand-at-requires c κs = search needs
@@ -45,7 +45,7 @@ returns-2 : tie.Need-returns-2
 unfolding plan.indexGenerator
 returns-2 c =
     let a = c .before .before .before .before .before .before .before .before .before .before .args in
-    one-other (a .seg .now) (a .next) (values.indexGenerator ((seen (a .seg .now)) .origin)) (omega arith) (cc)
+    one-other (a .seg .now) (a .next .0) (values.indexGenerator ((seen (a .seg .now)) .origin)) (omega arith) (cc)
 
 single-requires : tie.Need-single-requires
 single-requires c κs = readable (c .before .before .before .before .before .before .before .before .before .before .before .before .args .seg .now) (c .before .before .before .before .before .operand-at .result) _ (sym (c .before .before .before .before .value-of .ensures) ∙ c .before .before .v .given .1)
@@ -78,7 +78,7 @@ returns-3 : tie.Need-returns-3
 unfolding plan.indexGenerator
 returns-3 c =
     let a = c .before .before .before .before .before .before .before .before .before .before .before .before .before .before .before .before .args in
-    one-refused (a .seg .now) (a .next) (values.indexGenerator ((seen (a .seg .now)) .origin)) (omega arith) (c .before .before .before .before .before .before .v .given .0 .0) (cc) _ _ (generator-refused _ _ _ _ (rw (c .before .class .given .1) at (c .before .before .before .single .ensures)))
+    one-refused (a .seg .now) (a .next .0) (values.indexGenerator ((seen (a .seg .now)) .origin)) (omega arith) (c .before .before .before .before .before .before .v .given .0 .0) (cc) _ _ (generator-refused _ _ _ _ (rw (c .before .class .given .1) at (c .before .before .before .single .ensures)))
 
 same-length-4 : tie.Need-same-length-4
 same-length-4 c = search needs
@@ -87,7 +87,7 @@ returns-4 : tie.Need-returns-4
 unfolding plan.indexGenerator
 returns-4 c =
     let a = c .before .before .before .before .before .before .before .before .before .before .before .before .before .before .before .before .before .before .before .before .args in
-    one-refused (a .seg .now) (a .next) (values.indexGenerator ((seen (a .seg .now)) .origin)) (omega arith) (c .before .before .before .before .before .before .before .before .before .before .v .given .0 .0) (cc) _ _ (generator-no-length _ _ _ (rw (c .before .before .before .before .before .w .given .1) at (c .before .before .before .before .before .before .before .single .ensures)) _ _ (rw (c .before .class2 .given .1) at (c .before .before .before .short .ensures)))
+    one-refused (a .seg .now) (a .next .0) (values.indexGenerator ((seen (a .seg .now)) .origin)) (omega arith) (c .before .before .before .before .before .before .before .before .before .before .v .given .0 .0) (cc) _ _ (generator-no-length _ _ _ (rw (c .before .before .before .before .before .w .given .1) at (c .before .before .before .before .before .before .before .single .ensures)) _ _ (rw (c .before .class2 .given .1) at (c .before .before .before .short .ensures)))
 
 same-length-5 : tie.Need-same-length-5
 same-length-5 c = search needs
@@ -100,7 +100,7 @@ unfolding plan.indexGenerator
 returns-5 c =
     let a = c .before .before .before .before .before .before .before .before .before .before .before .before .before .before .before .before .before .before .before .before .before .before .before .before .before .before .before .args in
     let numbers : gives (values.vector (values.upFrom (iorg (flags (a .seg .now))) (c .before .before .before .before .before .before .before .before .n .given .0 .0))) ≡ values.indexGenerator ((seen (a .seg .now)) .origin) (held (a .seg .now) (c .before .before .before .before .before .before .before .before .before .before .before .before .before .before .before .before .before .v .given .0 .0)) = rw (origin-seen (a .seg .now)) (generator-numbers _ _ _ (rw (c .before .before .before .before .before .before .before .before .before .before .before .before .w .given .1) at (c .before .before .before .before .before .before .before .before .before .before .before .before .before .before .single .ensures)) _ (rw (c .before .before .before .before .before .before .before .before .n .given .1) at (c .before .before .before .before .before .before .before .before .before .before .short .ensures))) in
-    (c .before .before .before .before .generate .ensures) ∙ ap (λ (r : OrTrap values.Value). carry (a .seg .now) (plan.replaceBy (a .next) 1 r)) numbers ∙ one-value (a .seg .now) (a .next) (values.indexGenerator ((seen (a .seg .now)) .origin)) (omega arith) (c .before .before .before .before .before .before .before .before .before .before .before .before .before .before .before .before .before .v .given .0 .0) (cc)
+    (c .before .before .before .before .generate .ensures) ∙ ap (λ (r : OrTrap values.Value). carry (a .seg .now) (plan.replaceBy (a .next .0) 1 r)) numbers ∙ one-value (a .seg .now) (a .next .0) (values.indexGenerator ((seen (a .seg .now)) .origin)) (omega arith) (c .before .before .before .before .before .before .before .before .before .before .before .before .before .before .before .before .before .v .given .0 .0) (cc)
 
 pub index-generator-spec : {M : Type 1} → statement M
 index-generator-spec =

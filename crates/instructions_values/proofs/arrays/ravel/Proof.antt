@@ -23,7 +23,7 @@ returns : tie.Need-returns
 unfolding plan.ravel
 returns c =
     let a = c .before .before .before .before .before .args in
-    one-missing (a .seg .now) (a .next) (λ v. gives (values.ravelOf v)) (omega arith)
+    one-missing (a .seg .now) (a .next .0) (λ v. gives (values.ravelOf v)) (omega arith)
 
 operand-at-requires : tie.Need-operand-at-requires
 operand-at-requires c κs = search needs
@@ -44,7 +44,7 @@ returns-2 : tie.Need-returns-2
 unfolding plan.ravel
 returns-2 c =
     let a = c .before .before .before .before .before .before .before .before .before .before .args in
-    one-other (a .seg .now) (a .next) (λ v. gives (values.ravelOf v)) (omega arith) (cc)
+    one-other (a .seg .now) (a .next .0) (λ v. gives (values.ravelOf v)) (omega arith) (cc)
 
 copy-ravel-requires : tie.Need-copy-ravel-requires
 copy-ravel-requires c κs =
@@ -73,7 +73,7 @@ returns-3 : tie.Need-returns-3
 unfolding plan.ravel
 returns-3 c =
     let a = c .before .before .before .before .before .before .before .before .before .before .before .before .before .before .before .before .before .before .before .before .before .args in
-    (c .before .before .replace-by-vector .ensures) ∙ ap (λ (words : List ℕ). carry (a .seg .now) (plan.replaceBy (a .next) 1 (gives (values.vector words)))) (c .before .before .before .before .before .before .before .copy-ravel .ensures .first) ∙ one-value (a .seg .now) (a .next) (λ v. gives (values.ravelOf v)) (omega arith) (c .before .before .before .before .before .before .before .before .before .before .before .v .given .0 .0) (cc)
+    (c .before .before .replace-by-vector .ensures) ∙ ap (λ (words : List ℕ). carry (a .seg .now) (plan.replaceBy (a .next .0) 1 (gives (values.vector words)))) (c .before .before .before .before .before .before .before .copy-ravel .ensures .first) ∙ one-value (a .seg .now) (a .next .0) (λ v. gives (values.ravelOf v)) (omega arith) (c .before .before .before .before .before .before .before .before .before .before .before .v .given .0 .0) (cc)
 
 pub ravel-spec : {M : Type 1} → statement M
 ravel-spec =

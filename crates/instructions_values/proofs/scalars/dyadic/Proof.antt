@@ -17,7 +17,7 @@ returns : tie.Need-returns
 unfolding plan.dyadic
 returns c =
     let a = c .before .before .before .before .before .args in
-    two-missing (a .seg .now) (a .next) (values.dyadic (a .op)) (omega arith)
+    two-missing (a .seg .now) (a .next .0) (values.dyadic (a .op)) (omega arith)
 
 operand-at-requires : tie.Need-operand-at-requires
 operand-at-requires c κs = search needs
@@ -38,7 +38,7 @@ returns-2 : tie.Need-returns-2
 unfolding plan.dyadic
 returns-2 c =
     let a = c .before .before .before .before .before .before .before .before .before .before .args in
-    two-first-other (a .seg .now) (a .next) (values.dyadic (a .op)) (omega arith) (cc)
+    two-first-other (a .seg .now) (a .next .0) (values.dyadic (a .op)) (omega arith) (cc)
 
 operand-at-requires-2 : tie.Need-operand-at-requires-2
 operand-at-requires-2 c κs = search needs
@@ -59,7 +59,7 @@ returns-3 : tie.Need-returns-3
 unfolding plan.dyadic
 returns-3 c =
     let a = c .before .before .before .before .before .before .before .before .before .before .before .before .before .before .before .before .args in
-    two-second-other (a .seg .now) (a .next) (values.dyadic (a .op)) (omega arith) (c .before .before .before .before .before .before .a .given .0 .0) (cc) (cc)
+    two-second-other (a .seg .now) (a .next .0) (values.dyadic (a .op)) (omega arith) (c .before .before .before .before .before .before .a .given .0 .0) (cc) (cc)
 
 combine-requires : tie.Need-combine-requires
 combine-requires c κs =
@@ -76,7 +76,7 @@ returns-4 : tie.Need-returns-4
 unfolding plan.dyadic
 returns-4 c =
     let a = c .before .before .before .before .before .before .before .before .before .before .before .before .before .before .before .before .before .before .before .before .before .before .before .before .args in
-    (c .before .before .before .before .combine .ensures) ∙ two-values (a .seg .now) (a .next) (values.dyadic (a .op)) (omega arith) (c .before .before .before .before .before .before .before .before .before .before .before .before .before .before .a .given .0 .0) (cc) (c .before .before .before .before .before .before .before .before .b .given .0 .0) (cc)
+    (c .before .before .before .before .combine .ensures) ∙ two-values (a .seg .now) (a .next .0) (values.dyadic (a .op)) (omega arith) (c .before .before .before .before .before .before .before .before .before .before .before .before .before .before .a .given .0 .0) (cc) (c .before .before .before .before .before .before .before .before .b .given .0 .0) (cc)
 
 pub dyadic-spec : {M : Type 1} → statement M
 dyadic-spec =

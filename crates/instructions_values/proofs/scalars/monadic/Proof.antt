@@ -20,7 +20,7 @@ returns : tie.Need-returns
 unfolding plan.monadic
 returns c =
     let a = c .before .before .before .before .before .args in
-    one-missing (a .seg .now) (a .next) (values.monadic (a .op)) (omega arith)
+    one-missing (a .seg .now) (a .next .0) (values.monadic (a .op)) (omega arith)
 
 operand-at-requires : tie.Need-operand-at-requires
 operand-at-requires c κs = search needs
@@ -41,7 +41,7 @@ returns-2 : tie.Need-returns-2
 unfolding plan.monadic
 returns-2 c =
     let a = c .before .before .before .before .before .before .before .before .before .before .args in
-    one-other (a .seg .now) (a .next) (values.monadic (a .op)) (omega arith) (cc)
+    one-other (a .seg .now) (a .next .0) (values.monadic (a .op)) (omega arith) (cc)
 
 enum-known-a-2 : tie.Need-enum-known-a-2
 enum-known-a-2 c = search needs
@@ -66,7 +66,7 @@ unfolding plan.monadic
 returns-3 c =
     let a = c .before .before .before .before .before .before .before .before .before .before .before .before .before .before .before .before .before .before .before .args in
     let w = c .before .before .before .before .before .before .a2 .given .0 .0 in
-    (c .before .before .replace-by-answer .ensures) ∙ rw (c .before .before .before .monadic .ensures) (ap (carry (a .seg .now)) (sym (monadic-scalar (a .next) (a .op) w))) ∙ one-value (a .seg .now) (a .next) (values.monadic (a .op)) (omega arith) (Scalar w) (cc)
+    (c .before .before .replace-by-answer .ensures) ∙ rw (c .before .before .before .monadic .ensures) (ap (carry (a .seg .now)) (sym (monadic-scalar (a .next .0) (a .op) w))) ∙ one-value (a .seg .now) (a .next .0) (values.monadic (a .op)) (omega arith) (Scalar w) (cc)
 
 same-length-4 : tie.Need-same-length-4
 same-length-4 c = search needs
@@ -79,7 +79,7 @@ unfolding plan.monadic
 returns-4 c =
     let a = c .before .before .before .before .before .before .before .before .before .before .before .before .before .before .before .before .before .before .before .before .before .args in
     let block = c .before .before .before .before .before .before .before .before .a3 .given .0 .0 in
-    (c .before .before .before .before .monadic-array .ensures) ∙ one-value (a .seg .now) (a .next) (values.monadic (a .op)) (omega arith) (Array block) (cc)
+    (c .before .before .before .before .monadic-array .ensures) ∙ one-value (a .seg .now) (a .next .0) (values.monadic (a .op)) (omega arith) (Array block) (cc)
 
 pub monadic-spec : {M : Type 1} → statement M
 monadic-spec =

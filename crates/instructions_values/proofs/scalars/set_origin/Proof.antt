@@ -63,25 +63,25 @@ same-length-3 : tie.Need-same-length-3
 same-length-3 c = search needs
 
 returns-3 : tie.Need-returns-3
-returns-3 c = rw (origin-value (c .before .before .before .before .before .before .before .before .before .before .before .before .before .before .before .args .seg .now) (c .before .before .before .before .before .before .before .before .before .before .before .before .before .before .before .args .next) (omega arith) (c .before .before .before .before .before .before .v .given .0 .0) (cc), ← c .before .before .before .single .ensures, c .before .class .given .1)
+returns-3 c = rw (origin-value (c .before .before .before .before .before .before .before .before .before .before .before .before .before .before .before .args .seg .now) (c .before .before .before .before .before .before .before .before .before .before .before .before .before .before .before .args .next .0) (omega arith) (c .before .before .before .before .before .before .v .given .0 .0) (cc), ← c .before .before .before .single .ensures, c .before .class .given .1)
 
 same-length-4 : tie.Need-same-length-4
 same-length-4 c = search needs
 
 returns-4 : tie.Need-returns-4
-returns-4 c = rw (origin-value (c .before .before .before .before .before .before .before .before .before .before .before .before .before .before .before .before .before .before .args .seg .now) (c .before .before .before .before .before .before .before .before .before .before .before .before .before .before .before .before .before .before .args .next) (omega arith) (c .before .before .before .before .before .before .before .before .before .v .given .0 .0) (cc), ← c .before .before .before .before .before .before .single .ensures, c .before .before .before .before .w .given .1, ← c .before .before .truth .ensures, c .enum-told2 .given .1)
+returns-4 c = rw (origin-value (c .before .before .before .before .before .before .before .before .before .before .before .before .before .before .before .before .before .before .args .seg .now) (c .before .before .before .before .before .before .before .before .before .before .before .before .before .before .before .before .before .before .args .next .0) (omega arith) (c .before .before .before .before .before .before .before .before .before .v .given .0 .0) (cc), ← c .before .before .before .before .before .before .single .ensures, c .before .before .before .before .w .given .1, ← c .before .before .truth .ensures, c .enum-told2 .given .1)
 
 same-length-5 : tie.Need-same-length-5
 same-length-5 c = search needs
 
 returns-5 : tie.Need-returns-5
-returns-5 c = rw (origin-value (c .before .before .before .before .before .before .before .before .before .before .before .before .before .before .before .before .before .before .args .seg .now) (c .before .before .before .before .before .before .before .before .before .before .before .before .before .before .before .before .before .before .args .next) (omega arith) (c .before .before .before .before .before .before .before .before .before .v .given .0 .0) (cc), ← c .before .before .before .before .before .before .single .ensures, c .before .before .before .before .w .given .1, ← c .before .before .truth .ensures, c .enum-told3 .given .1)
+returns-5 c = rw (origin-value (c .before .before .before .before .before .before .before .before .before .before .before .before .before .before .before .before .before .before .args .seg .now) (c .before .before .before .before .before .before .before .before .before .before .before .before .before .before .before .before .before .before .args .next .0) (omega arith) (c .before .before .before .before .before .before .before .before .before .v .given .0 .0) (cc), ← c .before .before .before .before .before .before .single .ensures, c .before .before .before .before .w .given .1, ← c .before .before .truth .ensures, c .enum-told3 .given .1)
 
 same-length-6 : tie.Need-same-length-6
 same-length-6 c = search needs
 
 returns-6 : tie.Need-returns-6
-returns-6 c = rw (origin-value (c .before .before .before .before .before .before .before .before .before .before .before .before .before .before .before .before .before .before .before .before .before .before .before .args .seg .now) (c .before .before .before .before .before .before .before .before .before .before .before .before .before .before .before .before .before .before .before .before .before .before .before .args .next) (omega arith) (c .before .before .before .before .before .before .before .before .before .before .before .before .before .before .v .given .0 .0) (cc), ← c .before .before .before .before .before .before .before .before .before .before .before .single .ensures, c .before .before .before .before .before .before .before .before .before .w .given .1, ← c .before .before .before .before .before .before .before .truth .ensures, c .before .before .before .before .before .b .given .1) (c .before .before .origin-set .ensures)
+returns-6 c = rw (origin-value (c .before .before .before .before .before .before .before .before .before .before .before .before .before .before .before .before .before .before .before .before .before .before .before .args .seg .now) (c .before .before .before .before .before .before .before .before .before .before .before .before .before .before .before .before .before .before .before .before .before .before .before .args .next .0) (omega arith) (c .before .before .before .before .before .before .before .before .before .before .before .before .before .before .v .given .0 .0) (cc), ← c .before .before .before .before .before .before .before .before .before .before .before .single .ensures, c .before .before .before .before .before .before .before .before .before .w .given .1, ← c .before .before .before .before .before .before .before .truth .ensures, c .before .before .before .before .before .b .given .1) (c .before .before .origin-set .ensures)
 
 pub set-origin-spec : {M : Type 1} → statement M
 set-origin-spec =

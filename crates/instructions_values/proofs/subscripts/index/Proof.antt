@@ -91,7 +91,7 @@ same-length-3 c = search needs
 returns-3 : tie.Need-returns-3
 returns-3 c =
     let a = c .before .before .before .before .before .before .before .before .before .before .before .before .before .before .before .before .args in
-    rw (index-taken (a .seg .now) (a .next) (a .rank % 16) (omega arith) (c .before .before .before .before .before .before .before .a .given .0 .0) (cc), ← c .before .before .before .take-scalars .ensures, c .enum-told2 .given .1)
+    rw (index-taken (a .seg .now) (a .next .0) (a .rank % 16) (omega arith) (c .before .before .before .before .before .before .before .a .given .0 .0) (cc), ← c .before .before .before .take-scalars .ensures, c .enum-told2 .given .1)
 
 same-length-4 : tie.Need-same-length-4
 same-length-4 c = search needs
@@ -99,7 +99,7 @@ same-length-4 c = search needs
 returns-4 : tie.Need-returns-4
 returns-4 c =
     let a = c .before .before .before .before .before .before .before .before .before .before .before .before .before .before .before .before .args in
-    rw (index-taken (a .seg .now) (a .next) (a .rank % 16) (omega arith) (c .before .before .before .before .before .before .before .a .given .0 .0) (cc), ← c .before .before .before .take-scalars .ensures, c .enum-told3 .given .1)
+    rw (index-taken (a .seg .now) (a .next .0) (a .rank % 16) (omega arith) (c .before .before .before .before .before .before .before .a .given .0 .0) (cc), ← c .before .before .before .take-scalars .ensures, c .enum-told3 .given .1)
 
 same-length-5 : tie.Need-same-length-5
 same-length-5 c = search needs
@@ -107,7 +107,7 @@ same-length-5 c = search needs
 returns-5 : tie.Need-returns-5
 returns-5 c =
     let a = c .before .before .before .before .before .before .before .before .before .before .before .before .before .before .before .before .before .before .args in
-    rw (index-taken (a .seg .now) (a .next) (a .rank % 16) (omega arith) (c .before .before .before .before .before .before .before .before .before .a .given .0 .0) (cc), ← c .before .before .before .before .before .take-scalars .ensures, c .before .before .enum-told4 .given .1, c .enum-told5 .given .1)
+    rw (index-taken (a .seg .now) (a .next .0) (a .rank % 16) (omega arith) (c .before .before .before .before .before .before .before .before .before .a .given .0 .0) (cc), ← c .before .before .before .before .before .take-scalars .ensures, c .before .before .enum-told4 .given .1, c .enum-told5 .given .1)
 
 same-length-6 : tie.Need-same-length-6
 same-length-6 c = search needs
@@ -115,7 +115,7 @@ same-length-6 c = search needs
 returns-6 : tie.Need-returns-6
 returns-6 c =
     let a = c .before .before .before .before .before .before .before .before .before .before .before .before .before .before .before .before .before .before .before .before .before .before .before .before .args in
-    (c .before .before .element .ensures) ∙ ap (carry (a .seg .now)) (sym (index-words (a .seg .now) (a .next) (a .rank % 16) (omega arith) (Array (c .before .before .before .before .before .before .a2 .given .0 .0)) (cc) _ (length-take-le _ _ (omega arith)) (ranked _ _ (readable (c .before .before .before .before .before .before .before .before .before .before .before .before .before .before .before .before .before .before .before .before .before .before .before .before .args .seg .now) (c .before .before .before .before .before .before .before .before .before .before .before .before .before .before .before .before .before .before .operand-at .result) _ (sym (c .before .before .before .before .before .before .before .before .before .before .before .before .before .before .before .before .before .value-of .ensures) ∙ c .before .before .before .before .before .before .before .before .before .before .before .before .before .before .before .a .given .1) .array _ (c .before .before .before .before .before .before .a2 .given .1))) (rw (c .before .before .before .before .before .before .before .before .enum-told4 .given .1) at (c .before .before .before .before .before .before .before .before .before .before .before .take-scalars .ensures))))
+    (c .before .before .element .ensures) ∙ ap (carry (a .seg .now)) (sym (index-words (a .seg .now) (a .next .0) (a .rank % 16) (omega arith) (Array (c .before .before .before .before .before .before .a2 .given .0 .0)) (cc) _ (length-take-le _ _ (omega arith)) (ranked _ _ (readable (c .before .before .before .before .before .before .before .before .before .before .before .before .before .before .before .before .before .before .before .before .before .before .before .before .args .seg .now) (c .before .before .before .before .before .before .before .before .before .before .before .before .before .before .before .before .before .before .operand-at .result) _ (sym (c .before .before .before .before .before .before .before .before .before .before .before .before .before .before .before .before .before .value-of .ensures) ∙ c .before .before .before .before .before .before .before .before .before .before .before .before .before .before .before .a .given .1) .array _ (c .before .before .before .before .before .before .a2 .given .1))) (rw (c .before .before .before .before .before .before .before .before .enum-told4 .given .1) at (c .before .before .before .before .before .before .before .before .before .before .before .take-scalars .ensures))))
 
 pub index-spec : {M : Type 1} → statement M
 index-spec =
