@@ -2,19 +2,22 @@
 ghost use mathlib.Core.Path.{_≡_};
 ghost use mathlib.Core.List.{[], _∷_, _++_};
 ghost use Prim.Native.Nat.{_+_, _%_, _^_, _<_, _≤_};
-ghost use lib.ListN.{length, replicate};
+ghost use lib.ListN.{getD, length, replicate};
 ghost use lib.Seq.{sets};
 ghost use Rattle.descriptor.specs.Fields.{undefinedWord};
 ghost use Rattle.segment.specs.State as fields;
 ghost use Rattle.segment.specs.Stack as stack;
 ghost use Rattle.manual.specs.Effects as manual;
 ghost use Rattle.effects.specs.Perform as effect;
-use super::taking::base;
 use super::taking::drop_from;
+use super::taking::frame;
+use super::taking::frame_cell;
+use super::taking::top;
+use super::taking::top_cell;
 use descriptor::Descriptor;
+use descriptor::address::SegmentAddress;
 use descriptor::address::StackAddress;
 use elements::copies::fill;
-use segment::high;
 use segment::low;
 use segment::minus;
 use segment::put;
@@ -29,10 +32,9 @@ pub fn enter(seg: &mut [u32], nlocals: u32, function: u32)
     requires { ⌜ (fields.sbase (now seg) + fields.ltop (now seg) + nlocals + 2 < length (now seg)) × (length (now seg) ≤ 16384) ⌝ }
     ensures { λ _. ⌜ now (seg .exit) ≡ effect.enter (now (seg .entry)) nlocals function ⌝ }
 {
-    let bounds = word(seg, 0);
-    let top = low(bounds) as u32;
-    let start = high(bounds) as usize + top as usize + 1;
-    let last = high(word(seg, 1)) as u32;
+    let top = top(seg) as u32;
+    let start = top_cell(seg).index() + 1;
+    let last = lbase(seg).number();
     lay(seg, start, nlocals, last, function);
     set_frame(seg, top + nlocals + 2, top + nlocals + 1);
 }
@@ -62,25 +64,38 @@ pub fn leave(seg: &mut [u32], n: u32, result: bool)
 fn leave_with(seg: &mut [u32], n: u32)
     ensures { λ _. ⌜ now (seg .exit) ≡ effect.leaveWith (now (seg .entry)) n ⌝ }
 {
-    let frame = high(word(seg, 1)) as u32;
-    let above = base(seg) as u32 + frame;
+    let frame = frame(seg) as u32;
     let last = last_lbase(seg) as u32;
-    let start = minus(above, n);
-    let w = word(seg, minus(above, 1) as usize);
+    let start = below(seg, n);
+    let w = result_word(seg);
     share(seg, w);
     drop_from(seg, start, n);
     set_frame(seg, minus(frame, n), last);
-    put(seg, start as usize, w);
+    put(seg, start.index(), w);
 }
 
 fn leave_without(seg: &mut [u32], n: u32)
     ensures { λ _. ⌜ now (seg .exit) ≡ effect.leaveWithout (now (seg .entry)) n ⌝ }
 {
-    let frame = high(word(seg, 1)) as u32;
-    let above = base(seg) as u32 + frame;
+    let frame = frame(seg) as u32;
     let last = last_lbase(seg) as u32;
-    drop_from(seg, minus(above, n), n);
+    let lowest = below(seg, n);
+    drop_from(seg, lowest, n);
     set_frame(seg, minus(minus(frame, n), 1), last);
+}
+
+// What the result variable of the current frame holds: the highest of those under its two words.
+pub fn result_word(seg: &[u32]) -> u32
+    ensures { λ r. ⌜ r ≡ getD (now (seg .entry)) (effect.startOf (now (seg .entry)) 1) 0 ⌝ }
+{
+    word(seg, below(seg, 1).index())
+}
+
+// The cell of the lowest of the n variables under the current frame's two words.
+fn below(seg: &[u32], n: u32) -> SegmentAddress
+    ensures { λ r. ⌜ r .0 ≡ effect.startOf (now (seg .entry)) n ⌝ }
+{
+    SegmentAddress::of(minus(frame_cell(seg).number(), n))
 }
 
 // Last LBASE of the current frame, of which LBASE has room for sixteen bits.

@@ -9,6 +9,7 @@ ghost use Rattle.effects_code.specs.Done as answers;
 use super::Done;
 use descriptor::Descriptor;
 use descriptor::address::CodeAddress;
+use descriptor::address::SegmentAddress;
 use descriptor::address::StackAddress;
 use segment::high;
 use segment::low;
@@ -74,26 +75,26 @@ pub fn discard(seg: &mut [u32], n: u32)
 pub fn swap(seg: &mut [u32])
     ensures { λ _. ⌜ now (seg .exit) ≡ effect.swap (now (seg .entry)) ⌝ }
 {
-    let at = base(seg) as u32 + top(seg) as u32;
-    let under = minus(at, 1);
-    let first = word(seg, at as usize);
-    let second = word(seg, under as usize);
-    put(seg, at as usize, second);
-    put(seg, under as usize, first);
+    let at = top_cell(seg).index();
+    let under = bottom(seg, 2).index();
+    let first = word(seg, at);
+    let second = word(seg, under);
+    put(seg, at, second);
+    put(seg, under, first);
 }
 
 // The current function goes on at that place of its code; PCTR has sixteen bits.
-pub fn jump(seg: &mut [u32], place: u32)
-    ensures { λ _. ⌜ now (seg .exit) ≡ effect.perform (now (seg .entry)) (manual.jumps place) ⌝ }
+pub fn jump(seg: &mut [u32], place: CodeAddress)
+    ensures { λ _. ⌜ now (seg .exit) ≡ effect.perform (now (seg .entry)) (manual.jumps (place .0)) ⌝ }
 {
-    set_pctr(seg, CodeAddress::of(place % 0x1_0000));
+    set_pctr(seg, CodeAddress::of(place.number() % 0x1_0000));
 }
 
 // The n cells from `start` up are dropped, the highest first.
-pub fn drop_from(seg: &mut [u32], start: u32, n: u32)
-    ensures { λ _. ⌜ now (seg .exit) ≡ arrays.drops n (now (seg .entry)) start ⌝ }
+pub fn drop_from(seg: &mut [u32], start: SegmentAddress, n: u32)
+    ensures { λ _. ⌜ now (seg .exit) ≡ arrays.drops n (now (seg .entry)) (start .0) ⌝ }
 {
-    let at = start as usize;
+    let at = start.index();
     let mut left = n;
     while 0 < left {
         left -= 1;
@@ -103,24 +104,45 @@ pub fn drop_from(seg: &mut [u32], start: u32, n: u32)
 }
 
 // The n cells from b up go, and the stack ends at b with `w`.
-fn take(seg: &mut [u32], b: u32, n: u32, w: u32)
-    requires { ⌜ b < 2 ^ 17 - 1 ⌝ }
-    ensures { λ _. ⌜ now (seg .exit) ≡ effect.finish (arrays.drops n (now (seg .entry)) b) b w ⌝ }
+fn take(seg: &mut [u32], b: SegmentAddress, n: u32, w: u32)
+    requires { ⌜ b .0 < 2 ^ 17 - 1 ⌝ }
+    ensures { λ _. ⌜ now (seg .exit) ≡ effect.finish (arrays.drops n (now (seg .entry)) (b .0)) (b .0) w ⌝ }
 {
     drop_from(seg, b, n);
     finish(seg, b, w);
 }
 
-fn finish(seg: &mut [u32], b: u32, w: u32)
-    requires { ⌜ b < 2 ^ 17 - 1 ⌝ }
-    ensures { λ _. ⌜ now (seg .exit) ≡ effect.finish (now (seg .entry)) b w ⌝ }
+// The stack ends at b with `w`.
+pub fn finish(seg: &mut [u32], b: SegmentAddress, w: u32)
+    requires { ⌜ b .0 < 2 ^ 17 - 1 ⌝ }
+    ensures { λ _. ⌜ now (seg .exit) ≡ effect.finish (now (seg .entry)) (b .0) w ⌝ }
 {
     let base = base(seg) as u32;
-    put(seg, 0, base * 0x1_0000 + minus(b, base));
-    put(seg, b as usize, w);
+    put(seg, 0, base * 0x1_0000 + minus(b.number(), base));
+    put(seg, b.index(), w);
 }
 
-// SBASE and LTOP, which fit half a word each.
+// The cell of the lowest of n operands.
+pub fn bottom(seg: &[u32], n: u32) -> SegmentAddress
+    ensures { λ r. ⌜ r .0 ≡ effect.bottomOf (now (seg .entry)) n ⌝ }
+{
+    SegmentAddress::of(minus(top_cell(seg).number() + 1, n))
+}
+
+// LTOP and LBASE, counted from the segment's start.
+pub fn top_cell(seg: &[u32]) -> SegmentAddress
+    ensures { λ r. ⌜ (r .0 ≡ fields.sbase (now (seg .entry)) + fields.ltop (now (seg .entry))) × (r .0 < 2 ^ 17 - 1) ⌝ }
+{
+    SegmentAddress::of(base(seg) as u32 + top(seg) as u32)
+}
+
+pub fn frame_cell(seg: &[u32]) -> SegmentAddress
+    ensures { λ r. ⌜ (r .0 ≡ fields.sbase (now (seg .entry)) + fields.lbase (now (seg .entry))) × (r .0 < 2 ^ 17 - 1) ⌝ }
+{
+    SegmentAddress::of(base(seg) as u32 + frame(seg) as u32)
+}
+
+// SBASE, LTOP and LBASE, which fit half a word each.
 pub fn base(seg: &[u32]) -> u16
     ensures { λ r. ⌜ r ≡ fields.sbase (now (seg .entry)) ⌝ }
 {
@@ -133,9 +155,8 @@ pub fn top(seg: &[u32]) -> u16
     low(word(seg, 0))
 }
 
-// The cell of the lowest of n operands.
-fn bottom(seg: &[u32], n: u32) -> u32
-    ensures { λ r. ⌜ r ≡ effect.bottomOf (now (seg .entry)) n ⌝ }
+pub fn frame(seg: &[u32]) -> u16
+    ensures { λ r. ⌜ r ≡ fields.lbase (now (seg .entry)) ⌝ }
 {
-    minus(base(seg) as u32 + top(seg) as u32 + 1, n)
+    high(word(seg, 1))
 }

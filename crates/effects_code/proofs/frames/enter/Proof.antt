@@ -3,38 +3,26 @@ use borrow.Author.Needs.{needs}
 use Rattle.effects_code.proofs.frames.enter.Statement.{statement}
 use Rattle.effects_code.proofs.frames.enter.Tie as tie
 
-word-requires : tie.Need-word-requires
-word-requires c κs = search needs
-
-low-requires : tie.Need-low-requires
-low-requires c κs = search needs
+top-requires : tie.Need-top-requires
+top-requires c κs = search needs
 
 cast-top : tie.Need-cast-top
 cast-top c = search needs
 
-high-requires : tie.Need-high-requires
-high-requires c κs = search needs
+top-cell-requires : tie.Need-top-cell-requires
+top-cell-requires c κs = search needs
 
-cast-start : tie.Need-cast-start
-cast-start c = search needs
-
-cast-start-2 : tie.Need-cast-start-2
-cast-start-2 c = search needs
+index-requires : tie.Need-index-requires
+index-requires c κs = search needs
 
 add-start : tie.Need-add-start
 add-start c = search needs
 
-add-start-2 : tie.Need-add-start-2
-add-start-2 c = search needs
+lbase-requires : tie.Need-lbase-requires
+lbase-requires c κs = search needs
 
-word-requires-2 : tie.Need-word-requires-2
-word-requires-2 c κs = search needs
-
-high-requires-2 : tie.Need-high-requires-2
-high-requires-2 c κs = search needs
-
-cast-last : tie.Need-cast-last
-cast-last c = search needs
+number-requires : tie.Need-number-requires
+number-requires c κs = search needs
 
 lay-requires : tie.Need-lay-requires
 lay-requires c κs = search needs
@@ -65,17 +53,13 @@ pub enter-spec : {M : Type 1} → statement M
 enter-spec =
     tie.close
     (tie.spec
-    word-requires
-    low-requires
+    top-requires
     cast-top
-    high-requires
-    cast-start
-    cast-start-2
+    top-cell-requires
+    index-requires
     add-start
-    add-start-2
-    word-requires-2
-    high-requires-2
-    cast-last
+    lbase-requires
+    number-requires
     lay-requires
     add-set-frame
     add-set-frame-2

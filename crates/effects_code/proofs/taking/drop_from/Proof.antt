@@ -2,17 +2,20 @@ use Prim.Native.Nat.{_<_, _^_}
 use mathlib.Core.Path.{_≡_, refl}
 use native.Mathlib.Omega.{arith}
 use lib.ListN.{length}
-use borrow.Author.Needs.{needs}
 use Rattle.storage.specs.Arrays.{drops}
 use Rattle.storage.proofs.Counts.{drops-on, drops-none}
+use borrow.Author.Needs.{needs}
 use Rattle.effects_code.proofs.taking.drop_from.Statement.{statement}
 use Rattle.effects_code.proofs.taking.drop_from.Tie as tie
 
 abbrev Inv-loop : tie.InvT-loop
-Inv-loop seg₀ start n at left₀ seg left = (drops left seg start ≡ drops n seg₀ start) × (length seg ≡ length seg₀) × (left < 2 ^ 32)
+Inv-loop seg₀ n at left₀ seg left = (drops left seg at ≡ drops n seg₀ at) × (length seg ≡ length seg₀) × (left < 2 ^ 32)
 
 abbrev μ-loop : tie.MeasureT-loop
-μ-loop seg₀ start n at left₀ seg left = left
+μ-loop seg₀ n at left₀ seg left = left
+
+index-requires : tie.Need-index-requires Inv-loop μ-loop
+index-requires c κs = search needs
 
 loop-holds : tie.Need-loop-holds Inv-loop μ-loop
 loop-holds c = (refl, refl, omega arith)
@@ -38,13 +41,13 @@ loop-less c = search needs
 loop-again : tie.Need-loop-again Inv-loop μ-loop
 loop-again c =
     let turn = c .before .before .before .before .before .before .before in
-    (cc (drops-on (turn .loop .left) (turn .loop .seg) (turn .before .before .args .start) (omega arith)), search needs, omega arith)
+    (cc (drops-on (turn .loop .left) (turn .loop .seg) (turn .before .index .result) (omega arith)), search needs, omega arith)
 
 same-length : tie.Need-same-length Inv-loop μ-loop
 same-length c = c .before .loop .inv .1
 
 returns : tie.Need-returns Inv-loop μ-loop
-returns c = cc (drops-none (c .before .loop .left) (c .before .loop .seg) (c .before .before .before .args .start) (omega arith))
+returns c = cc (drops-none (c .before .loop .left) (c .before .loop .seg) (c .before .before .index .result) (omega arith))
 
 pub drop-from-spec : {M : Type 1} → statement M
 drop-from-spec =
@@ -52,6 +55,7 @@ drop-from-spec =
     (tie.spec
     Inv-loop
     μ-loop
+    index-requires
     loop-holds
     sub-left
     cast-word

@@ -13,6 +13,9 @@ cast-base c = search needs
 mul-put : tie.Need-mul-put
 mul-put c = search needs
 
+number-requires : tie.Need-number-requires
+number-requires c κs = search needs
+
 minus-requires : tie.Need-minus-requires
 minus-requires c κs = search needs
 
@@ -21,6 +24,9 @@ add-put c = search needs
 
 put-requires : tie.Need-put-requires
 put-requires c κs = search needs
+
+index-requires : tie.Need-index-requires
+index-requires c κs = search needs
 
 put-requires-2 : tie.Need-put-requires-2
 put-requires-2 c κs = search needs
@@ -39,9 +45,11 @@ finish-spec =
     base-requires
     cast-base
     mul-put
+    number-requires
     minus-requires
     add-put
     put-requires
+    index-requires
     put-requires-2
     same-length
     returns)

@@ -2,6 +2,9 @@ use borrow.Author.Needs.{needs}
 use Rattle.effects_code.proofs.taking.jump.Statement.{statement}
 use Rattle.effects_code.proofs.taking.jump.Tie as tie
 
+number-requires : tie.Need-number-requires
+number-requires c κs = search needs
+
 of-requires : tie.Need-of-requires
 of-requires c κs = search needs
 
@@ -15,4 +18,4 @@ returns : tie.Need-returns
 returns c = cc
 
 pub jump-spec : {M : Type 1} → statement M
-jump-spec = tie.close (tie.spec of-requires set-pctr-requires same-length returns)
+jump-spec = tie.close (tie.spec number-requires of-requires set-pctr-requires same-length returns)
