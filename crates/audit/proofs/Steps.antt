@@ -19,11 +19,11 @@ use Rattle.segment.specs.View.{words, view}
 use Rattle.acceptance_storage.proofs.Tests.{fails}
 use Rattle.acceptance.specs.Structure.{Accepted}
 use Rattle.manual.specs.OrTrap.{gives, trap}
-use Rattle.manual.specs.Effects.{NoneStoresTo, Effect, replaces, discards, swaps, stores, storesElement, enters, leaves, jumps, setsOrigin, Plan, look, performOn, performAll}
+use Rattle.manual.specs.Effects.{NoneStoresTo, Effect, replaces, discards, swaps, stores, storesElement, enters, leaves, jumps, setsOrigin, Plan, look, performOn, performAll, AddressableIn}
 use Rattle.manual.specs.Instructions.{Running, headerOf}
 use Rattle.manual.proofs.Traps.{traps-listed}
 use Rattle.effects.specs.Sound.{Sound}
-use Rattle.effects.specs.Fits.{AddressableIn, Addressable}
+use Rattle.effects.specs.Fits.{Addressable}
 use Rattle.effects.specs.Perform.{performs, firstFull}
 use Rattle.effects_theorems.specs.Theorems.{StateKept, PerformedAll}
 use Rattle.effects_theorems.proofs.State.{trap-sound, trap-words, trap-view}

@@ -1,13 +1,11 @@
 -- What an effect needs of the segment that it is performed on: what the traps of the manual's lists leave when none is given.
 -- Whether a free block is long enough is not said here: `isFull` decides it. Assumes nothing.
-use Prim.Native.Nat.{ℕ, _+_, _-_, _^_, _≤_, _<_}
+use Prim.Native.Nat.{ℕ, _+_, _≤_, _<_}
 use mathlib.Core.Path.{_≡_}
 use mathlib.Core.Bool.{Bool, true}
-use mathlib.Core.Logic.{_⊎_}
 use mathlib.Core.List.{List, [], _∷_}
 use lib.ListN.{length}
 use Rattle.descriptor.specs.declared.Target.{Target}
-use Rattle.descriptor.specs.declared.Target.the-variants.{Local, Global}
 use Rattle.descriptor.specs.Fields.{isArray}
 use Rattle.descriptor.specs.Kinds.{isScalar}
 use Rattle.descriptor.specs.Inverse.{TargetFits}
@@ -15,22 +13,13 @@ use Rattle.segment.specs.State.{sbase, ltop, lbase}
 use Rattle.segment.specs.Stack.{lastLbaseAt}
 use Rattle.segment.specs.Blocks.{product, shapeAt}
 use Rattle.storage.specs.Owned.{Proper}
-use Rattle.segment.specs.Machine.{Frame, Machine, depthOfFrames}
 use Rattle.segment.specs.View.{words}
-use Rattle.manual.specs.Effects.{Source, variable, operand, word, undefinedValue, reference, made, Effect, replaces, discards, swaps, stores, storesElement, enters, leaves, jumps, setsOrigin}
+use Rattle.manual.specs.Effects.{Source, variable, operand, word, undefinedValue, reference, made, Effect, replaces, discards, swaps, stores, storesElement, enters, leaves, jumps, setsOrigin, AddressableIn}
 use Rattle.effects.specs.Sources.{addressOf, heldAt}
 use Rattle.effects.specs.Perform.{bottomOf, blockOf}
 use Rattle.effects.specs.Seen.{temporaries}
 
--- A variable: a global address from 8 to BLOCKPTR−1, or the stack address of a frame's cell.
-abbrev pub InFrames : {A : Type 0} → ℕ → List (Frame A) → Type 0
-InFrames a [] = ⊥
-InFrames a (r ∷ older) = ((depthOfFrames older ≤ a) × (a < depthOfFrames older + length (r .cells))) ⊎ InFrames a older
-
-abbrev pub AddressableIn : {A : Type 0} → Target → Machine A → Type 0
-AddressableIn (Global g) m = (8 ≤ g .0) × (g .0 < 8 + length (m .globals))
-AddressableIn (Local a) m = InFrames (a .0) (m .frames)
-
+-- A variable of the segment.
 abbrev pub Addressable : List ℕ → Target → Type 0
 Addressable s t = AddressableIn t (words s)
 

@@ -17,6 +17,7 @@ use Rattle.storage.specs.Owned.{Owned, Step}
 use Rattle.segment.specs.Machine.{mapMachine, allCells}
 use Rattle.segment.specs.View.{framesFrom, words, owners, view}
 use Rattle.manual.specs.Effects as manual
+use Rattle.manual.proofs.Machines.{map-drop}
 use Rattle.storage_theorems.proofs.Counts.{count-append}
 use Rattle.storage_theorems.specs.Elsewhere.{Elsewhere}
 use Rattle.storage_theorems.proofs.Cells.{part-same}
@@ -28,7 +29,7 @@ use Rattle.effects.specs.Seen.{temporaries}
 use Rattle.effects.specs.Sound.{Sound}
 use Rattle.effects_theorems.specs.Theorems.{StateKept}
 use Rattle.effects_theorems.proofs.StateWords.{state-on, state-step, state-top}
-use Rattle.effects_theorems.proofs.Machines.{machine-agree, cells-count, map-drop}
+use Rattle.effects_theorems.proofs.Counts.{machine-agree, cells-count}
 use Rattle.effects_theorems.proofs.Frames.{drop-downward, frames-same, chain-same, words-kept}
 use Rattle.effects_theorems.proofs.Sound.{Bounds, bounds, Regs, kept-regs}
 use Rattle.effects_theorems.proofs.Replace.{temporaries-split}

@@ -1,5 +1,5 @@
 -- Every effect on words is the effect on the view, and leaves the state words that are not its own.
-use Prim.Native.Nat.{ℕ, _-_, _%_, _^_, _<_, _≤_}
+use Prim.Native.Nat.{ℕ, _%_, _^_, _<_, _≤_}
 use mathlib.Core.Path.{_≡_, refl, sym, _∙_, ap}
 use mathlib.Core.Bool.{true, false, cond}
 use mathlib.Core.Logic.{_≢_, _⊎_, inl, inr, ⊎-elim}
@@ -19,6 +19,7 @@ use Rattle.segment.specs.Machine.{Machine}
 use Rattle.segment.specs.View.{words, view}
 use Rattle.manual.specs.Effects as manual
 use Rattle.manual.specs.Effects.{Source, variable, operand, word, undefinedValue, reference, made, Effect, replaces, discards, swaps, stores, storesElement, enters, leaves, jumps, setsOrigin}
+use Rattle.manual.proofs.Tests.{none-holds}
 use Rattle.storage_theorems.proofs.Counts.{order}
 use Rattle.storage_theorems.proofs.Cells.{array-of, cell-array}
 use Rattle.effects.specs.Sources.{addressOf, heldAt, wordOf, placed}
@@ -26,7 +27,6 @@ use Rattle.effects.specs.Perform.{blockOf, replace, storeAt, store, perform, so
 use Rattle.effects.specs.Sound.{Sound}
 use Rattle.effects.specs.Fits.{HasElement, Fits}
 use Rattle.effects_theorems.specs.Theorems.{Performed, StateKept, SetsFlags}
-use Rattle.effects_theorems.proofs.Tests.{none-holds}
 use Rattle.effects_theorems.proofs.Variables.{look-view}
 use Rattle.effects_theorems.proofs.Sources.{Found, put-source}
 use Rattle.effects_theorems.proofs.Replace.{finish-view, finish-sound, finish-state}

@@ -1,5 +1,5 @@
 -- An element of a variable's array written anew: first the variable gets an array of its own.
-use Prim.Native.Nat.{ℕ, _+_, _-_, _%_, _^_, _<_, _≤_}
+use Prim.Native.Nat.{ℕ, _+_, _%_, _^_, _<_, _≤_}
 use mathlib.Core.Path.{_≡_, refl, sym, _∙_, ap}
 use mathlib.Core.Bool.{Bool, true, false, cond}
 use mathlib.Core.List.{List}
@@ -29,16 +29,17 @@ use Rattle.storage_theorems.specs.Request.{Served}
 use Rattle.storage_theorems.proofs.Request.{request-theorem}
 use Rattle.storage_theorems.proofs.Place.{fresh-place, place-theorem}
 use Rattle.storage_theorems.proofs.Element.{element-theorem}
+use Rattle.manual.specs.Effects.{AddressableIn}
+use Rattle.manual.proofs.Cellwise.{put-map, put-twice, look-put, in-put}
 use Rattle.effects.specs.Sources.{addressOf, heldAt, placed}
 use Rattle.effects.specs.Perform.{replace, storeAt, unshare, writeElement, storeElement}
 use Rattle.effects.specs.Sound.{Sound}
-use Rattle.effects.specs.Fits.{AddressableIn, Addressable, CanReplace}
+use Rattle.effects.specs.Fits.{Addressable, CanReplace}
 use Rattle.effects_theorems.specs.Theorems.{StateKept}
 use Rattle.effects_theorems.proofs.StateWords.{state-none, state-on, state-step}
-use Rattle.effects_theorems.proofs.Machines.{machine-agree}
+use Rattle.effects_theorems.proofs.Counts.{machine-agree, count-put}
 use Rattle.effects_theorems.proofs.Frames.{part-length, chain-same, words-kept}
 use Rattle.effects_theorems.proofs.Sound.{Bounds, bounds, Regs, kept-regs}
-use Rattle.effects_theorems.proofs.Cellwise.{count-put, put-map, put-twice, look-put, in-put}
 use Rattle.effects_theorems.proofs.Variables.{same-put, variable-owner, in-view}
 use Rattle.effects_theorems.proofs.Sources.{Put, put-source}
 use Rattle.effects_theorems.proofs.Replace.{finish-view, finish-sound, finish-state}

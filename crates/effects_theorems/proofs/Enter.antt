@@ -16,6 +16,7 @@ use Rattle.storage.specs.Heap.{count}
 use Rattle.segment.specs.Machine.{Machine, mapMachine, cellsOfFrames, allCells}
 use Rattle.segment.specs.View.{framesFrom, words, owners, view}
 use Rattle.manual.specs.Effects as manual
+use Rattle.manual.proofs.Machines.{map-run}
 use Rattle.storage_theorems.proofs.Counts.{count-append}
 use Rattle.storage_theorems.specs.Elsewhere.{Elsewhere}
 use Rattle.storage_theorems.proofs.Cells.{part-same}
@@ -26,7 +27,7 @@ use Rattle.storage_theorems.proofs.Elsewhere.{own-elsewhere, cell-elsewhere}
 use Rattle.effects.specs.Perform.{enter}
 use Rattle.effects.specs.Sound.{Chain, upon, Sound}
 use Rattle.effects_theorems.specs.Theorems.{StateKept}
-use Rattle.effects_theorems.proofs.Machines.{machine-agree, cells-count, map-run}
+use Rattle.effects_theorems.proofs.Counts.{machine-agree, cells-count}
 use Rattle.effects_theorems.proofs.Cells.{undefined-cell}
 use Rattle.effects_theorems.proofs.Frames.{frames-next, frames-fuel, frames-same, chain-same}
 use Rattle.effects_theorems.proofs.Sound.{Bounds, bounds}
@@ -227,7 +228,7 @@ module _ (s : List ℕ) (g : Sound s) (n f : ℕ) (fit : sbase s + ltop s + n + 
   enter-sound = rw enter-is sound2
 
   enter-map : {A : Type 0} (h : ℕ → A) (m : Machine ℕ) → mapMachine h (manual.enter undefinedWord n f m) ≡ manual.enter (h undefinedWord) n f (mapMachine h m)
-  enter-map h m = rw (map-run n undefinedWord (m .temporaries) h)
+  enter-map h m = rw (map-run h n undefinedWord (m .temporaries))
 
   view2 : view s2 ≡ manual.enter undefined n f (view s)
   unfolding view

@@ -1,11 +1,10 @@
 -- The laws of effects on words, and the theorems of specs/.
 pub mod Tests
 pub mod StateWords
-pub mod Machines
+pub mod Counts
 pub mod Cells
 pub mod Frames
 pub mod Sound
-pub mod Cellwise
 pub mod Variables
 pub mod Sources
 pub mod Replace

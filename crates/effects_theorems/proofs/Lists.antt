@@ -1,7 +1,7 @@
 -- Effects one after the other, and when storage is full for them.
 use Prim.Native.Nat.{ℕ, _+_, _<_, _≤_}
 use mathlib.Core.Path.{_≡_, refl, sym, _∙_, ap}
-use mathlib.Core.Bool.{true, false}
+use mathlib.Core.Bool.{true, false, true≢false}
 use mathlib.Core.Logic.{_↔_, _≢_, _⊎_, inl, inr, ⊎-elim}
 use mathlib.Core.List.{List, [], _∷_}
 use native.Mathlib.Omega.{arith}
@@ -13,6 +13,7 @@ use Rattle.storage.specs.Request.{requestAt}
 use Rattle.storage.specs.Heap.{Block, free, array, over}
 use Rattle.storage_theorems.specs.Words.{HasRoom}
 use Rattle.manual.specs.Effects.{Source, variable, operand, word, undefinedValue, reference, made, Effect, replaces, discards, swaps, stores, storesElement, enters, leaves, jumps, setsOrigin, performAll}
+use Rattle.manual.proofs.Tests.{one-holds, second-holds}
 use Rattle.storage_theorems.proofs.Counts.{order}
 use Rattle.storage_theorems.proofs.Walks.{over-le}
 use Rattle.storage_theorems.proofs.Ways.{decide}
@@ -21,44 +22,14 @@ use Rattle.effects.specs.Sources.{addressOf}
 use Rattle.effects.specs.Perform.{blockOf, perform, performs, sourceNeed, wanted, noneFor, isFull, firstFull}
 use Rattle.effects.specs.Sound.{Sound}
 use Rattle.effects.specs.Fits.{Available, Fits}
-use Rattle.effects.specs.Requests.{AllFit, FirstFits, makes, asks, NoneAsks, OneRequest}
+use Rattle.effects.specs.Requests.{AllFit, FirstFits, NoneAsks, OneRequest}
 use Rattle.effects_theorems.specs.Theorems.{StateKept, PerformedAll, AsksInVain}
-use Rattle.effects_theorems.proofs.Tests.{never, none-holds, one-holds, first-holds, second-holds}
 use Rattle.effects_theorems.proofs.StateWords.{state-none, state-on}
 use Rattle.effects_theorems.proofs.Element.{array-proper}
 use Rattle.effects_theorems.proofs.Effects.{x-is, x-small, perform-theorem, kept-theorem}
 
--- an effect that does not ask wants nothing
-source-plain : (source : Source) → makes source ≡ false → sourceNeed source ≡ 0
-source-plain (variable t) h = refl
-source-plain (operand i) h = refl
-source-plain (word w) h = refl
-source-plain undefinedValue h = refl
-source-plain (reference t) h = refl
-source-plain (made shape ravel) h = cc
-
-wants-nothing : (s : List ℕ) (e : Effect) → asks e ≡ false → wanted s e ≡ 0
-wants-nothing s (replaces n source) h = source-plain source h
-wants-nothing s (discards n) h = refl
-wants-nothing s swaps h = refl
-wants-nothing s (stores t source) h = source-plain source h
-wants-nothing s (storesElement t place w n) h = cc
-wants-nothing s (enters n f) h = refl
-wants-nothing s (leaves n result) h = refl
-wants-nothing s (jumps place) h = refl
-wants-nothing s (setsOrigin v) h = refl
-
 not-full : (s : List ℕ) (e : Effect) → wanted s e ≡ 0 → isFull s e ≡ false
 not-full s e h = rw (eq-eqb (wanted s e) 0 h)
-
-none-full : (s : List ℕ) (es : List Effect) → NoneAsks es → firstFull s es ≡ false
-none-full s [] h = refl
-none-full s (e ∷ es) h = rw (not-full s e (wants-nothing s e (h .0))) (none-full s es (h .1))
-
-pub none-in-vain : (s : List ℕ) (blocks : List Block) (es : List Effect) → NoneAsks es → AsksInVain s blocks es → ⊥
-none-in-vain s blocks [] h k = k
-none-in-vain s blocks (e ∷ es) h (inl k) = k .0 (wants-nothing s e (h .0))
-none-in-vain s blocks (e ∷ es) h (inr k) = none-in-vain s blocks es (h .1) k
 
 -- each fits the segment that it meets, and is served there
 abbrev pub AllServed : List ℕ → List Effect → Type 0
@@ -67,11 +38,11 @@ AllServed s (e ∷ es) = Fits s e × (isFull s e ≡ false) × AllServed (perfor
 
 plain-served : (s : List ℕ) (es : List Effect) → AllFit s es → NoneAsks es → AllServed s es
 plain-served s [] h k = tt
-plain-served s (e ∷ es) h k = (h .0, not-full s e (wants-nothing s e (k .0)), plain-served (perform s e) es (h .1) (k .1))
+plain-served s (e ∷ es) h k = (h .0, not-full s e (k .0 s), plain-served (perform s e) es (h .1) (k .1))
 
 pub all-served : (s : List ℕ) (es : List Effect) → AllFit s es → OneRequest es → firstFull s es ≡ false → AllServed s es
 all-served s [] h k f = tt
-all-served s (e ∷ es) h k f = (h .0, none-holds (isFull s e) (firstFull s es) f .0, plain-served (perform s e) es (h .1) k)
+all-served s (e ∷ es) h k f = (h .0, f, plain-served (perform s e) es (h .1) k)
 
 -- one after the other
 in-turn : (s : List ℕ) → Sound s → (es : List Effect) → AllServed s es → PerformedAll s es
@@ -136,7 +107,7 @@ module _ (s : List ℕ) (g : Sound s) (e : Effect) (h : Fits s e) where
   full-vain f = ⊎-elim none some (wanted-size s g e h)
     where
       none : wanted s e ≡ 0 → (wanted s e ≢ 0) × (HasRoom (g .own .blocks) (wanted s e) → ⊥)
-      none z = never (sym f ∙ not-full s e z)
+      none z = absurd (true≢false (sym f ∙ not-full s e z))
 
       some : 3 ≤ wanted s e → (wanted s e ≢ 0) × (HasRoom (g .own .blocks) (wanted s e) → ⊥)
       some l =
@@ -159,9 +130,6 @@ module _ (s : List ℕ) (g : Sound s) (e : Effect) (h : Fits s e) where
           (request-theorem (wanted s e) (g .own .heap) l .found .0 (eqb-false (requestAt s (wanted s e)) 0 q))))
           (decide (eqb (requestAt s (wanted s e)) 0))
 
-pub full-theorem : (s : List ℕ) (g : Sound s) (es : List Effect) → FirstFits s es → OneRequest es → (firstFull s es ≡ true) ↔ AsksInVain s (g .own .blocks) es
-full-theorem s g [] h k = (λ f. never (sym f), λ f. absurd f)
-full-theorem s g (e ∷ es) h k = (
-  λ f. ⊎-elim (λ q. inl (full-vain s g e h q)) (λ q. never (sym q ∙ none-full s es k)) (one-holds (isFull s e) (firstFull s es) f),
-  λ f. ⊎-elim (λ q. first-holds (isFull s e) (firstFull s es) (vain-full s g e h (q .0) (q .1))) (λ q. absurd (none-in-vain s (g .own .blocks) es k q)) f,
-)
+pub full-theorem : (s : List ℕ) (g : Sound s) (es : List Effect) → FirstFits s es → (firstFull s es ≡ true) ↔ AsksInVain s (g .own .blocks) es
+full-theorem s g [] h = (λ f. absurd (true≢false (sym f)), λ f. absurd f)
+full-theorem s g (e ∷ es) h = (full-vain s g e h, λ f. vain-full s g e h (f .0) (f .1))

@@ -20,7 +20,7 @@ use Rattle.instruction.specs.declared.Instruction.{Instruction}
 use Rattle.instruction.specs.declared.Instruction.the-variants as I
 use Rattle.instruction.specs.declared.Decoded.{Decoded}
 use Rattle.instruction.specs.declared.Decoded.the-variants as D
-use Rattle.instruction.specs.Decoding.{decodeIn}
+use Rattle.instruction.specs.Decoding.{instructionAt}
 use Rattle.segment.specs.State.{sbase}
 use Rattle.segment.specs.Cells.{Cell}
 use Rattle.segment.specs.View.{view}
@@ -29,7 +29,7 @@ use Rattle.manual.specs.Loads.{load, referTo, testDefined, pushUndefined, getOr
 use Rattle.manual.specs.Scalars.{operands, monadic, dyadic, shape, ravel, reshape, catenate, indexGenerator, setOrigin, index}
 use Rattle.manual.specs.Memory.{assign, assignNoResult, assignIndexed, eat, interchange, noOperation}
 use Rattle.manual.specs.Control.{lineOrLeave, lineNumber, branchTo, go, goIf, return, branch, call, breakpoint, attention}
-use Rattle.manual.specs.Instructions.{Running, headerOf, resolve, planOf, planDecoded, planAt}
+use Rattle.manual.specs.Instructions.{Running, headerOf, codeIn, resolve, planOf, planDecoded, planAt}
 use Rattle.effects.specs.Seen.{seen}
 use Rattle.effects.specs.Sound.{Sound}
 use Rattle.effects.specs.Alike.{seenBy, HasFrame}
@@ -107,7 +107,7 @@ module _ (s : List ℕ) (g : Sound s) (f : Running) (runs : HasFrame s (variable
 
   planAt-theorem : (place : ℕ) → planAt f (seen s) place ≡ planAt f (seenOf (length s - sbase s) (view s)) place
   unfolding planAt
-  planAt-theorem place = decoded-theorem (decodeIn (f .regular) (f .alternate) (f .selector) (f .block) place)
+  planAt-theorem place = decoded-theorem (instructionAt (codeIn f) place)
 
 pub plans-theorems : PlansTheorems
 plans-theorems = record { plan = plan-theorem; decoded = planAt-theorem }

@@ -1,7 +1,7 @@
 -- Every cell of a sound segment is read as it is seen: the block of an array that a cell points to is whole.
 use Prim.Native.Nat.{ℕ, _+_, _^_, _<_}
 use mathlib.Core.Path.{_≡_, refl, sym, _∙_}
-use mathlib.Core.Bool.{Bool, true, false}
+use mathlib.Core.Bool.{Bool, true, false, true≢false}
 use mathlib.Core.List.{List, _∷_}
 use mathlib.Core.Logic.{inl, inr, ⊎-elim}
 use native.Mathlib.Omega.{arith}
@@ -24,7 +24,6 @@ use Rattle.storage_theorems.proofs.Arrays.{array-within, array-fields}
 use Rattle.storage_theorems.proofs.Cells.{array-of, cell-array}
 use Rattle.effects.specs.Seen.{whole, readKind, read}
 use Rattle.effects.specs.Sound.{Sound}
-use Rattle.effects_theorems.proofs.Tests.{never}
 
 -- SIZE of an array among the blocks
 array-size : (s : List ℕ) (a : ℕ) (p : Bool) (bs : List Block) (x z : ℕ) → Walk s a p bs → ArrayIn a bs x z → over a bs < 2 ^ 16 → sizeAt s x ≡ z
@@ -36,7 +35,7 @@ array-size s a p (array y k ∷ bs) x z w (inr h) l = array-size s (a + (y + k))
 -- a word that is no array's
 kind-other : (s : List ℕ) (w : ℕ) (k : Kind) → IfArray w k → isArray w ≡ false → readKind s w k ≡ cellOfKind s w k
 kind-other s w (K.Scalar k) h e = refl
-kind-other s w (K.Array a) h e = never (sym h ∙ e)
+kind-other s w (K.Array a) h e = absurd (true≢false (sym h ∙ e))
 kind-other s w (K.Indirect t) h e = refl
 kind-other s w K.Undefined h e = refl
 kind-other s w K.Invalid h e = refl

@@ -17,19 +17,19 @@ use Rattle.segment.specs.Cells.{Cell, undefined, indirect, value, invalid, cell
 use Rattle.segment.specs.Machine.{Frame, mapFrames, depthOfFrames, depth}
 use Rattle.segment.specs.View.{framesFrom, words, view}
 use Rattle.manual.specs.OrTrap.{OrTrap, gives, trap, stopIf}
-use Rattle.manual.specs.Effects.{currentCells, lookFrames, look, indexIn}
+use Rattle.manual.specs.Effects.{currentCells, lookFrames, look, indexIn, InFrames}
 use Rattle.manual.specs.Seen.{Variable, at, followed, follow, localAt, globalAt, noOlder, seenOf}
+use Rattle.manual.proofs.Machines.{depth-map, map-current}
+use Rattle.manual.proofs.Cellwise.{index-in, look-here}
+use Rattle.manual.proofs.Tests.{none-holds}
 use Rattle.storage_theorems.proofs.Counts.{order}
 use Rattle.effects.specs.Sources.{heldAt, operandAt}
 use Rattle.effects.specs.Seen.{read, temporaries, seen}
 use Rattle.effects.specs.Sound.{Chain, bottom, upon, Sound}
-use Rattle.effects.specs.Fits.{InFrames, Addressable}
+use Rattle.effects.specs.Fits.{Addressable}
 use Rattle.effects.specs.Alike.{seenBy, HasFrame, Resolved}
-use Rattle.effects_theorems.proofs.Tests.{none-holds}
-use Rattle.effects_theorems.proofs.Machines.{depth-map, map-current}
 use Rattle.effects_theorems.proofs.Frames.{downward-length, part-length, frame, frames-bottom, frames-next, depth-is}
 use Rattle.effects_theorems.proofs.Sound.{bounds}
-use Rattle.effects_theorems.proofs.Cellwise.{look-here}
 use Rattle.effects_theorems.proofs.Variables.{variable-owner, look-view, operand-owner, operand-view}
 use Rattle.effects_theorems.proofs.Reading.{read-cell}
 
@@ -42,7 +42,7 @@ look-highest : {A : Type 0} (none : A) (l : List (Frame A)) (base : ℕ) → dep
     → lookFrames none (base - 1) l ≡ getD (currentCells l) 0 none
 look-highest none [] base d h = absurd (omega arith)
 look-highest none (r ∷ l) base d h =
-    let e : indexIn (r .cells) l (base - 1) ≡ 0 = omega arith in
+    let e : indexIn (r .cells) l (base - 1) ≡ 0 = index-in (r .cells) l (base - 1) (omega arith) ∙ omega arith in
     look-here (base - 1) none r l (omega arith) ∙ rw e
 
 no-older : {A : Type 0} (f : ℕ → A) (r : Frame ℕ) (l : List (Frame ℕ)) → 0 < depthOfFrames l → noOlder (mapFrames f (r ∷ l)) ≡ false

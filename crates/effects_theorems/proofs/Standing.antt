@@ -1,7 +1,7 @@
 -- Which variables stand after an effect: the same, but for those of a frame that is entered or left.
 use Prim.Native.Nat.{ℕ, _%_, _^_}
 use mathlib.Core.Path.{_≡_, refl, sym}
-use mathlib.Core.Bool.{false}
+use mathlib.Core.Bool.{false, true≢false}
 use mathlib.Core.Logic.{_↔_, inr, ⊎-elim}
 use mathlib.Core.List.{List, [], _∷_}
 use native.Mathlib.Omega.{arith}
@@ -12,15 +12,14 @@ use Rattle.segment.specs.Cells.{Cell, undefined}
 use Rattle.segment.specs.Machine.{Frame, Machine}
 use Rattle.segment.specs.View.{view}
 use Rattle.manual.specs.Effects as manual
-use Rattle.manual.specs.Effects.{Effect, replaces, discards, swaps, stores, storesElement, enters, leaves, jumps, setsOrigin, performOn}
+use Rattle.manual.specs.Effects.{Effect, replaces, discards, swaps, stores, storesElement, enters, leaves, jumps, setsOrigin, performOn, InFrames, AddressableIn}
+use Rattle.manual.proofs.Cellwise.{in-put}
 use Rattle.storage_theorems.proofs.Ways.{decide}
 use Rattle.effects.specs.Perform.{perform, performs, isFull, firstFull}
 use Rattle.effects.specs.Sound.{Sound}
-use Rattle.effects.specs.Fits.{InFrames, AddressableIn, Addressable, Fits}
+use Rattle.effects.specs.Fits.{Addressable, Fits}
 use Rattle.effects.specs.Requests.{AllFit, OneRequest}
 use Rattle.effects_theorems.specs.Theorems.{StandsThrough, entersFrame, leavesFrame, NoneEnters, EntersFirst}
-use Rattle.effects_theorems.proofs.Tests.{never}
-use Rattle.effects_theorems.proofs.Cellwise.{in-put}
 use Rattle.effects_theorems.proofs.Variables.{in-view}
 use Rattle.effects_theorems.proofs.Effects.{perform-theorem}
 use Rattle.effects_theorems.proofs.Lists.{AllServed, all-served}
@@ -61,8 +60,8 @@ module _ (t : Target) (m : Machine Cell) where
       let k = in-put c u t m in
       let r = same-machine t (manual.put u c m) (manual.replace n c (manual.put u c m)) refl refl in
       both (storesElement u place w n) (λ h. r .0 (k .0 h), λ h. k .1 (r .1 h))
-  stays (enters n f) = (λ p. in-machine t m (performOn (enters n f) m) (λ a k. inr k) refl, λ p. never p)
-  stays (leaves n result) = (λ p. never p, λ p. in-machine t (performOn (leaves n result) m) m (λ a. in-older a (m .frames)) refl)
+  stays (enters n f) = (λ p. in-machine t m (performOn (enters n f) m) (λ a k. inr k) refl, λ p. absurd (true≢false p))
+  stays (leaves n result) = (λ p. absurd (true≢false p), λ p. in-machine t (performOn (leaves n result) m) m (λ a. in-older a (m .frames)) refl)
   stays (jumps place) = (
     λ p. in-machine t m (performOn (jumps place) m) (λ a. in-jumped (place % 2 ^ 16) a (m .frames) .0) refl,
     λ p. in-machine t (performOn (jumps place) m) m (λ a. in-jumped (place % 2 ^ 16) a (m .frames) .1) refl,

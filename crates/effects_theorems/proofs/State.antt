@@ -13,6 +13,7 @@ use Rattle.segment.specs.Cells.{cell}
 use Rattle.segment.specs.Machine.{Machine, mapMachine}
 use Rattle.segment.specs.View.{framesFrom, words, view}
 use Rattle.manual.specs.Effects as manual
+use Rattle.manual.proofs.Machines.{jump-cells, map-jump}
 use Rattle.storage_theorems.proofs.Counts.{order}
 use Rattle.storage_theorems.specs.Elsewhere.{Elsewhere}
 use Rattle.storage_theorems.proofs.Cells.{part-same}
@@ -21,7 +22,7 @@ use Rattle.storage_theorems.proofs.Elsewhere.{own-elsewhere, cell-elsewhere}
 use Rattle.effects.specs.Sound.{Sound}
 use Rattle.effects_theorems.specs.Theorems.{StateKept}
 use Rattle.effects_theorems.proofs.StateWords.{state-set}
-use Rattle.effects_theorems.proofs.Machines.{machine-agree, jump-cells, jump-map}
+use Rattle.effects_theorems.proofs.Counts.{machine-agree}
 use Rattle.effects_theorems.proofs.Frames.{frames-bottom, frames-next, frames-same, chain-same}
 use Rattle.effects_theorems.proofs.Sound.{Bounds, bounds, set-elsewhere}
 
@@ -103,7 +104,7 @@ module _ (s : List ℕ) (g : Sound s) (place : ℕ) (small : place < 2 ^ 16) whe
   unfolding setPctr view
   jump-view =
       ap (mapMachine (cell s′)) jumped-words
-      ∙ rw (jump-map place (cell s′) (words s .frames))
+      ∙ rw (map-jump (cell s′) place (words s .frames))
       (ap (manual.jump place) (machine-agree (cell s′) (cell s) (words s) (λ w k. cell-elsewhere moved (g .own) w k)))
 
 -- the flags, or the trap's word

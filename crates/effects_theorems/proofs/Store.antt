@@ -1,8 +1,8 @@
 -- A result stored into a variable.
-use Prim.Native.Nat.{ℕ, suc, _-_, _/_, _%_, _^_, _<_, _≤_}
+use Prim.Native.Nat.{ℕ, suc, _/_, _%_, _^_, _<_, _≤_}
 use mathlib.Core.Path.{_≡_, refl, sym, _∙_, ap}
 use mathlib.Core.List.{List, _∷_}
-use mathlib.Core.Logic.{_≢_, _⊎_, inl, inr, ⊎-elim}
+use mathlib.Core.Logic.{_≢_, inl, inr, ⊎-elim}
 use native.Mathlib.Omega.{arith}
 use lib.ListN.{getD, set, length, length-set}
 use lib.Seq.{getD-set-same, getD-set-other}
@@ -16,6 +16,7 @@ use Rattle.storage.specs.Owned.{Owned, Kept, Step}
 use Rattle.segment.specs.Machine.{Machine, mapMachine, allCells}
 use Rattle.segment.specs.View.{words, owners, view}
 use Rattle.manual.specs.Effects.{put}
+use Rattle.manual.proofs.Cellwise.{put-map}
 use Rattle.storage_theorems.proofs.Counts.{hit-same, hit-cases}
 use Rattle.storage_theorems.specs.Elsewhere.{Elsewhere}
 use Rattle.storage_theorems.proofs.Owners.{reown}
@@ -26,10 +27,9 @@ use Rattle.effects.specs.Sound.{Sound}
 use Rattle.effects.specs.Fits.{Addressable}
 use Rattle.effects_theorems.specs.Theorems.{StateKept}
 use Rattle.effects_theorems.proofs.StateWords.{state-on, state-step, state-set}
-use Rattle.effects_theorems.proofs.Machines.{machine-agree}
+use Rattle.effects_theorems.proofs.Counts.{machine-agree, count-put}
 use Rattle.effects_theorems.proofs.Frames.{chain-same, words-kept}
 use Rattle.effects_theorems.proofs.Sound.{Bounds, bounds, Regs, kept-regs, set-elsewhere}
-use Rattle.effects_theorems.proofs.Cellwise.{count-put, put-map}
 use Rattle.effects_theorems.proofs.Variables.{Place, variable-place, words-put, variable-chain, same-put}
 use Rattle.effects_theorems.proofs.Sources.{Put}
 

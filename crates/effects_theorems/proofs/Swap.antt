@@ -15,6 +15,7 @@ use Rattle.storage.specs.Heap.{count}
 use Rattle.segment.specs.Machine.{mapMachine, allCells}
 use Rattle.segment.specs.View.{framesFrom, words, owners, view}
 use Rattle.manual.specs.Effects as manual
+use Rattle.manual.proofs.Machines.{map-swapped}
 use Rattle.storage_theorems.specs.Elsewhere.{Elsewhere}
 use Rattle.storage_theorems.proofs.Cells.{part-same}
 use Rattle.storage_theorems.proofs.Owners.{reown}
@@ -26,7 +27,7 @@ use Rattle.effects.specs.Seen.{temporaries}
 use Rattle.effects.specs.Sound.{Sound}
 use Rattle.effects_theorems.specs.Theorems.{StateKept}
 use Rattle.effects_theorems.proofs.StateWords.{state-on, state-set}
-use Rattle.effects_theorems.proofs.Machines.{machine-agree, cells-count, map-swapped, swapped-count}
+use Rattle.effects_theorems.proofs.Counts.{machine-agree, cells-count, swapped-count}
 use Rattle.effects_theorems.proofs.Frames.{frames-same, chain-same}
 use Rattle.effects_theorems.proofs.Sound.{Bounds, bounds}
 

@@ -16,7 +16,8 @@ use Rattle.segment.specs.Cells.{Cell, undefined, cell}
 use Rattle.storage.specs.Heap.{count}
 use Rattle.segment.specs.Machine.{Machine, mapMachine, allCells, depthOfFrames}
 use Rattle.segment.specs.View.{framesFrom, words, owners, view}
-use Rattle.manual.specs.Effects.{indexIn, look, putFrames, put}
+use Rattle.manual.specs.Effects.{indexIn, look, putFrames, put, InFrames, AddressableIn}
+use Rattle.manual.proofs.Cellwise.{index-in, global-in, put-here, put-below, look-put, map-look, in-map}
 use Rattle.storage_theorems.proofs.Counts.{order, hit-same, hit-cases}
 use Rattle.storage_theorems.proofs.Cells.{part-same}
 use Rattle.storage_theorems.proofs.Steps.{downward-same}
@@ -24,12 +25,11 @@ use Rattle.storage_theorems.proofs.Element.{part-set}
 use Rattle.effects.specs.Sources.{addressOf, heldAt, operandAt}
 use Rattle.effects.specs.Seen.{temporaries}
 use Rattle.effects.specs.Sound.{Chain, bottom, upon, Sound}
-use Rattle.effects.specs.Fits.{InFrames, AddressableIn, Addressable}
-use Rattle.effects_theorems.proofs.Machines.{cells-count, count-getD}
+use Rattle.effects.specs.Fits.{Addressable}
+use Rattle.effects_theorems.proofs.Counts.{cells-count, count-getD, count-put}
 use Rattle.effects_theorems.proofs.Cells.{undefined-cell}
 use Rattle.effects_theorems.proofs.Frames.{downward-length, part-length, frame, frames-bottom, frames-next, frames-same, chain-same, depth-is}
 use Rattle.effects_theorems.proofs.Sound.{bounds}
-use Rattle.effects_theorems.proofs.Cellwise.{put-here, put-below, count-put, look-put, map-look, in-map}
 
 downward-set : (s : List ℕ) (a n j w : ℕ) → j < n → a + n ≤ length s → downward (set s (a + n - 1 - j) w) a n ≡ set (downward s a n) j w
 downward-set s a zero j w h l = absurd (omega arith)
@@ -86,7 +86,9 @@ module _ (s : List ℕ) (w : ℕ) (some : 1 ≤ sbase s) where
     put-bottom : (n base a : ℕ) → base ≤ lastLbaseAt s base → sbase s + base ≤ length s → sbase s + a ≡ i → a < base
         → framesFrom (suc n) s′ base ≡ putFrames a w (framesFrom (suc n) s base)
     put-bottom n base a q l e k =
-        let j : indexIn {A = ℕ} (downward s (sbase s + 0) (base - 0)) [] a ≡ sbase s + 0 + (base - 0) - 1 - i = omega (arith, downward-length s (sbase s + 0) (base - 0)) in
+        let j : indexIn {A = ℕ} (downward s (sbase s + 0) (base - 0)) [] a ≡ sbase s + 0 + (base - 0) - 1 - i =
+        let z = downward-length s (sbase s + 0) (base - 0) in
+        index-in (downward s (sbase s + 0) (base - 0)) [] a (omega arith) ∙ omega arith in
         frames-bottom n s′ base (sbase s) _ _ bound (other (sbase s + base) (omega arith)) (other (sbase s + base + 1) (omega arith)) q
         ∙ rw (downward-put s (sbase s + 0) (base - 0) i w (omega arith) (omega arith) (omega arith), ← j)
         (sym
@@ -111,8 +113,9 @@ module _ (s : List ℕ) (w : ℕ) (some : 1 ≤ sbase s) where
         here h =
             let b = lastLbaseAt s base + 2 in
             let j : indexIn (downward s (sbase s + (lastLbaseAt s base + 2)) (base - (lastLbaseAt s base + 2))) (framesFrom n s (lastLbaseAt s base)) a
-            ≡ sbase s + (lastLbaseAt s base + 2) + (base - (lastLbaseAt s base + 2)) - 1 - i = omega
-            (arith, d, downward-length s (sbase s + (lastLbaseAt s base + 2)) (base - (lastLbaseAt s base + 2))) in
+            ≡ sbase s + (lastLbaseAt s base + 2) + (base - (lastLbaseAt s base + 2)) - 1 - i =
+            let z = downward-length s (sbase s + (lastLbaseAt s base + 2)) (base - (lastLbaseAt s base + 2)) in
+            index-in (downward s (sbase s + (lastLbaseAt s base + 2)) (base - (lastLbaseAt s base + 2))) (framesFrom n s (lastLbaseAt s base)) a (omega arith) ∙ omega arith in
             rw (
               downward-put s (sbase s + (lastLbaseAt s base + 2)) (base - (lastLbaseAt s base + 2)) i w (omega arith) (omega arith) (omega arith),
               frames-same n s s′ (lastLbaseAt s base) bound (λ m x y. other m (omega arith)),
@@ -228,7 +231,7 @@ module _ (s : List ℕ) (g : Sound s) where
   -- a store to a variable
   pub words-put : (w : ℕ) (t : Target) → Addressable s t → words (set s (addressOf s t) w) ≡ put t w (words s)
   unfolding words
-  words-put w (Global q) h = words-global w (q .0) (h .0) (omega (arith, h, part-length s 8 (blockptr s - 8), bounds g))
+  words-put w (Global q) h = rw (global-in (part s 8 (blockptr s - 8)) (q .0) (h .0)) (words-global w (q .0) (h .0) (omega (arith, h, part-length s 8 (blockptr s - 8), bounds g)))
   words-put w (Local a) h = words-local w (a .0) (sbase s + a .0) h refl
 
   pub variable-chain : (w : ℕ) (t : Target) → Addressable s t → Chain (set s (addressOf s t) w) (lbase s)

@@ -114,7 +114,7 @@ pub record EffectsTheorems : Type 0 where
   pub stands : (s : List ℕ) → Sound s → (es : List Effect) → AllFit s es → OneRequest es → firstFull s es ≡ false → EntersFirst es → (t : Target)
       → Addressable s t → Addressable (performs s es) t → StandsThrough s es t
   -- (1,2) is given exactly where a block is asked for and none is long enough.
-  pub full : (s : List ℕ) (sound : Sound s) (es : List Effect) → FirstFits s es → OneRequest es → (firstFull s es ≡ true) ↔ AsksInVain s (sound .own .blocks) es
+  pub full : (s : List ℕ) (sound : Sound s) (es : List Effect) → FirstFits s es → (firstFull s es ≡ true) ↔ AsksInVain s (sound .own .blocks) es
   -- What an instruction of the running function sees of the words is what it sees of the view.
   pub alike : (s : List ℕ) → Sound s → (variables : ℕ) (result : Bool) → HasFrame s variables result
       → seenBy variables result (seen s) ≡ seenBy variables result (seenOf (length s - sbase s) (view s))

@@ -17,8 +17,7 @@ use Rattle.segment.specs.Stack.{stackAt, downward}
 use Rattle.segment.specs.Cells.{Cell, undefined, indirect, cell}
 use Rattle.segment.specs.Machine.{Frame}
 use Rattle.segment.specs.View.{words, view}
-use Rattle.manual.specs.Effects.{look}
-use Rattle.effects.specs.Fits.{InFrames}
+use Rattle.manual.specs.Effects.{look, InFrames}
 use Rattle.acceptance.specs.Cells.{isIndirect}
 use Rattle.acceptance.specs.Structure as onWords
 use Rattle.legality.specs.Legal.{Direct, Leads, Allowed}

@@ -10,8 +10,7 @@ use Rattle.descriptor.specs.declared.Target.{Target}
 use Rattle.descriptor.specs.declared.Target.the-variants.{Local, Global}
 use Rattle.segment.specs.Cells.{Cell, undefined, indirect}
 use Rattle.segment.specs.Machine.{Frame, Machine, mapFrames, mapMachine, depthOfFrames}
-use Rattle.manual.specs.Effects.{indexIn, lookFrames, currentCells}
-use Rattle.effects.specs.Fits.{InFrames, AddressableIn}
+use Rattle.manual.specs.Effects.{indexIn, lookFrames, currentCells, InFrames, AddressableIn}
 use Rattle.legality.specs.Legal.{VariableOf, Names, Leads, Allowed, LegalFrame, LegalFrames, bottom, upon, Legal}
 
 -- ---- the same variables, by whatever function a machine is seen

@@ -9,8 +9,7 @@ use borrow.Author.Tests.{le-leb, lt-leb}
 use Rattle.segment.specs.Stack.{stackAt, codeWordAt}
 use Rattle.segment.specs.Cells.{Cell, undefined, cell}
 use Rattle.segment.specs.Machine.{Frame, depthOfFrames}
-use Rattle.manual.specs.Effects.{indexIn, lookFrames, currentCells}
-use Rattle.effects.specs.Fits.{InFrames}
+use Rattle.manual.specs.Effects.{indexIn, lookFrames, currentCells, InFrames}
 use Rattle.acceptance.specs.Frames.{variables}
 use Rattle.acceptance.specs.Structure as onWords
 use Rattle.legality.specs.Legal.{VariableOf}

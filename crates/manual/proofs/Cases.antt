@@ -1,6 +1,6 @@
 -- The walk over all plans: what holds of every shape of specs/Cases holds of the plan of every instruction.
 use Prim.Native.Nat.{ℕ, _+_, _-_, _%_, _^_, _≤_}
-use mathlib.Core.Path.{_≡_, refl, ap}
+use mathlib.Core.Path.{_≡_, refl}
 use mathlib.Core.Bool.{Bool, true, false, cond, not, _&&_, _||_}
 use mathlib.Core.List.{List, [], _∷_, _++_}
 use native.Mathlib.Omega.{arith}
@@ -38,12 +38,9 @@ use Rattle.manual.specs.Control as control
 use Rattle.manual.specs.Instructions.{Running, segmentOf, headerOf, resolve, callPlan, planOf}
 use Rattle.manual.specs.Traps.{listed}
 use Rattle.manual.specs.Cases.{OfPlan, Operand, Reaches, wordsOf, calledBy, Pushed, ofLoad, ofReference, ofTestDefined, ofUndefined, ofGetOrigin, ofShortConstant, ofConstantScalar, ofConstantVector, Result, ofMonadic, ofDyadic, ofShape, ofRavel, ofReshape, ofCatenate, ofIndexGenerator, ofIndex, Goes, onward, inside, Leaving, Cases}
+use Rattle.manual.proofs.Tests.{none-holds}
 use Rattle.manual.proofs.Lists.{stops, goes, either, Listed, in-table}
 use Rattle.manual.proofs.Values.{value-listed, monadic-listed, dyadic-listed, truth-listed, catenate-listed, generator-listed, reshape-listed, subscripted-listed}
-
-neither : (a b : Bool) → (a || b) ≡ false → (a ≡ false) × (b ≡ false)
-neither true b h = let z : _≡_ {A = ℕ} 0 1 = ap (λ (c : Bool). cond {A = ℕ} c 0 1) h in absurd (omega arith)
-neither false b h = (refl, h)
 
 -- What is known of a result, if it is one, and else that the table has the trap.
 known : {A : Type 0} (P : A → Type 0) (x : OrTrap A) → Listed x → ((a : A) → x ≡ gives a → P a) → OfPlan P (λ class number. listed class number ≡ true) x
@@ -108,7 +105,7 @@ module _ {f : Running} {seen : Seen} {i : Instruction} {next : ℕ} (P : List Ef
   unfolding listed
   jump-has place before h =
       stop (ltb place codeStart || leb (codeEnd (headerOf f)) place) _ _ _ refl (λ e.
-      let n = neither (ltb place codeStart) (leb (codeEnd (headerOf f)) place) e in
+      let n = none-holds (ltb place codeStart) (leb (codeEnd (headerOf f)) place) e in
       h (inside (ltb-false place codeStart (n .0)) (leb-false (codeEnd (headerOf f)) place (n .1))))
 
   leaving-has : (temporaries : ℕ) (before : List Effect)
@@ -165,7 +162,7 @@ module _ {f : Running} {seen : Seen} {next : ℕ} (P : List Effect → Type 0) (
       operand-is P T k 0 _ (λ a p.
       stop P T k (anyCell isForeign (operands seen 1 n)) _ _ _ refl (λ e.
       stop P T k (eqb (values.rank a) 0 || anyCell (λ c. not (isScalarCell c)) (operands seen 1 n)) _ _ _ refl (λ q.
-      let s = neither (eqb (values.rank a) 0) (anyCell (λ c. not (isScalarCell c)) (operands seen 1 n)) q in
+      let s = none-holds (eqb (values.rank a) 0) (anyCell (λ c. not (isScalarCell c)) (operands seen 1 n)) q in
       let there = subscripted (seen .origin) n (a .shape) (operands seen 1 n) in
       goes P T there _ (by-table P T k there (subscripted-listed (seen .origin) n (a .shape) (operands seen 1 n))) (λ j r.
       k .result (ofIndex p (s .0) (s .1) r) (omega arith) c)))))
@@ -180,7 +177,7 @@ module _ {f : Running} {seen : Seen} {next : ℕ} (P : List Effect → Type 0) (
       goes P T (valueOf (x .held)) _ (by-table P T k (valueOf (x .held)) (value-listed (x .held))) (λ v p.
       stop P T k (anyCell hasNoValue (operands seen 0 (n + 1))) _ _ _ refl (λ e.
       stop P T k (eqb (values.rank v) 0 || anyCell (λ c. not (isScalarCell c)) (operands seen 0 (n + 1))) _ _ _ refl (λ q.
-      let s = neither (eqb (values.rank v) 0) (anyCell (λ c. not (isScalarCell c)) (operands seen 0 (n + 1))) q in
+      let s = none-holds (eqb (values.rank v) 0) (anyCell (λ c. not (isScalarCell c)) (operands seen 0 (n + 1))) q in
       let there = subscripted (seen .origin) n (v .shape) (operands seen 0 n) in
       goes P T there _ (by-table P T k there (subscripted-listed (seen .origin) n (v .shape) (operands seen 0 n))) (λ j r.
       k .assignedElement rank a x j refl c
@@ -194,7 +191,7 @@ module _ {f : Running} {seen : Seen} {next : ℕ} (P : List Effect → Type 0) (
       stop P T k (not (inDirectory alternate (f .regular) (f .alternate) (number % 2 ^ 11))) _ _ _ refl (λ d.
       stop P T k (ltb (seen .count) arguments || not (eqb arguments (called .nargs))) _ _ _ refl (λ e.
       stop P T k (ltb (seen .room) (called .nlocals + 2)) _ _ _ refl (λ r.
-      let n = neither (ltb (seen .count) arguments) (not (eqb arguments (called .nargs))) e in
+      let n = none-holds (ltb (seen .count) arguments) (not (eqb arguments (called .nargs))) e in
       k .entered arguments alternate number refl
       (record {
         found = not-false (inDirectory alternate (f .regular) (f .alternate) (number % 2 ^ 11)) d;

@@ -1,4 +1,5 @@
--- The traps of decoding are in the table.
+-- One walk over what decoding gives, for any property of the words that it reads: a trap is in the table, and the word of
+-- CONSTANT_SCALAR was read of the code.
 use Prim.Native.Nat.{ℕ, _%_, _^_}
 use mathlib.Core.Path.{_≡_, refl}
 use mathlib.Core.Bool.{Bool, true, false, cond}
@@ -11,6 +12,7 @@ use Rattle.procedure.specs.Headers.{codeStart}
 use Rattle.instruction.specs.declared.Address.{Address}
 use Rattle.instruction.specs.declared.Jump.{Jump}
 use Rattle.instruction.specs.declared.Instruction.{Instruction}
+use Rattle.instruction.specs.declared.Instruction.the-variants as I
 use Rattle.instruction.specs.declared.Decoded.{Decoded}
 use Rattle.instruction.specs.declared.Decoded.the-variants as D
 use Rattle.instruction.specs.declared.table.MemorySuboperation.{MemorySuboperation}
@@ -37,9 +39,24 @@ use Rattle.instruction.specs.Variables.{addressIn, addressAt, withAddress}
 use Rattle.instruction.specs.Decoding.{loadAt, shortConstantAt, scalarAt, memoryAt, constantScalarAt, constantVectorAt, jumpAt, callAt, etcAt, familyAt, instructionAt}
 use Rattle.manual.specs.Traps.{listed}
 
-abbrev pub DecodedListed : Decoded → Type 0
-DecodedListed (D.Instruction i next) = Unit {0}
-DecodedListed (D.Trap class number) = listed class number ≡ true
+-- The words that an instruction has of the code.
+abbrev pub Reads : (ℕ → Type 0) → Instruction → Type 0
+Reads R (I.Load a) = Unit {0}
+Reads R (I.ShortConstant negative magnitude) = Unit {0}
+Reads R (I.Scalar op) = Unit {0}
+Reads R (I.Memory op a) = Unit {0}
+Reads R (I.Stack op) = Unit {0}
+Reads R (I.Array op) = Unit {0}
+Reads R (I.Control op) = Unit {0}
+Reads R (I.Jump jump place) = Unit {0}
+Reads R (I.ConstantScalar w) = R w
+Reads R (I.ConstantVector count first) = Unit {0}
+Reads R (I.Call arguments alternate number) = Unit {0}
+Reads R (I.Index rank) = Unit {0}
+
+abbrev pub Decodes : (ℕ → Type 0) → Decoded → Type 0
+Decodes R (D.Instruction i next) = Reads R i
+Decodes R (D.Trap class number) = listed class number ≡ true
 
 abbrev AddressListed : FetchedAddress → Type 0
 AddressListed (A.At a next) = Unit {0}
@@ -47,97 +64,95 @@ AddressListed (A.Trap class number) = listed class number ≡ true
 
 -- ---- what is done with what is read
 
-chosen : (test : Bool) (x y : Decoded) → DecodedListed x → DecodedListed y → DecodedListed (cond test x y)
-chosen true x y h k = h
-chosen false x y h k = k
-
 module _ {A : Type 0} (P : A → Type 0) (outside : A) (h : P outside) where
-  byte-listed : (x : FetchedByte) (f : ℕ → Cursor → A) → ((b : ℕ) (next : Cursor) → P (f b next)) → P (withByte x outside f)
-  byte-listed (B.Byte b next) f k = k b next
-  byte-listed B.Outside f k = h
+  read-byte : (x : FetchedByte) (f : ℕ → Cursor → A) → ((b : ℕ) (next : Cursor) → P (f b next)) → P (withByte x outside f)
+  read-byte (B.Byte b next) f k = k b next
+  read-byte B.Outside f k = h
 
-  half-listed : (x : FetchedHalf) (f : ℕ → Cursor → A) → ((v : ℕ) (next : Cursor) → P (f v next)) → P (withHalf x outside f)
-  half-listed (H.Half v next) f k = k v next
-  half-listed H.Outside f k = h
+  read-half : (x : FetchedHalf) (f : ℕ → Cursor → A) → ((v : ℕ) (next : Cursor) → P (f v next)) → P (withHalf x outside f)
+  read-half (H.Half v next) f k = k v next
+  read-half H.Outside f k = h
 
-  word-listed : (x : FetchedWord) (f : ℕ → Cursor → A) → ((v : ℕ) (next : Cursor) → P (f v next)) → P (withWord x outside f)
-  word-listed (W.Word v next) f k = k v next
-  word-listed W.Outside f k = h
+  read-word : (x : FetchedWord) (f : ℕ → Cursor → A) → ((v : ℕ) (next : Cursor) → x ≡ W.Word v next → P (f v next)) → P (withWord x outside f)
+  read-word (W.Word v next) f k = k v next refl
+  read-word W.Outside f k = h
 
-  words-listed : (x : FetchedWords) (f : Cursor → Cursor → A) → ((first next : Cursor) → P (f first next)) → P (withWords x outside f)
-  words-listed (X.Words first next) f k = k first next
-  words-listed X.Outside f k = h
+  read-words : (x : FetchedWords) (f : Cursor → Cursor → A) → ((first next : Cursor) → P (f first next)) → P (withWords x outside f)
+  read-words (X.Words first next) f k = k first next
+  read-words X.Outside f k = h
 
-address-listed : (x : FetchedAddress) (f : Address → Cursor → Decoded) → AddressListed x → ((a : Address) (next : Cursor) → DecodedListed (f a next))
-    → DecodedListed (withAddress x D.Trap f)
-address-listed (A.At a next) f h k = k a next
-address-listed (A.Trap class number) f h k = h
+-- ---- addresses
+
+module _ (code : List ℕ) where
+  in-listed : (c : Cursor) (first : ℕ) (family : Family) → AddressListed (addressIn code c first family)
+  unfolding addressIn listed
+  in-listed c first ShortLocal = tt
+  in-listed c first LongLocal = read-byte AddressListed _ refl (fetchByte code c) _ (λ second next. tt)
+  in-listed c first LongGlobal = read-byte AddressListed _ refl (fetchByte code c) _ (λ second next. tt)
+  in-listed c first ShortConst = refl
+  in-listed c first GenScalar = refl
+  in-listed c first MemRef = refl
+  in-listed c first Etc = refl
+  in-listed c first Index = refl
+  in-listed c first Unassigned = refl
+
+  at-listed : (c : Cursor) → AddressListed (addressAt code c)
+  unfolding addressAt listed
+  at-listed c = read-byte AddressListed _ refl (fetchByte code c) _ (λ first next. in-listed next first (familyOf first))
 
 -- ---- every instruction
 
-module _ (code : List ℕ) (c : Cursor) where
-  in-listed : (first : ℕ) (family : Family) → AddressListed (addressIn code c first family)
-  unfolding addressIn listed
-  in-listed first ShortLocal = tt
-  in-listed first LongLocal = byte-listed AddressListed _ refl (fetchByte code c) _ (λ second next. tt)
-  in-listed first LongGlobal = byte-listed AddressListed _ refl (fetchByte code c) _ (λ second next. tt)
-  in-listed first ShortConst = refl
-  in-listed first GenScalar = refl
-  in-listed first MemRef = refl
-  in-listed first Etc = refl
-  in-listed first Index = refl
-  in-listed first Unassigned = refl
+module _ (code : List ℕ) (R : ℕ → Type 0) (reads : (c : Cursor) (w : ℕ) (next : Cursor) → fetchWord code c ≡ W.Word w next → R w) where
+  chosen : (test : Bool) (x y : Decoded) → Decodes R x → Decodes R y → Decodes R (cond test x y)
+  chosen true x y h k = h
+  chosen false x y h k = k
 
-  load-listed : (first : ℕ) (family : Family) → DecodedListed (loadAt code c first family)
+  read-address : (x : FetchedAddress) (f : Address → Cursor → Decoded) → AddressListed x → ((a : Address) (next : Cursor) → Decodes R (f a next))
+      → Decodes R (withAddress x D.Trap f)
+  read-address (A.At a next) f h k = k a next
+  read-address (A.Trap class number) f h k = h
+
+  load-decodes : (c : Cursor) (first : ℕ) (family : Family) → Decodes R (loadAt code c first family)
   unfolding loadAt
-  load-listed first family = address-listed (addressIn code c first family) _ (in-listed first family) (λ a next. tt)
+  load-decodes c first family = read-address (addressIn code c first family) _ (in-listed code c first family) (λ a next. tt)
 
-  short-listed : (first : ℕ) → DecodedListed (shortConstantAt code c first)
-  unfolding shortConstantAt listed
-  short-listed first = byte-listed DecodedListed _ refl (fetchByte code c) _ (λ second next. tt)
-
-  scalar-listed : (o : Suboperation) → DecodedListed (scalarAt o c)
+  scalar-decodes : (c : Cursor) (o : Suboperation) → Decodes R (scalarAt o c)
   unfolding listed
-  scalar-listed (O.Defined o) = tt
-  scalar-listed O.Undefined = refl
+  scalar-decodes c (O.Defined o) = tt
+  scalar-decodes c O.Undefined = refl
 
-at-listed : (code : List ℕ) (c : Cursor) → AddressListed (addressAt code c)
-unfolding addressAt listed
-at-listed code c = byte-listed AddressListed _ refl (fetchByte code c) _ (λ first next. in-listed code next first (familyOf first))
-
-module _ (code : List ℕ) (c : Cursor) where
-  memory-listed : (o : MemorySuboperation) → DecodedListed (memoryAt code c o)
+  memory-decodes : (c : Cursor) (o : MemorySuboperation) → Decodes R (memoryAt code c o)
   unfolding memoryAt listed
-  memory-listed (M.Defined o) = address-listed (addressAt code c) _ (at-listed code c) (λ a next. tt)
-  memory-listed M.Undefined = refl
+  memory-decodes c (M.Defined o) = read-address (addressAt code c) _ (at-listed code c) (λ a next. tt)
+  memory-decodes c M.Undefined = refl
 
-  etc-listed : (o : EtcSuboperation) → DecodedListed (etcAt code c o)
+  etc-decodes : (c : Cursor) (o : EtcSuboperation) → Decodes R (etcAt code c o)
   unfolding etcAt jumpAt constantScalarAt constantVectorAt callAt listed
-  etc-listed (E.Stack o) = tt
-  etc-listed (E.Array o) = tt
-  etc-listed (E.Control o) = tt
-  etc-listed (E.Jump jump) = half-listed DecodedListed _ refl (fetchHalf code c) _ (λ v next. tt)
-  etc-listed E.ConstantScalar = word-listed DecodedListed _ refl (fetchWord code c) _ (λ w next. tt)
-  etc-listed E.ConstantVector =
-      byte-listed DecodedListed _ refl (fetchByte code c) _ (λ count next.
-      words-listed DecodedListed _ refl (fetchWords code next count) _ (λ first after. tt))
-  etc-listed E.Call = half-listed DecodedListed _ refl (fetchHalf code c) _ (λ v next. tt)
-  etc-listed E.Undefined = refl
+  etc-decodes c (E.Stack o) = tt
+  etc-decodes c (E.Array o) = tt
+  etc-decodes c (E.Control o) = tt
+  etc-decodes c (E.Jump jump) = read-half (Decodes R) _ refl (fetchHalf code c) _ (λ v next. tt)
+  etc-decodes c E.ConstantScalar = read-word (Decodes R) _ refl (fetchWord code c) _ (reads c)
+  etc-decodes c E.ConstantVector =
+      read-byte (Decodes R) _ refl (fetchByte code c) _ (λ count next.
+      read-words (Decodes R) _ refl (fetchWords code next count) _ (λ first after. tt))
+  etc-decodes c E.Call = read-half (Decodes R) _ refl (fetchHalf code c) _ (λ v next. tt)
+  etc-decodes c E.Undefined = refl
 
-  family-listed : (first : ℕ) (family : Family) → DecodedListed (familyAt code c first family)
-  unfolding familyAt listed
-  family-listed first ShortLocal = load-listed code c first ShortLocal
-  family-listed first ShortConst = short-listed code c first
-  family-listed first GenScalar = scalar-listed code c (operatorOf (first % 2 ^ 5))
-  family-listed first MemRef = memory-listed (memoryOf (first % 2 ^ 5))
-  family-listed first Etc = etc-listed (etcOf (first % 2 ^ 5))
-  family-listed first LongLocal = load-listed code c first LongLocal
-  family-listed first LongGlobal = load-listed code c first LongGlobal
-  family-listed first Index = tt
-  family-listed first Unassigned = refl
+  family-decodes : (c : Cursor) (first : ℕ) (family : Family) → Decodes R (familyAt code c first family)
+  unfolding familyAt shortConstantAt listed
+  family-decodes c first ShortLocal = load-decodes c first ShortLocal
+  family-decodes c first ShortConst = read-byte (Decodes R) _ refl (fetchByte code c) _ (λ second next. tt)
+  family-decodes c first GenScalar = scalar-decodes c (operatorOf (first % 2 ^ 5))
+  family-decodes c first MemRef = memory-decodes c (memoryOf (first % 2 ^ 5))
+  family-decodes c first Etc = etc-decodes c (etcOf (first % 2 ^ 5))
+  family-decodes c first LongLocal = load-decodes c first LongLocal
+  family-decodes c first LongGlobal = load-decodes c first LongGlobal
+  family-decodes c first Index = tt
+  family-decodes c first Unassigned = refl
 
-pub instruction-listed : (code : List ℕ) (place : ℕ) → DecodedListed (instructionAt code place)
-unfolding instructionAt listed
-instruction-listed code place =
-    chosen (ltb place codeStart) _ _ refl
-    (byte-listed DecodedListed _ refl (fetchByte code (cursorAt place)) _ (λ first next. family-listed code next first (familyOf first)))
+  pub instruction-decodes : (place : ℕ) → Decodes R (instructionAt code place)
+  unfolding instructionAt listed
+  instruction-decodes place =
+      chosen (ltb place codeStart) _ _ refl
+      (read-byte (Decodes R) _ refl (fetchByte code (cursorAt place)) _ (λ first next. family-decodes next first (familyOf first)))

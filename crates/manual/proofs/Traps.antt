@@ -1,8 +1,9 @@
 -- The theorem of specs/Traps: the walk of proofs/Cases, asked only for the traps.
 use Prim.Native.Nat.{ℕ, _+_, _-_, _^_, _<_}
-use mathlib.Core.Path.{_≡_, refl, ap}
-use mathlib.Core.Bool.{Bool, true, false, cond, _&&_, _||_}
+use mathlib.Core.Path.{_≡_, refl}
+use mathlib.Core.Bool.{Bool, true, cond, _&&_, _||_, false≢true}
 use mathlib.Core.List.{List, [], _∷_}
+use mathlib.Core.Logic.{⊎-elim}
 use native.Mathlib.Omega.{arith}
 use lib.Dec.{ltb, eqb}
 use lib.ListN.{length}
@@ -20,13 +21,11 @@ use Rattle.manual.specs.Effects.{look, Plan}
 use Rattle.manual.specs.Seen.{Seen, variablesOf, localAt, globalAt, seenOf}
 use Rattle.manual.specs.Instructions.{Running, headerOf, codeIn, resolve, planOf, planDecoded, planAt}
 use Rattle.manual.specs.Traps.{Line, table, among, listed, InTable, Addressed, Trapping, TrapsListed}
+use Rattle.manual.proofs.Tests.{both-hold, one-holds}
 use Rattle.manual.proofs.Lists.{Listed, in-table}
 use Rattle.manual.proofs.Variables.{local-listed, global-listed}
-use Rattle.manual.proofs.Decoding.{DecodedListed, instruction-listed}
+use Rattle.manual.proofs.Decoding.{Decodes, instruction-decodes}
 use Rattle.manual.proofs.Cases.{plan-cases}
-
-never : false ≡ true → ⊥
-never e = let z : _≡_ {A = ℕ} 1 0 = ap (λ (b : Bool). cond {A = ℕ} b 0 1) e in omega arith
 
 -- ---- plans
 
@@ -54,14 +53,14 @@ plan-listed f seen h i next =
       entered = λ arguments alternate number e c. tt;
     })
 
-decoded-listed : (f : Running) (seen : Seen) → Addressed seen → (d : Decoded) → DecodedListed d → Listed (planDecoded f seen d)
+decoded-listed : (f : Running) (seen : Seen) → Addressed seen → (d : Decoded) → Decodes (λ w. Unit {0}) d → Listed (planDecoded f seen d)
 decoded-listed f seen h (D.Instruction i next) l = plan-listed f seen h i (next .0)
 decoded-listed f seen h (D.Trap class number) l = l
 
 place-listed : (f : Running) (seen : Seen) → Addressed seen → (place : ℕ) → Listed (planAt f seen place)
 unfolding planAt
 place-listed f seen h place =
-    decoded-listed f seen h (instructionAt (codeIn f) place) (instruction-listed (codeIn f) place)
+    decoded-listed f seen h (instructionAt (codeIn f) place) (instruction-decodes (codeIn f) (λ w. Unit {0}) (λ c w next e. tt) place)
 
 -- ---- those that the table does not have
 
@@ -69,10 +68,10 @@ trapping : (plan : Plan) → Listed plan → Trapping plan
 unfolding listed
 trapping plan h = record {
   inTable = in-table plan h;
-  storage = λ e. never (in-table plan h 1 2 e);
-  step = λ e. never (in-table plan h 2 1 e);
-  callTrace = λ e. never (in-table plan h 2 2 e);
-  returnTrace = λ e. never (in-table plan h 2 3 e);
+  storage = λ e. false≢true (in-table plan h 1 2 e);
+  step = λ e. false≢true (in-table plan h 2 1 e);
+  callTrace = λ e. false≢true (in-table plan h 2 2 e);
+  returnTrace = λ e. false≢true (in-table plan h 2 3 e);
 }
 
 machine-addressed : (words : ℕ) (m : Machine Cell) → Addressed (seenOf words m)
@@ -85,38 +84,31 @@ machine-addressed words m = record {
 
 -- ---- eight bits
 
-both : (a b : Bool) → (a && b) ≡ true → (a ≡ true) × (b ≡ true)
-both true b h = (refl, h)
-both false b h = absurd (never h)
-
-one-of : {A : Type 0} (a b : Bool) → (a ≡ true → A) → (b ≡ true → A) → (a || b) ≡ true → A
-one-of true b h k e = h refl
-one-of false b h k e = k e
-
 abbrev allBelow : List ℕ → Bool
 allBelow [] = true
 allBelow (n ∷ ns) = ltb n (2 ^ 8) && allBelow ns
 
 below : (n : ℕ) (ns : List ℕ) → allBelow ns ≡ true → any (eqb n) ns ≡ true → n < 2 ^ 8
-below n [] h k = absurd (never k)
+below n [] h k = absurd (false≢true k)
 below n (m ∷ ns) h k =
-    let s = both (ltb m (2 ^ 8)) (allBelow ns) h in
-    one-of (eqb n m) (any (eqb n) ns) (λ e. omega (arith, eqb-true n m e, ltb-true m (2 ^ 8) (s .0))) (λ j. below n ns (s .1) j) k
+    let s = both-hold (ltb m (2 ^ 8)) (allBelow ns) h in
+    ⊎-elim (λ e. omega (arith, eqb-true n m e, ltb-true m (2 ^ 8) (s .0))) (λ j. below n ns (s .1) j) (one-holds (eqb n m) (any (eqb n) ns) k)
 
 abbrev linesBelow : List Line → Bool
 linesBelow [] = true
 linesBelow (line ∷ rest) = allBelow (line .0 ∷ line .1) && linesBelow rest
 
 lines-below : (class number : ℕ) (lines : List Line) → linesBelow lines ≡ true → among class number lines ≡ true → (class < 2 ^ 8) × (number < 2 ^ 8)
-lines-below class number [] h k = absurd (never k)
+lines-below class number [] h k = absurd (false≢true k)
 lines-below class number (line ∷ rest) h k =
-    let s = both (allBelow (line .0 ∷ line .1)) (linesBelow rest) h in
-    let q = both (ltb (line .0) (2 ^ 8)) (allBelow (line .1)) (s .0) in
-    one-of (eqb class (line .0) && any (eqb number) (line .1)) (among class number rest)
-    (λ e.
-    let r = both (eqb class (line .0)) (any (eqb number) (line .1)) e in
+    let s = both-hold (allBelow (line .0 ∷ line .1)) (linesBelow rest) h in
+    let q = both-hold (ltb (line .0) (2 ^ 8)) (allBelow (line .1)) (s .0) in
+    ⊎-elim
+    (λ (e : (eqb class (line .0) && any (eqb number) (line .1)) ≡ true).
+    let r = both-hold (eqb class (line .0)) (any (eqb number) (line .1)) e in
     (omega (arith, eqb-true class (line .0) (r .0), ltb-true (line .0) (2 ^ 8) (q .0)), below number (line .1) (q .1) (r .1)))
-    (λ j. lines-below class number rest (s .1) j) k
+    (λ j. lines-below class number rest (s .1) j)
+    (one-holds (eqb class (line .0) && any (eqb number) (line .1)) (among class number rest) k)
 
 eight-bits : (class number : ℕ) → listed class number ≡ true → (class < 2 ^ 8) × (number < 2 ^ 8)
 unfolding listed

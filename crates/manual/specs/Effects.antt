@@ -1,9 +1,10 @@
 -- The effects of which every instruction is made, and what each does to a machine of cells. What storage does for them is said
 -- elsewhere, on words; here is only what a planner sees. A reader must believe: these are the changes that the manual speaks of.
 -- Assumes nothing.
-use Prim.Native.Nat.{ℕ, zero, suc, _+_, _-_, _*_, _/_, _%_, _^_}
+use Prim.Native.Nat.{ℕ, zero, suc, _+_, _-_, _*_, _/_, _%_, _^_, _≤_, _<_}
 use mathlib.Core.Path.{_≡_}
 use mathlib.Core.Bool.{Bool, true, false, cond}
+use mathlib.Core.Logic.{_⊎_}
 use mathlib.Core.List.{List, [], _∷_, _++_}
 use lib.Dec.{leb, ltb}
 use lib.ListN.{getD, set, length, drop, replicate}
@@ -91,6 +92,15 @@ putFrames a c (r ∷ older) =
 abbrev pub put : {A : Type 0} → Target → A → Machine A → Machine A
 put (Global g) c m = record { flags = m .flags; temporaries = m .temporaries; frames = m .frames; globals = set (m .globals) (globalIndex (m .globals) (g .0)) c }
 put (Local a) c m = record { flags = m .flags; temporaries = m .temporaries; frames = putFrames (a .0) c (m .frames); globals = m .globals }
+
+-- A variable: a global address from 8 to BLOCKPTR−1, or the stack address of a frame's cell.
+abbrev pub InFrames : {A : Type 0} → ℕ → List (Frame A) → Type 0
+InFrames a [] = ⊥
+InFrames a (r ∷ older) = ((depthOfFrames older ≤ a) × (a < depthOfFrames older + length (r .cells))) ⊎ InFrames a older
+
+abbrev pub AddressableIn : {A : Type 0} → Target → Machine A → Type 0
+AddressableIn (Global g) m = (8 ≤ g .0) × (g .0 < 8 + length (m .globals))
+AddressableIn (Local a) m = InFrames (a .0) (m .frames)
 
 abbrev pub withTemporaries : {A : Type 0} → List A → Machine A → Machine A
 withTemporaries ts m = record { flags = m .flags; temporaries = ts; frames = m .frames; globals = m .globals }

@@ -2,10 +2,10 @@
 use Prim.Native.Nat.{ℕ, zero, suc, _+_, _^_, _<_, _≤_}
 use mathlib.Core.Path.{_≡_, refl, sym, ap}
 use mathlib.Core.Bool.{Bool, true, false, not, _&&_, _||_}
-use mathlib.Core.List.{List, [], _∷_, _++_}
+use mathlib.Core.List.{List, _∷_, _++_}
 use native.Mathlib.Omega.{arith}
 use lib.Dec.{ltb, leb, eqb}
-use lib.ListN.{length, length-append, length-take}
+use lib.ListN.{length, length-append}
 use borrow.Author.Tests.{ltb-false, leb-false, eqb-true, eq-eqb}
 use Rattle.descriptor.specs.Fields.{isCharacter}
 use Rattle.scalar.specs.declared.Whole.{Whole}
@@ -14,8 +14,9 @@ use Rattle.scalar.specs.Reading.{wholeOf}
 use Rattle.segment.specs.Blocks.{product}
 use Rattle.manual.specs.OrTrap.{gives}
 use Rattle.manual.specs.Values.{Value, vector, rank, size, isSingle, first, any, each, shortOf, shorts, single, shapeOf, ravelOf, catenate, upFrom, indexGenerator, copies, cycle, reshape}
+use Rattle.manual.proofs.Tests.{none-holds}
+use Rattle.manual.proofs.Elements.{length-cycle}
 use Rattle.scalar_theorems.specs.Validity.{Valid}
-use Rattle.effects_theorems.proofs.Tests.{none-holds}
 use Rattle.plan_theorems.proofs.Given.{Given, passed, chained}
 use Rattle.plan_theorems.proofs.Lists.{All, all-append, all-take, all-map}
 use Rattle.plan_theorems.proofs.Values.{Length, valid-length, ValueFits}
@@ -60,18 +61,9 @@ index-fits origin v h =
 
 -- ---- RESHAPE
 
-copies-long : (n : ℕ) (l : List ℕ) → 0 < length l → n ≤ length (copies n l)
-copies-long zero l h = omega arith
-copies-long (suc n) l h = omega (arith, copies-long n l h, length-append l (copies n l))
-
 copies-all : (n : ℕ) (l : List ℕ) → All Valid l → All Valid (copies n l)
 copies-all zero l h = tt
 copies-all (suc n) l h = all-append Valid l (copies n l) h (copies-all n l h)
-
-cycle-long : (n : ℕ) (l : List ℕ) → (length l ≡ 0 → n ≡ 0) → length (cycle n l) ≡ n
-unfolding cycle
-cycle-long n [] h = rw (h refl)
-cycle-long n (x ∷ l) h = omega (arith, length-take n (copies n (x ∷ l)), copies-long n (x ∷ l) (omega arith))
 
 cycle-all : (n : ℕ) (l : List ℕ) → All Valid l → All Valid (cycle n l)
 unfolding cycle
@@ -94,7 +86,7 @@ reshape-fits a b h k =
     (collect-map Valid (λ n. n < 2 ^ 16) (λ w. shortOf (wholeOf w)) (λ w u. short-fits (wholeOf w)) (a .ravel) (h .scalars)) (λ lengths u.
     passed ValueFits (leb (2 ^ 16) (product lengths)) 8 5 _ (λ e.
     passed ValueFits (eqb (size b) 0 && not (eqb (product lengths) 0)) 6 0 _ (λ q.
-    let n = cycle-long (product lengths) (b .ravel) (some (size b) (product lengths) q) in
+    let n = length-cycle (product lengths) (b .ravel) (some (size b) (product lengths) q) in
     record {
       rank = omega (arith, u .1, ltb-false 15 (size a) (none-holds (ltb 1 (rank a)) (ltb 15 (size a)) r .1));
       size = sym n;

@@ -18,12 +18,12 @@ use Rattle.segment.specs.Blocks.{rankAt, countAt, product, shapeAt, elementsAt,
 use Rattle.storage.specs.Request.{requestAt}
 use Rattle.storage.specs.Arrays.{placeAt, share, drops}
 use Rattle.manual.specs.Effects.{Source, variable, operand, word, undefinedValue, reference, made, Effect, replaces, discards, swaps, stores, storesElement, enters, leaves, jumps, setsOrigin}
+use Rattle.manual.proofs.Tests.{none-holds}
 use Rattle.effects.specs.Sources.{addressOf, heldAt, operandAt, wordOf, placed}
 use Rattle.effects.specs.Perform.{bottomOf, blockOf, startOf, finish, replace, discard, swap, storeAt, store, unshare, writeElement, storeElement, enter, leaveWith, leaveWithout, perform, performs, sourceNeed, noneFor, isFull, firstFull}
 use Rattle.effects.specs.Sound.{Sound}
 use Rattle.effects.specs.Fits.{Available, Fits}
 use Rattle.effects.specs.Requests.{AllFit, OneRequest}
-use Rattle.effects_theorems.proofs.Tests.{none-holds}
 use Rattle.effects_theorems.proofs.Effects.{perform-theorem}
 use Rattle.effects_theorems.proofs.Lists.{AllServed, all-served}
 use Rattle.plan_theorems.specs.Fitting.{Words}

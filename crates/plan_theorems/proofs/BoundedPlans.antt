@@ -4,7 +4,6 @@ use mathlib.Core.Bool.{Bool, true, false, cond}
 use mathlib.Core.List.{List}
 use native.Mathlib.Omega.{arith}
 use lib.Dec.{eqb}
-use Rattle.procedure.specs.Headers.{codeOf}
 use Rattle.instruction.specs.declared.Instruction.{Instruction}
 use Rattle.instruction.specs.declared.Decoded.{Decoded}
 use Rattle.instruction.specs.declared.Decoded.the-variants as D
@@ -14,8 +13,9 @@ use Rattle.manual.specs.Seen.{Seen, variablesOf}
 use Rattle.manual.specs.Loads.{isUndefined}
 use Rattle.manual.specs.Scalars.{resultOf}
 use Rattle.manual.specs.Control.{frameWord}
-use Rattle.manual.specs.Instructions.{Running, segmentOf, headerOf, planOf, planDecoded}
+use Rattle.manual.specs.Instructions.{Running, codeIn, headerOf, planOf, planDecoded}
 use Rattle.manual.specs.Cases.{Pushed, ofLoad, ofReference, ofTestDefined, ofUndefined, ofGetOrigin, ofShortConstant, ofConstantScalar, ofConstantVector}
+use Rattle.manual.proofs.Decoding.{Reads}
 use Rattle.manual.proofs.Cases.{plan-cases}
 use Rattle.scalar_theorems.specs.Validity.{Valid}
 use Rattle.plan_theorems.specs.Fitting.{Words}
@@ -29,7 +29,7 @@ use Rattle.plan_theorems.proofs.Results.{result-fits}
 use Rattle.plan_theorems.specs.Lent.{Bytes}
 use Rattle.plan_theorems.specs.Bounded.{SmallSource, AllSmall}
 use Rattle.plan_theorems.proofs.BoundedWords.{words-all}
-use Rattle.plan_theorems.proofs.BoundedDecoding.{SmallInstruction, SmallDecoded, bytes-code, bytes-selected, words-from}
+use Rattle.plan_theorems.proofs.BoundedDecoding.{SmallDecoded, words-from}
 
 result-small : (a : Value) → ValueFits a → SmallSource (resultOf a)
 result-small a h = go (eqb (rank a) 0) (words-all (a .ravel) (all-map Valid (λ w. w < 2 ^ 32) (λ w v. v .word) (a .ravel) (h .scalars)))
@@ -42,11 +42,8 @@ frame-small : (alternate : Bool) (number : ℕ) → number < 2 ^ 11 → frameWor
 frame-small true number h = omega arith
 frame-small false number h = omega arith
 
-module _ {s : List ℕ} {v : Seen} (f : Running) (h : Sees s (variablesOf (headerOf f)) v) (regular : Bytes (f .regular)) (alternate : Bytes (f .alternate)) where
-  code-bytes : Bytes (codeOf (segmentOf f) (f .block))
-  code-bytes = bytes-code (segmentOf f) (f .block) (bytes-selected (f .selector) (f .regular) (f .alternate) regular alternate)
-
-  source-small : {i : Instruction} {source : Source} → SmallInstruction i → Pushed f v i source → SmallSource source
+module _ {s : List ℕ} {v : Seen} (f : Running) (h : Sees s (variablesOf (headerOf f)) v) (bytes : Bytes (codeIn f)) where
+  source-small : {i : Instruction} {source : Source} → Reads (λ w. w < 2 ^ 32) i → Pushed f v i source → SmallSource source
   source-small k (ofLoad r e) = tt
   source-small k (ofReference r) = tt
   source-small k (ofTestDefined {x = x} r) = valid-truth (isUndefined (x .held)) .word
@@ -55,9 +52,9 @@ module _ {s : List ℕ} {v : Seen} (f : Running) (h : Sees s (variablesOf (heade
   source-small k (ofShortConstant {negative} {magnitude}) = valid-short negative magnitude .word
   source-small k (ofConstantScalar e) = k
   source-small k (ofConstantVector {count} {first} e) =
-      words-from (count % 2 ^ 8) (codeOf (segmentOf f) (f .block)) code-bytes (first .0 % 2 ^ 16)
+      words-from (count % 2 ^ 8) (codeIn f) bytes (first .0 % 2 ^ 16)
 
-  plan-small : (i : Instruction) → SmallInstruction i → (next : ℕ) → Given AllSmall (planOf f v i next)
+  plan-small : (i : Instruction) → Reads (λ w. w < 2 ^ 32) i → (next : ℕ) → Given AllSmall (planOf f v i next)
   plan-small i k next =
       plan-cases f v i next AllSmall AnyTrap
       (record {

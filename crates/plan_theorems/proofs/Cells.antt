@@ -19,12 +19,13 @@ use Rattle.storage.specs.Heap.{count}
 use Rattle.storage.specs.Owned.{Owned, Inside}
 use Rattle.manual.specs.Values as values
 use Rattle.manual.specs.Scalars.{valueOf, scalarWord}
+use Rattle.manual.proofs.Tests.{both-hold}
 use Rattle.storage_theorems.proofs.Cells.{array-of}
 use Rattle.effects.specs.Seen.{whole, readKind, read}
 use Rattle.scalar_theorems.specs.Validity.{Valid}
 use Rattle.effects_theorems.proofs.Frames.{part-length}
 use Rattle.plan_theorems.specs.Fitting.{Words}
-use Rattle.plan_theorems.proofs.Given.{Given, and-true}
+use Rattle.plan_theorems.proofs.Given.{Given}
 use Rattle.plan_theorems.proofs.Lists.{All, all-count, count-all, all-getD}
 use Rattle.plan_theorems.proofs.Values.{Length, valid-length, ValueFits, scalar-fits}
 
@@ -61,8 +62,8 @@ module _ {s owners : List ℕ} (o : Owned s owners) (words : Words s) where
   array-fits : (x size : ℕ) → Inside s x size → whole s x ≡ true → ValueFits (values.value (shapeAt s x) (elementsAt s x))
   unfolding whole shapeAt elementsAt
   array-fits x size i e =
-      let t = and-true (leb 1 (rankAt s x)) (eqb (sizeAt s x) (2 + rankAt s x + product (shapeAt s x)) && leb (x + sizeAt s x) (length s)) e .1 in
-      let z = eqb-true (sizeAt s x) (2 + rankAt s x + product (shapeAt s x)) (and-true (eqb (sizeAt s x) (2 + rankAt s x + product (shapeAt s x))) (leb (x + sizeAt s x) (length s)) t .0) in
+      let t = both-hold (leb 1 (rankAt s x)) (eqb (sizeAt s x) (2 + rankAt s x + product (shapeAt s x)) && leb (x + sizeAt s x) (length s)) e .1 in
+      let z = eqb-true (sizeAt s x) (2 + rankAt s x + product (shapeAt s x)) (both-hold (eqb (sizeAt s x) (2 + rankAt s x + product (shapeAt s x))) (leb (x + sizeAt s x) (length s)) t .0) in
       let n = part-length s (x + 2 + rankAt s x) (product (shapeAt s x)) in
       record {
         rank = omega (arith, part-length s (x + 2) (rankAt s x));

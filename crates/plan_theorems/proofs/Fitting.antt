@@ -1,7 +1,7 @@
 -- Effects one after the other that fit, and what they need that a sound segment has.
 use Prim.Native.Nat.{ℕ, suc, _+_, _-_, _≤_}
 use mathlib.Core.Path.{_≡_, refl, sym, _∙_, ap}
-use mathlib.Core.Bool.{Bool, true, false}
+use mathlib.Core.Bool.{Bool, true, false, true≢false}
 use mathlib.Core.List.{List, [], _∷_}
 use native.Mathlib.Omega.{arith}
 use lib.ListN.{length}
@@ -15,12 +15,10 @@ use Rattle.segment.specs.Machine.{Frame, mapFrames}
 use Rattle.segment.specs.View.{framesFrom, words, view}
 use Rattle.manual.specs.Effects.{Effect, jumps, currentCells}
 use Rattle.manual.specs.Seen.{noOlder}
-use Rattle.effects.specs.Perform.{perform}
+use Rattle.effects.specs.Perform.{perform, wanted}
 use Rattle.effects.specs.Seen.{temporaries}
 use Rattle.effects.specs.Sound.{Chain, bottom, upon, Sound}
 use Rattle.effects.specs.Fits.{Addressable, CanReplace, CanLeave, Fits}
-use Rattle.effects.specs.Requests.{asks}
-use Rattle.effects_theorems.proofs.Tests.{never}
 use Rattle.effects_theorems.proofs.Frames.{downward-length, frames-bottom, frames-next}
 use Rattle.effects_theorems.proofs.Sound.{bounds}
 use Rattle.effects_theorems.proofs.Variables.{variable-place}
@@ -30,14 +28,14 @@ module _ (s : List ℕ) (e : Effect) (h : Fits s e) where
   pub only : Fitting s (e ∷ [])
   only = record { first = h; once = tt; all = (h, tt) }
 
-  pub and-then : (d : Effect) → asks d ≡ false → Fits (perform s e) d → Fitting s (e ∷ d ∷ [])
+  pub and-then : (d : Effect) → ((t : List ℕ) → wanted t d ≡ 0) → Fits (perform s e) d → Fitting s (e ∷ d ∷ [])
   and-then d q k = record { first = h; once = (q, tt); all = (h, (k, tt)) }
 
   pub then-jumps : (next : ℕ) → Fitting s (e ∷ jumps next ∷ [])
-  then-jumps next = and-then (jumps next) refl tt
+  then-jumps next = and-then (jumps next) (λ t. refl) tt
 
-  pub and-then-jumps : (d : Effect) → asks d ≡ false → Fits (perform s e) d → (next : ℕ) → Fitting s (e ∷ d ∷ jumps next ∷ [])
-  and-then-jumps d q k next = record { first = h; once = (q, (refl, tt)); all = (h, (k, (tt, tt))) }
+  pub and-then-jumps : (d : Effect) → ((t : List ℕ) → wanted t d ≡ 0) → Fits (perform s e) d → (next : ℕ) → Fitting s (e ∷ d ∷ jumps next ∷ [])
+  and-then-jumps d q k next = record { first = h; once = (q, (λ t. refl, tt)); all = (h, (k, (tt, tt))) }
 
 -- ---- what is there before
 
@@ -65,7 +63,7 @@ module _ (s : List ℕ) (g : Sound s) (n : ℕ) (inner : noOlder (view s .frames
       go : Chain s (lbase s) → lastLbaseAt s (lbase s) + 2 + n ≤ lbase s
       go (bottom q) =
           let e = frames-bottom (lbase s) s (lbase s) (sbase s) (lastLbaseAt s (lbase s)) (codeWordAt s (lbase s)) refl refl refl (omega arith) in
-          never (ap noOlder (sym e) ∙ sym (older-map (cell s) (framesFrom (suc (lbase s)) s (lbase s))) ∙ inner)
+          absurd (true≢false (ap noOlder (sym e) ∙ sym (older-map (cell s) (framesFrom (suc (lbase s)) s (lbase s))) ∙ inner))
       go (upon q c) =
           let e = frames-next (lbase s) s (lbase s) (sbase s) (lastLbaseAt s (lbase s)) (codeWordAt s (lbase s)) refl refl refl (omega arith) in
           omega (

@@ -1,11 +1,10 @@
 -- What a result has, if one is given: a statement about a plan goes down the manual's lists of traps.
 use Prim.Native.Nat.{ℕ}
-use mathlib.Core.Path.{_≡_, refl, sym, subst}
-use mathlib.Core.Bool.{Bool, true, false, cond, _&&_}
+use mathlib.Core.Path.{_≡_, sym, subst}
+use mathlib.Core.Bool.{Bool, true, false, cond}
 use Rattle.manual.specs.OrTrap.{OrTrap, gives, trap, andThen, stopIf}
 use Rattle.manual.specs.Cases.{OfPlan}
 use Rattle.manual.proofs.Lists.{stops, goes, either}
-use Rattle.effects_theorems.proofs.Tests.{never}
 
 abbrev pub AnyTrap : ℕ → ℕ → Type 0
 AnyTrap class number = Unit {0}
@@ -31,7 +30,3 @@ both P b x y h k = either P AnyTrap b x y h k
 -- of what is given
 pub given : {A : Type 0} (P : A → Type 0) (x : OrTrap A) (a : A) → Given P x → x ≡ gives a → P a
 given P x a h e = subst (Given P) e h
-
-pub and-true : (a b : Bool) → (a && b) ≡ true → (a ≡ true) × (b ≡ true)
-and-true true b h = (refl, h)
-and-true false b h = never (sym h)

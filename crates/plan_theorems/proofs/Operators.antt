@@ -16,9 +16,11 @@ use Rattle.scalar.specs.Operators.{monadicOf, dyadicOf}
 use Rattle.segment.specs.Blocks.{product}
 use Rattle.manual.specs.OrTrap.{OrTrap}
 use Rattle.manual.specs.Values.{Value, size, isSingle, first, same, answered, collect, each, monadic, conform, spread, zip, extent, pairwise, dyadic}
+use Rattle.manual.proofs.Tests.{both-hold}
+use Rattle.manual.proofs.Elements.{same-lists}
 use Rattle.scalar_theorems.specs.Validity.{Valid}
 use Rattle.scalar_theorems.proofs.Validity.{valid-results}
-use Rattle.plan_theorems.proofs.Given.{Given, passed, chained, both, and-true}
+use Rattle.plan_theorems.proofs.Given.{Given, passed, chained, both}
 use Rattle.plan_theorems.proofs.Lists.{All, all-replicate, all-getD}
 use Rattle.plan_theorems.proofs.Values.{Length, valid-length, ValueFits}
 
@@ -74,16 +76,6 @@ extent-left a b h = rw (eq-eqb (length a) 1 h)
 extent-right : (a b : List ℕ) → (length a ≡ 1 → ⊥) → extent a b ≡ length a
 extent-right a b h = rw (ne-eqb (length a) 1 h)
 
-same-lists : (a b : List ℕ) → same a b ≡ true → a ≡ b
-same-lists [] [] h = refl
-same-lists [] (y ∷ b) h = cc
-same-lists (x ∷ a) [] h = cc
-same-lists (x ∷ a) (y ∷ b) h =
-    let k = and-true (eqb x y) (same a b) h in
-    let p = eqb-true x y (k .0) in
-    let q = same-lists a b (k .1) in
-    cc
-
 module _ (a b : Value) (h : ValueFits a) (k : ValueFits b) where
   either : (t : Bool) → length (a .ravel) ≡ 1 → (t ≡ true → length (b .ravel) ≡ 1) → Conforms a b (cond t (a .shape) (b .shape))
   either true e f =
@@ -112,7 +104,7 @@ module _ (a b : Value) (h : ValueFits a) (k : ValueFits b) where
   unfolding conform
   conform-fits =
       both (Conforms a b) (eqb (size a) 1) _ _
-      (λ e. either (eqb (size b) 1 && ltb (length (b .shape)) (length (a .shape))) (eqb-true _ _ e) (λ q. eqb-true _ _ (and-true (eqb (size b) 1) _ q .0)))
+      (λ e. either (eqb (size b) 1 && ltb (length (b .shape)) (length (a .shape))) (eqb-true _ _ e) (λ q. eqb-true _ _ (both-hold (eqb (size b) 1) _ q .0)))
       (λ e. both (Conforms a b) (eqb (size b) 1) _ _ (λ f. longer (eqb-false _ _ e) (inl (eqb-true _ _ f)))
       (λ f. passed (Conforms a b) (not (eqb (length (a .shape)) (length (b .shape)))) 5 0 _ (λ r.
       passed (Conforms a b) (not (same (a .shape) (b .shape))) 6 0 _ (λ q. longer (eqb-false _ _ e) (inr (alike (not-false _ q)))))))

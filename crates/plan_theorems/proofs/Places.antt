@@ -1,58 +1,36 @@
 -- Subscripts that are judged lead to an element that is there, also in the array that a variable holds.
-use Prim.Native.Nat.{ℕ, zero, suc, _+_, _*_, _<_}
+use Prim.Native.Nat.{ℕ, zero, suc, _*_, _<_}
 use mathlib.Core.Path.{_≡_, refl, sym, _∙_, ap, subst}
-use mathlib.Core.Bool.{true, false, not, _&&_}
-use mathlib.Core.List.{List, [], _∷_}
-use native.Mathlib.Nat.{mul-le-mul-right, suc-mul}
+use mathlib.Core.Bool.{false, not, _&&_}
+use mathlib.Core.List.{List, _∷_}
+use native.Mathlib.Nat.{suc-mul}
 use native.Mathlib.Omega.{arith}
-use lib.Dec.{ltb, leb, eqb}
+use lib.Dec.{leb, eqb}
 use lib.ListN.{length}
-use borrow.Author.Tests.{leb-true, ltb-true, eqb-true, eqb-false, not-false}
+use borrow.Author.Tests.{ltb-true, eqb-true, eqb-false, not-false}
 use Rattle.descriptor.specs.Fields.{isCharacter}
-use Rattle.scalar.specs.declared.Whole.{Whole}
-use Rattle.scalar.specs.declared.Whole.the-variants as W
 use Rattle.scalar.specs.Reading.{wholeOf}
 use Rattle.segment.specs.Blocks.{product}
 use Rattle.segment.specs.Cells.{Cell, undefined, indirect, value, invalid}
 use Rattle.instruction.specs.declared.Address.{Address}
-use Rattle.manual.specs.Values.{Value, rank as rankOf, any, isFraction, inRange, offset, inRanges, placeOf, place}
+use Rattle.manual.specs.Values.{Value, rank as rankOf, any, isFraction, inRanges, place}
 use Rattle.manual.specs.Seen.{Seen, Variable}
 use Rattle.manual.specs.Scalars.{valueOf, operands, scalarWords, subscripted}
 use Rattle.manual.specs.Instructions.{Running}
 use Rattle.manual.specs.Cases.{Element}
+use Rattle.manual.proofs.Elements.{place-below}
 use Rattle.effects.specs.Sources.{heldAt}
 use Rattle.effects.specs.Fits.{HasElement}
 use Rattle.effects.specs.Alike.{Resolved}
-use Rattle.effects_theorems.proofs.Tests.{never}
-use Rattle.plan_theorems.proofs.Given.{Given, passed, given, and-true}
+use Rattle.plan_theorems.proofs.Given.{Given, passed, given}
 use Rattle.plan_theorems.proofs.Cells.{cell-array-shape}
 
-offset-below : (origin : ℕ) (x : Whole) (l : ℕ) → inRange origin x l ≡ true → offset origin x < l
-offset-below origin (W.Number negative n) l h =
-    let k = and-true (leb origin n) (ltb n (l + origin)) (and-true (not negative) (leb origin n && ltb n (l + origin)) h .1) in
-    omega (arith, leb-true origin n (k .0), ltb-true n (l + origin) (k .1))
-offset-below origin W.Fraction l h = let z : true ≡ false = cc in never z
-offset-below origin W.Character l h = let z : true ≡ false = cc in never z
-
--- a place in a row, with a place in the rows behind it
-row-below : (i l p r : ℕ) → i < l → r < p → i * p + r < l * p
-row-below i l p r h k = omega (arith, mul-le-mul-right {m = suc i} {n = l} p h, suc-mul i p)
-
-below-product : (origin : ℕ) (ws ls : List ℕ) → length ws ≡ length ls → inRanges origin ws ls ≡ true → placeOf origin ws ls < product ls
-below-product origin [] [] e h = omega arith
-below-product origin [] (l ∷ ls) e h = absurd (omega arith)
-below-product origin (w ∷ ws) [] e h = absurd (omega arith)
-below-product origin (w ∷ ws) (l ∷ ls) e h =
-    let k = and-true (inRange origin (wholeOf w) l) (inRanges origin ws ls) h in
-    row-below (offset origin (wholeOf w)) l (product ls) (placeOf origin ws ls) (offset-below origin (wholeOf w) l (k .0))
-    (below-product origin ws ls (omega arith) (k .1))
-
-place-below : (origin : ℕ) (ws ls : List ℕ) → length ws ≡ length ls → Given (λ k. k < product ls) (place origin ws ls)
+judged-below : (origin : ℕ) (ws ls : List ℕ) → length ws ≡ length ls → Given (λ k. k < product ls) (place origin ws ls)
 unfolding place
-place-below origin ws ls e =
+judged-below origin ws ls e =
     passed (λ (k : ℕ). k < product ls) (any isCharacter ws) 7 0 _ (λ c.
     passed (λ (k : ℕ). k < product ls) (any (λ w. isFraction (wholeOf w)) ws) 8 5 _ (λ f.
-    passed (λ (k : ℕ). k < product ls) (not (inRanges origin ws ls)) 9 2 _ (λ r. below-product origin ws ls e (not-false (inRanges origin ws ls) r))))
+    passed (λ (k : ℕ). k < product ls) (not (inRanges origin ws ls)) 9 2 _ (λ r. place-below origin ws ls e (not-false (inRanges origin ws ls) r))))
 
 operands-length : (seen : Seen) (i n : ℕ) → length (scalarWords (operands seen i n)) ≡ n
 operands-length seen i zero = refl
@@ -62,7 +40,7 @@ subscripted-below : (seen : Seen) (i rank : ℕ) (lengths : List ℕ)
     → Given (λ k. k < product lengths) (subscripted (seen .origin) rank lengths (operands seen i rank))
 subscripted-below seen i rank lengths =
     passed (λ (k : ℕ). k < product lengths) (not (eqb rank (length lengths))) 9 1 _ (λ e.
-    place-below (seen .origin) (scalarWords (operands seen i rank)) lengths
+    judged-below (seen .origin) (scalarWords (operands seen i rank)) lengths
     (omega (arith, operands-length seen i rank, eqb-true rank (length lengths) (not-false (eqb rank (length lengths)) e))))
 
 -- ---- an element of a variable's array

@@ -46,12 +46,12 @@ module _ (s : List ℕ) (g : Sound s) (f : Running) (v : Seen) (h : Sees s (vari
             then-jumps s (replaces 0 source) (record { taken = omega arith; room = omega (arith, r, h .room) }, source-available g h p) next;
         result = λ {n} {v = r} p m c. then-jumps s (replaces n (resultOf r)) (can-replace s g n (there n c) m, value-available s r (result-fits h p)) next;
         origin = λ a b e c p t.
-            and-then-jumps s (setsOrigin (bit b)) tt (replaces 1 (word (v .origin))) refl
+            and-then-jumps s (setsOrigin (bit b)) tt (replaces 1 (word (v .origin))) (λ t. refl)
             (replace-after s (bit b) 1 (can-replace s g 1 (there 1 c) (omega arith)), valid-length (v .origin) (omega (arith, h .origin)) .scalar) next;
         assigned = λ a x w e r c p. then-jumps s (stores (x .place) (operand 0)) (resolved f h a r .there, there 1 c) next;
         assignedNoResult = λ a x w e r c p.
             let k : Fits s (stores (x .place) (operand 0)) = (resolved f h a r .there, there 1 c) in
-            and-then-jumps s (stores (x .place) (operand 0)) k (discards 1) refl (discards-after s g (x .place) k) next;
+            and-then-jumps s (stores (x .place) (operand 0)) k (discards 1) (λ t. refl) (discards-after s g (x .place) k) next;
         assignedElement = λ rank a x k e c p.
             then-jumps s (storesElement (x .place) k (scalarWord (v .operand (rank % 2 ^ 4))) (rank % 2 ^ 4 + 1)) (
               can-replace s g (rank % 2 ^ 4 + 1) (there (rank % 2 ^ 4 + 1) c) (omega arith),
@@ -65,11 +65,11 @@ module _ (s : List ℕ) (g : Sound s) (f : Running) (v : Seen) (h : Sees s (vari
             only s (leaves vars (headerOf f .result))
             (can-leave s g vars (sym (h .bottom) ∙ l .below) (h .cells) (omega (arith, l .none, h .count)) (headerOf f .result) some);
         leftDropping = λ c l.
-            and-then s (discards 1) (there 1 c) (leaves vars (headerOf f .result)) refl
+            and-then s (discards 1) (there 1 c) (leaves vars (headerOf f .result)) (λ t. refl)
             (leaves-after s g vars (sym (h .bottom) ∙ l .below) (h .cells) (omega (arith, l .none, c, h .count)) (headerOf f .result) some);
         entered = λ arguments alternate number e c.
             let n = calledBy f alternate number .nlocals in
-            and-then s (jumps next) tt (enters n (frameWord alternate (number % 2 ^ 11))) refl
+            and-then s (jumps next) tt (enters n (frameWord alternate (number % 2 ^ 11))) (λ t. refl)
             (enters-after s g next n (frameWord alternate (number % 2 ^ 11)) (omega (arith, c .room, h .room)));
       })
 

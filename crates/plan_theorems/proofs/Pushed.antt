@@ -1,6 +1,6 @@
 -- What the instructions that push give can be had.
-use Prim.Native.Nat.{ℕ, zero, suc, _+_, _%_, _^_, _<_, _≤_}
-use mathlib.Core.Path.{_≡_, refl, ap}
+use Prim.Native.Nat.{ℕ, suc, _+_, _%_, _^_, _<_, _≤_}
+use mathlib.Core.Path.{_≡_, ap}
 use mathlib.Core.Bool.{Bool, true, false, cond, not}
 use mathlib.Core.List.{List, [], _∷_}
 use native.Mathlib.Omega.{arith}
@@ -15,13 +15,14 @@ use Rattle.manual.specs.Values.{any}
 use Rattle.manual.specs.Effects.{Source}
 use Rattle.manual.specs.Seen.{Seen, variablesOf}
 use Rattle.manual.specs.Loads.{isUndefined}
-use Rattle.manual.specs.Instructions.{Running, segmentOf, headerOf, wordsFrom}
+use Rattle.manual.specs.Instructions.{Running, segmentOf, headerOf}
 use Rattle.manual.specs.Cases.{wordsOf, Pushed, ofLoad, ofReference, ofTestDefined, ofUndefined, ofGetOrigin, ofShortConstant, ofConstantScalar, ofConstantVector}
+use Rattle.manual.proofs.Tests.{none-holds}
+use Rattle.manual.proofs.Elements.{words-length}
 use Rattle.scalar_theorems.specs.Validity.{Valid}
 use Rattle.scalar_theorems.proofs.Validity.{valid-integer}
 use Rattle.effects.specs.Sound.{Sound}
 use Rattle.effects.specs.Fits.{Available}
-use Rattle.effects_theorems.proofs.Tests.{none-holds}
 use Rattle.plan_theorems.proofs.Lists.{All, all-count}
 use Rattle.plan_theorems.proofs.Values.{Length, valid-length}
 use Rattle.plan_theorems.proofs.Sees.{Sees, resolved}
@@ -41,10 +42,6 @@ pub valid-short : (negative : Bool) (magnitude : ℕ) → Valid (integerWord (bi
 valid-short negative magnitude = valid-integer (bit negative) (magnitude % 2 ^ 12) (bit-below negative) (omega arith)
 
 -- ---- CONSTANT_VECTOR
-
-words-length : (n : ℕ) (code : List ℕ) (place : ℕ) → length (wordsFrom n code place) ≡ n
-words-length zero code place = refl
-words-length (suc n) code place = ap suc (words-length n code (place + 4))
 
 all-scalars : (ws : List ℕ) → any (λ w. not (isScalar w)) ws ≡ false → All (λ w. isScalar w ≡ true) ws
 all-scalars [] h = tt

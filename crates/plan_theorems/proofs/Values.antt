@@ -13,6 +13,7 @@ use Rattle.storage.specs.Owned.{Proper}
 use Rattle.manual.specs.Values.{Value, scalar, rank, first}
 use Rattle.manual.specs.Effects.{word, made}
 use Rattle.manual.specs.Scalars.{resultOf}
+use Rattle.manual.proofs.Elements.{no-lengths}
 use Rattle.effects.specs.Fits.{Available}
 use Rattle.scalar_theorems.specs.Validity.{Valid}
 use Rattle.scalar_theorems.proofs.Validity.{valid-small}
@@ -40,10 +41,6 @@ scalar-fits w h = record { rank = omega arith; size = refl; short = omega arith;
 first-of : (P : ℕ → Type 0) (l : List ℕ) → 0 < length l → All P l → P (first l)
 first-of P [] n h = absurd (omega arith)
 first-of P (x ∷ l) n h = h .0
-
-no-lengths : (l : List ℕ) → length l ≡ 0 → product l ≡ 1
-no-lengths [] h = refl
-no-lengths (x ∷ l) h = absurd (omega arith)
 
 module _ (s : List ℕ) (v : Value) (h : ValueFits v) where
   scalar-available : length (v .shape) ≡ 0 → isScalar (first (v .ravel)) ≡ true

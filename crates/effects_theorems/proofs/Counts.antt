@@ -1,12 +1,16 @@
--- Machines of cells: how often a word stands in one, and the same machine seen by two functions that agree on its words.
-use Prim.Native.Nat.{ℕ, zero, suc, _+_, _-_, _<_}
+-- How often a word stands in the cells of a machine, and the same machine seen by two functions that agree on its words.
+use Prim.Native.Nat.{ℕ, zero, suc, _+_, _-_, _<_, _≤_}
 use mathlib.Core.Path.{_≡_, refl, _∙_, ap}
 use mathlib.Core.List.{List, [], _∷_, _++_, map}
+use mathlib.Core.Logic.{⊎-elim}
 use native.Mathlib.Omega.{arith}
-use lib.ListN.{getD, set, length, drop, replicate, length-map}
+use lib.ListN.{getD, set, length}
+use Rattle.descriptor.specs.declared.Target.{Target}
+use Rattle.descriptor.specs.declared.Target.the-variants.{Local, Global}
 use Rattle.storage.specs.Heap.{hit, count}
 use Rattle.segment.specs.Machine.{Frame, Machine, mapFrames, mapMachine, cellsOfFrames, allCells, depthOfFrames}
-use Rattle.manual.specs.Effects.{swapped, currentCells, older, jumpFrames}
+use Rattle.manual.specs.Effects.{indexIn, putFrames, put, swapped, currentCells, older, InFrames, AddressableIn}
+use Rattle.manual.proofs.Cellwise.{global-in, put-here, put-below, in-cases}
 use Rattle.storage_theorems.proofs.Counts.{hit-same, count-append}
 
 -- functions that agree on all cells
@@ -17,7 +21,7 @@ map-agree f g (w ∷ l) h =
     let r : map f l ≡ map g l = map-agree f g l (λ v c. h v (omega arith)) in
     cc
 
-pub frames-agree : {A : Type 0} (f g : ℕ → A) (l : List (Frame ℕ)) → ((w : ℕ) → 0 < count w (cellsOfFrames l) → f w ≡ g w)
+frames-agree : {A : Type 0} (f g : ℕ → A) (l : List (Frame ℕ)) → ((w : ℕ) → 0 < count w (cellsOfFrames l) → f w ≡ g w)
     → mapFrames f l ≡ mapFrames g l
 frames-agree f g [] h = refl
 frames-agree f g (r ∷ l) h =
@@ -40,63 +44,61 @@ machine-agree f g m h =
       map-agree f g (m .globals) (λ w c. h w (omega (arith, c, cells-count w m))),
     )
 
--- lists
-pub map-drop : {A : Type 0} (f : ℕ → A) (k : ℕ) (l : List ℕ) → map f (drop k l) ≡ drop k (map f l)
-map-drop f zero l = refl
-map-drop f (suc k) [] = refl
-map-drop f (suc k) (w ∷ l) = map-drop f k l
-
-pub map-set : {A : Type 0} (f : ℕ → A) (l : List ℕ) (j w : ℕ) → map f (set l j w) ≡ set (map f l) j (f w)
-map-set f [] zero w = refl
-map-set f [] (suc j) w = refl
-map-set f (y ∷ l) zero w = refl
-map-set f (y ∷ l) (suc j) w = ap (λ (r : List _). f y ∷ r) (map-set f l j w)
-
-pub map-swapped : {A : Type 0} (f : ℕ → A) (l : List ℕ) → map f (swapped l) ≡ swapped (map f l)
-map-swapped f [] = refl
-map-swapped f (a ∷ []) = refl
-map-swapped f (a ∷ b ∷ l) = refl
+-- ---- lists and frames
 
 pub swapped-count : (x : ℕ) (l : List ℕ) → count x (swapped l) ≡ count x l
 swapped-count x [] = refl
 swapped-count x (a ∷ []) = refl
 swapped-count x (a ∷ b ∷ l) = omega arith
 
-pub map-run : {A : Type 0} (n c : ℕ) (l : List ℕ) (f : ℕ → A) → map f (replicate n c ++ l) ≡ replicate n (f c) ++ map f l
-map-run zero c l f = refl
-map-run (suc n) c l f = ap (λ (r : List _). f c ∷ r) (map-run n c l f)
-
 pub count-getD : (l : List ℕ) (i z : ℕ) → i < length l → 0 < count (getD l i z) l
 count-getD [] i z h = absurd (omega arith)
 count-getD (y ∷ l) zero z h = omega (arith, hit-same y)
 count-getD (y ∷ l) (suc i) z h = omega (arith, count-getD l i z (omega arith))
 
-pub count-set : (x : ℕ) (l : List ℕ) (j u v : ℕ) → j < length l → count x (set l j u) + hit x v ≡ count x (set l j v) + hit x u
+count-set : (x : ℕ) (l : List ℕ) (j u v : ℕ) → j < length l → count x (set l j u) + hit x v ≡ count x (set l j v) + hit x u
 count-set x [] j u v h = absurd (omega arith)
 count-set x (y ∷ l) zero u v h = omega arith
 count-set x (y ∷ l) (suc j) u v h = omega (arith, count-set x l j u v (omega arith))
-
--- frames
-pub jump-cells : (place : ℕ) (l : List (Frame ℕ)) → cellsOfFrames (jumpFrames place l) ≡ cellsOfFrames l
-jump-cells place [] = refl
-jump-cells place (r ∷ l) = refl
-
-pub jump-map : {A : Type 0} (place : ℕ) (f : ℕ → A) (l : List (Frame ℕ)) → mapFrames f (jumpFrames place l) ≡ jumpFrames place (mapFrames f l)
-jump-map place f [] = refl
-jump-map place f (r ∷ l) = refl
 
 pub current-count : (x : ℕ) (l : List (Frame ℕ)) → count x (cellsOfFrames l) ≡ count x (currentCells l) + count x (cellsOfFrames (older l))
 current-count x [] = refl
 current-count x (r ∷ l) = count-append x (r .cells) (cellsOfFrames l)
 
-pub map-current : {A : Type 0} (f : ℕ → A) (l : List (Frame ℕ)) → map f (currentCells l) ≡ currentCells (mapFrames f l)
-map-current f [] = refl
-map-current f (r ∷ l) = refl
+-- ---- a variable that is written
 
-pub map-older : {A : Type 0} (f : ℕ → A) (l : List (Frame ℕ)) → mapFrames f (older l) ≡ older (mapFrames f l)
-map-older f [] = refl
-map-older f (r ∷ l) = refl
+count-frames : (x : ℕ) (l : List (Frame ℕ)) (a u v : ℕ) → InFrames a l
+    → count x (cellsOfFrames (putFrames a u l)) + hit x v ≡ count x (cellsOfFrames (putFrames a v l)) + hit x u
+count-frames x [] a u v h = absurd h
+count-frames x (r ∷ l) a u v h =
+    ⊎-elim
+    (λ (k : (depthOfFrames l ≤ a) × (indexIn (r .cells) l a < length (r .cells))).
+    rw (put-here a u r l (k .0), put-here a v r l (k .0))
+    (omega (
+      arith,
+      count-append x (set (r .cells) (indexIn (r .cells) l a) u) (cellsOfFrames l),
+      count-append x (set (r .cells) (indexIn (r .cells) l a) v) (cellsOfFrames l),
+      count-set x (r .cells) (indexIn (r .cells) l a) u v (k .1),
+    )))
+    (λ (k : (a < depthOfFrames l) × InFrames a l).
+    rw (put-below a u r l (k .0), put-below a v r l (k .0))
+    (omega (
+      arith,
+      count-append x (r .cells) (cellsOfFrames (putFrames a u l)),
+      count-append x (r .cells) (cellsOfFrames (putFrames a v l)),
+      count-frames x l a u v (k .1),
+    )))
+    (in-cases a r l h)
 
-pub depth-map : {A : Type 0} (f : ℕ → A) (l : List (Frame ℕ)) → depthOfFrames (mapFrames f l) ≡ depthOfFrames l
-depth-map f [] = refl
-depth-map f (r ∷ l) = omega (arith, length-map (r .cells) f, depth-map f l)
+pub count-put : (x : ℕ) (t : Target) (m : Machine ℕ) (u v : ℕ) → AddressableIn t m
+    → count x (allCells (put t u m)) + hit x v ≡ count x (allCells (put t v m)) + hit x u
+count-put x (Global g) m u v h =
+    rw (global-in (m .globals) (g .0) (h .0))
+    (omega (
+      arith,
+      cells-count x (record { flags = m .flags; temporaries = m .temporaries; frames = m .frames; globals = set (m .globals) (g .0 - 8) u }),
+      cells-count x (record { flags = m .flags; temporaries = m .temporaries; frames = m .frames; globals = set (m .globals) (g .0 - 8) v }),
+      count-set x (m .globals) (g .0 - 8) u v (omega (arith, h)),
+    ))
+count-put x (Local a) m u v h =
+    omega (arith, cells-count x (put (Local a) u m), cells-count x (put (Local a) v m), count-frames x (m .frames) (a .0) u v h)
