@@ -1,26 +1,31 @@
 -- What the contracts of the inner functions say. Nothing here need be believed: no public contract cites it. Assumes nothing.
-use Prim.Native.Nat.{ℕ, _+_, _^_}
+use Prim.Native.Nat.{ℕ, _+_, _^_, _≤_}
 use mathlib.Core.Path.{_≡_}
 use mathlib.Core.Bool.{Bool, true, not, _&&_}
 use mathlib.Core.List.{List, [], _∷_}
-use lib.Dec.{leb, eqb}
+use lib.Dec.{ltb, leb, eqb}
 use lib.ListN.{getD, length, take}
 use Rattle.descriptor.specs.declared.address.SegmentAddress.{SegmentAddress}
 use Rattle.descriptor.specs.Kinds.{bit}
 use Rattle.operator.specs.declared.Dyadic.{Dyadic}
 use Rattle.segment.specs.Blocks.{product, shapeAt, elementsAt}
 use Rattle.segment.specs.State.{flags, iorg}
-use Rattle.manual.specs.OrTrap.{OrTrap, gives, andThen, stopIf}
+use Rattle.manual.specs.OrTrap.{OrTrap, gives, trap, andThen, stopIf}
 use Rattle.manual.specs.Effects.{word, made, replaces, jumps, setsOrigin, Plan}
 use Rattle.manual.specs.Values as values
-use Rattle.manual.specs.Scalars.{replaceBy}
+use Rattle.manual.specs.Seen.{Seen}
+use Rattle.manual.specs.Scalars.{valueOf, replaceBy}
 use Rattle.effects.specs.declared.Outcome.{Outcome}
 use Rattle.effects.specs.Carried.{did, carry}
-use Rattle.effects.specs.Seen.{whole}
+use Rattle.effects.specs.Seen.{whole, temporaries, seen}
 use Rattle.elements.specs.Answers.{Paired, pairwiseBy}
 use Rattle.operands.specs.declared.reading.Value.{Value}
 use Rattle.operands.specs.declared.reading.Value.the-variants.{Array}
 use Rattle.operands.specs.Operands.{held}
+use Rattle.instructions_values.specs.declared.operand_values.First.{First}
+use Rattle.instructions_values.specs.declared.operand_values.First.the-variants as F
+use Rattle.instructions_values.specs.declared.operand_values.Both.{Both}
+use Rattle.instructions_values.specs.declared.operand_values.Both.the-variants as B
 
 -- ---- what the words hold
 
@@ -42,6 +47,27 @@ originOf s = iorg (flags s)
 pub record Front (words : List ℕ) (n : ℕ) (to : List ℕ) : Type 0 where
   pub count : n ≡ length words
   pub first : take n to ≡ words
+
+-- ---- the operands
+
+-- A plan that goes on from the value of the first of n operands, and one from the values of both of two.
+abbrev pub fromFirst : Seen → ℕ → (values.Value → Plan) → Plan
+fromFirst sees n next = stopIf (ltb (sees .count) n) 3 4 (andThen (valueOf (sees .operand 0)) next)
+
+abbrev pub fromBoth : Seen → (values.Value → values.Value → Plan) → Plan
+fromBoth sees next = fromFirst sees 2 (λ a. andThen (valueOf (sees .operand 1)) (next a))
+
+-- What the code finds: values that can be read, from which every such plan goes on; or the trap that every one is.
+pub record FirstFound (s : List ℕ) (n : ℕ) (r : First) : Type 0 where
+  pub all : (v : Value) → r ≡ F.Value v → n ≤ temporaries s
+  pub readable : (v : Value) → r ≡ F.Value v → Readable s v
+  pub goes : (v : Value) → r ≡ F.Value v → (next : values.Value → Plan) → fromFirst (seen s) n next ≡ next (held s v)
+  pub stops : (class number : ℕ) → r ≡ F.Trap class number → (next : values.Value → Plan) → fromFirst (seen s) n next ≡ trap class number
+
+pub record BothFound (s : List ℕ) (r : Both) : Type 0 where
+  pub readable : (a b : Value) → r ≡ B.Values a b → Readable s a × Readable s b
+  pub goes : (a b : Value) → r ≡ B.Values a b → (next : values.Value → values.Value → Plan) → fromBoth (seen s) next ≡ next (held s a) (held s b)
+  pub stops : (class number : ℕ) → r ≡ B.Trap class number → (next : values.Value → values.Value → Plan) → fromBoth (seen s) next ≡ trap class number
 
 -- ---- what the words come to
 

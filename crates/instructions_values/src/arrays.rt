@@ -9,6 +9,10 @@ ghost use Rattle.manual.specs.Scalars as plan;
 ghost use Rattle.operands.specs.Operands.{held};
 ghost use Rattle.effects.specs.Carried.{CarriesOut};
 ghost use Rattle.instructions_values.specs.Parts.{Readable, ReplacesBy, originOf, shaped, filled};
+use super::operand_values::Both;
+use super::operand_values::First;
+use super::operand_values::both_values;
+use super::operand_values::first_value;
 use super::ravels::copy_ravel;
 use super::ravels::copy_shape;
 use super::ravels::cycle_ravel;
@@ -18,11 +22,7 @@ use super::ravels::size_of;
 use super::results::replace_by_new;
 use super::results::replace_by_vector;
 use descriptor::address::CodeAddress;
-use operands::reading::Operand;
 use operands::reading::Value;
-use operands::reading::count;
-use operands::reading::operand_at;
-use operands::reading::value_of;
 use elements::Finished;
 use elements::copies::up_from;
 use elements::shapes;
@@ -36,51 +36,45 @@ pub fn shape(seg: &mut [u32], next: CodeAddress) -> Outcome
     requires { ⌜ length (now seg) ≤ 16384 ⌝ }
     ensures { λ r. ⌜ CarriesOut (now (seg .entry)) r (now (seg .exit)) (λ sees. plan.shape sees (next .0)) ⌝ }
 {
-    if count(seg) < 1 {
-        return Outcome::Trapped(3, 4);
+    match first_value(seg, 1) {
+        First::Trap(class, number) => Outcome::Trapped(class, number),
+        First::Value(v) => {
+            let mut lengths = [0u32; 16];
+            let rank = copy_shape(seg, v, &mut lengths);
+            replace_by_vector(seg, 1, &lengths[..rank], next)
+        }
     }
-    let Operand::Value(v) = value_of(seg, operand_at(seg, 0)) else {
-        return Outcome::Trapped(3, 5);
-    };
-    let mut lengths = [0u32; 16];
-    let rank = copy_shape(seg, v, &mut lengths);
-    replace_by_vector(seg, 1, &lengths[..rank], next)
 }
 
 pub fn ravel(seg: &mut [u32], next: CodeAddress, scratch: &mut [u32]) -> Outcome
     requires { ⌜ (length (now seg) ≤ 16384) × (length (now scratch) ≡ 16384) ⌝ }
     ensures { λ r. ⌜ CarriesOut (now (seg .entry)) r (now (seg .exit)) (λ sees. plan.ravel sees (next .0)) ⌝ }
 {
-    if count(seg) < 1 {
-        return Outcome::Trapped(3, 4);
+    match first_value(seg, 1) {
+        First::Trap(class, number) => Outcome::Trapped(class, number),
+        First::Value(v) => {
+            let n = copy_ravel(seg, v, scratch);
+            replace_by_vector(seg, 1, &scratch[..n], next)
+        }
     }
-    let Operand::Value(v) = value_of(seg, operand_at(seg, 0)) else {
-        return Outcome::Trapped(3, 5);
-    };
-    let n = copy_ravel(seg, v, scratch);
-    replace_by_vector(seg, 1, &scratch[..n], next)
 }
 
 pub fn catenate(seg: &mut [u32], next: CodeAddress, scratch: &mut [u32]) -> Outcome
     requires { ⌜ (length (now seg) ≤ 16384) × (length (now scratch) ≡ 16384) ⌝ }
     ensures { λ r. ⌜ CarriesOut (now (seg .entry)) r (now (seg .exit)) (λ sees. plan.catenate sees (next .0)) ⌝ }
 {
-    if count(seg) < 2 {
-        return Outcome::Trapped(3, 4);
+    match both_values(seg) {
+        Both::Trap(class, number) => Outcome::Trapped(class, number),
+        Both::Values(a, b) => {
+            if 1 < rank_of(seg, a) {
+                return Outcome::Trapped(5, 0);
+            }
+            if 1 < rank_of(seg, b) {
+                return Outcome::Trapped(5, 0);
+            }
+            join(seg, a, b, next, scratch)
+        }
     }
-    let Operand::Value(a) = value_of(seg, operand_at(seg, 0)) else {
-        return Outcome::Trapped(3, 5);
-    };
-    let Operand::Value(b) = value_of(seg, operand_at(seg, 1)) else {
-        return Outcome::Trapped(3, 5);
-    };
-    if 1 < rank_of(seg, a) {
-        return Outcome::Trapped(5, 0);
-    }
-    if 1 < rank_of(seg, b) {
-        return Outcome::Trapped(5, 0);
-    }
-    join(seg, a, b, next, scratch)
 }
 
 fn join(seg: &mut [u32], a: Value, b: Value, next: CodeAddress, scratch: &mut [u32]) -> Outcome
@@ -103,17 +97,14 @@ pub fn index_generator(seg: &mut [u32], next: CodeAddress, scratch: &mut [u32]) 
     requires { ⌜ (length (now seg) ≤ 16384) × (length (now scratch) ≡ 16384) ⌝ }
     ensures { λ r. ⌜ CarriesOut (now (seg .entry)) r (now (seg .exit)) (λ sees. plan.indexGenerator sees (next .0)) ⌝ }
 {
-    if count(seg) < 1 {
-        return Outcome::Trapped(3, 4);
-    }
-    let Operand::Value(v) = value_of(seg, operand_at(seg, 0)) else {
-        return Outcome::Trapped(3, 5);
-    };
-    match single(seg, v) {
-        Answer::Trap(class, number) => Outcome::Trapped(class, number),
-        Answer::Word(w) => match shapes::short(w) {
+    match first_value(seg, 1) {
+        First::Trap(class, number) => Outcome::Trapped(class, number),
+        First::Value(v) => match single(seg, v) {
             Answer::Trap(class, number) => Outcome::Trapped(class, number),
-            Answer::Word(n) => generate(seg, n as usize, next, scratch),
+            Answer::Word(w) => match shapes::short(w) {
+                Answer::Trap(class, number) => Outcome::Trapped(class, number),
+                Answer::Word(n) => generate(seg, n as usize, next, scratch),
+            },
         },
     }
 }
@@ -133,22 +124,18 @@ pub fn reshape(seg: &mut [u32], next: CodeAddress, scratch: &mut [u32]) -> Outco
     requires { ⌜ (length (now seg) ≤ 16384) × (length (now scratch) ≡ 16384) ⌝ }
     ensures { λ r. ⌜ CarriesOut (now (seg .entry)) r (now (seg .exit)) (λ sees. plan.reshape sees (next .0)) ⌝ }
 {
-    if count(seg) < 2 {
-        return Outcome::Trapped(3, 4);
+    match both_values(seg) {
+        Both::Trap(class, number) => Outcome::Trapped(class, number),
+        Both::Values(a, b) => {
+            if 1 < rank_of(seg, a) {
+                return Outcome::Trapped(5, 0);
+            }
+            if 15 < size_of(seg, a) {
+                return Outcome::Trapped(5, 0);
+            }
+            read_lengths(seg, a, b, next, scratch)
+        }
     }
-    let Operand::Value(a) = value_of(seg, operand_at(seg, 0)) else {
-        return Outcome::Trapped(3, 5);
-    };
-    let Operand::Value(b) = value_of(seg, operand_at(seg, 1)) else {
-        return Outcome::Trapped(3, 5);
-    };
-    if 1 < rank_of(seg, a) {
-        return Outcome::Trapped(5, 0);
-    }
-    if 15 < size_of(seg, a) {
-        return Outcome::Trapped(5, 0);
-    }
-    read_lengths(seg, a, b, next, scratch)
 }
 
 fn read_lengths(seg: &mut [u32], a: Value, b: Value, next: CodeAddress, scratch: &mut [u32]) -> Outcome

@@ -3,7 +3,7 @@ ghost use mathlib.Core.Path.{_≡_};
 ghost use mathlib.Core.Bool.{true};
 ghost use Prim.Native.Nat.{_≤_};
 ghost use lib.ListN.{length};
-ghost use Rattle.segment.specs.Blocks as layout;
+ghost use Rattle.segment.specs.Blocks.{shapeAt};
 ghost use Rattle.manual.specs.OrTrap.{gives};
 ghost use Rattle.manual.specs.Values as values;
 ghost use Rattle.effects.specs.Seen.{whole};
@@ -22,14 +22,14 @@ use effects_code::taking::replace_by_word;
 use scalar::Answer;
 
 // A scalar, or its trap.
-pub fn replace_by_answer(seg: &mut [u32], operands: u32, answer: Answer, next: CodeAddress) -> Outcome
-    requires { ⌜ 1 ≤ operands ⌝ }
-    ensures { λ r. ⌜ Carries (now (seg .entry)) r (now (seg .exit)) (λ _. wordOf (next .0) operands (values.answered answer)) ⌝ }
+pub fn replace_by_answer(seg: &mut [u32], n: u32, answer: Answer, next: CodeAddress) -> Outcome
+    requires { ⌜ 1 ≤ n ⌝ }
+    ensures { λ r. ⌜ Carries (now (seg .entry)) r (now (seg .exit)) (λ _. wordOf (next .0) n (values.answered answer)) ⌝ }
 {
     match answer {
         Answer::Trap(class, number) => Outcome::Trapped(class, number),
         Answer::Word(w) => {
-            replace_by_word(seg, operands, w);
+            replace_by_word(seg, n, w);
             jump(seg, next);
             Outcome::Finished
         }
@@ -39,15 +39,15 @@ pub fn replace_by_answer(seg: &mut [u32], operands: u32, answer: Answer, next: C
 // A new array.
 pub fn replace_by_new(
     seg: &mut [u32],
-    operands: u32,
+    n: u32,
     lengths: &[u32],
     ravel: &[u32],
     next: CodeAddress,
 ) -> Outcome
-    requires { ⌜ 1 ≤ operands ⌝ }
-    ensures { λ r. ⌜ Carries (now (seg .entry)) r (now (seg .exit)) (λ _. madeOf (next .0) operands (now (lengths .entry)) (gives (now (ravel .entry)))) ⌝ }
+    requires { ⌜ 1 ≤ n ⌝ }
+    ensures { λ r. ⌜ Carries (now (seg .entry)) r (now (seg .exit)) (λ _. madeOf (next .0) n (now (lengths .entry)) (gives (now (ravel .entry)))) ⌝ }
 {
-    match replace_by_array(seg, operands, lengths, ravel) {
+    match replace_by_array(seg, n, lengths, ravel) {
         Done::Full => Outcome::Trapped(1, 2),
         Done::Done => {
             jump(seg, next);
@@ -59,42 +59,42 @@ pub fn replace_by_new(
 // A new array with the shape of the one in `block`.
 pub fn replace_by_like(
     seg: &mut [u32],
-    operands: u32,
+    n: u32,
     block: SegmentAddress,
     ravel: &[u32],
     next: CodeAddress,
 ) -> Outcome
-    requires { ⌜ (1 ≤ operands) × (whole (now seg) (block .0) ≡ true) ⌝ }
-    ensures { λ r. ⌜ Carries (now (seg .entry)) r (now (seg .exit)) (λ s. madeOf (next .0) operands (layout.shapeAt s (block .0)) (gives (now (ravel .entry)))) ⌝ }
+    requires { ⌜ (1 ≤ n) × (whole (now seg) (block .0) ≡ true) ⌝ }
+    ensures { λ r. ⌜ Carries (now (seg .entry)) r (now (seg .exit)) (λ s. madeOf (next .0) n (shapeAt s (block .0)) (gives (now (ravel .entry)))) ⌝ }
 {
     let mut lengths = [0u32; 16];
     let rank = keep(lengths_of(seg, block), &mut lengths);
-    replace_by_new(seg, operands, &lengths[..rank], ravel, next)
+    replace_by_new(seg, n, &lengths[..rank], ravel, next)
 }
 
 // The elements of a new array with the shape of the one in `block`, or the first trap of one.
 pub fn replace_by_elements(
     seg: &mut [u32],
-    operands: u32,
+    n: u32,
     block: SegmentAddress,
     done: Finished,
     ravel: &[u32],
     next: CodeAddress,
 ) -> Outcome
-    requires { ⌜ (1 ≤ operands) × (whole (now seg) (block .0) ≡ true) ⌝ }
-    ensures { λ r. ⌜ Carries (now (seg .entry)) r (now (seg .exit)) (λ s. madeOf (next .0) operands (layout.shapeAt s (block .0)) (finished done (now (ravel .entry)))) ⌝ }
+    requires { ⌜ (1 ≤ n) × (whole (now seg) (block .0) ≡ true) ⌝ }
+    ensures { λ r. ⌜ Carries (now (seg .entry)) r (now (seg .exit)) (λ s. madeOf (next .0) n (shapeAt s (block .0)) (finished done (now (ravel .entry)))) ⌝ }
 {
     match done {
         Finished::Trap(class, number) => Outcome::Trapped(class, number),
-        Finished::Done => replace_by_like(seg, operands, block, ravel, next),
+        Finished::Done => replace_by_like(seg, n, block, ravel, next),
     }
 }
 
 // A new vector.
-pub fn replace_by_vector(seg: &mut [u32], operands: u32, ravel: &[u32], next: CodeAddress) -> Outcome
-    requires { ⌜ (1 ≤ operands) × (length (now ravel) ≤ 16384) ⌝ }
-    ensures { λ r. ⌜ ReplacesBy (now (seg .entry)) r (now (seg .exit)) (next .0) operands (λ _. gives (values.vector (now (ravel .entry)))) ⌝ }
+pub fn replace_by_vector(seg: &mut [u32], n: u32, ravel: &[u32], next: CodeAddress) -> Outcome
+    requires { ⌜ (1 ≤ n) × (length (now ravel) ≤ 16384) ⌝ }
+    ensures { λ r. ⌜ ReplacesBy (now (seg .entry)) r (now (seg .exit)) (next .0) n (λ _. gives (values.vector (now (ravel .entry)))) ⌝ }
 {
     let lengths = [ravel.len() as u32];
-    replace_by_new(seg, operands, &lengths, ravel, next)
+    replace_by_new(seg, n, &lengths, ravel, next)
 }

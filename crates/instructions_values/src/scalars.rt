@@ -8,16 +8,16 @@ ghost use Rattle.manual.specs.Scalars as plan;
 ghost use Rattle.operands.specs.Operands.{held};
 ghost use Rattle.effects.specs.Carried.{CarriesOut};
 ghost use Rattle.instructions_values.specs.Parts.{Whole, Readable, Carries, ReplacesBy, arrayAt, Pairable, pairsMade, originSet};
+use super::operand_values::Both;
+use super::operand_values::First;
+use super::operand_values::both_values;
+use super::operand_values::first_value;
 use super::ravels::single;
 use super::results::replace_by_answer;
 use super::results::replace_by_elements;
-use operands::reading::Operand;
 use operands::reading::Value;
-use operands::reading::count;
 use operands::reading::elements_of;
 use operands::reading::lengths_of;
-use operands::reading::operand_at;
-use operands::reading::value_of;
 use descriptor::address::CodeAddress;
 use descriptor::address::SegmentAddress;
 use elements::Shape;
@@ -37,15 +37,12 @@ pub fn monadic(seg: &mut [u32], op: Monadic, next: CodeAddress, scratch: &mut [u
     requires { ⌜ (length (now seg) ≤ 16384) × (length (now scratch) ≡ 16384) ⌝ }
     ensures { λ r. ⌜ CarriesOut (now (seg .entry)) r (now (seg .exit)) (λ sees. plan.monadic sees (next .0) op) ⌝ }
 {
-    if count(seg) < 1 {
-        return Outcome::Trapped(3, 4);
-    }
-    let Operand::Value(a) = value_of(seg, operand_at(seg, 0)) else {
-        return Outcome::Trapped(3, 5);
-    };
-    match a {
-        Value::Scalar(w) => replace_by_answer(seg, 1, scalar::monadic(op, w), next),
-        Value::Array(block) => monadic_array(seg, op, block, next, scratch),
+    match first_value(seg, 1) {
+        First::Trap(class, number) => Outcome::Trapped(class, number),
+        First::Value(a) => match a {
+            Value::Scalar(w) => replace_by_answer(seg, 1, scalar::monadic(op, w), next),
+            Value::Array(block) => monadic_array(seg, op, block, next, scratch),
+        },
     }
 }
 
@@ -69,16 +66,10 @@ pub fn dyadic(seg: &mut [u32], op: Dyadic, next: CodeAddress, scratch: &mut [u32
     requires { ⌜ (length (now seg) ≤ 16384) × (length (now scratch) ≡ 16384) ⌝ }
     ensures { λ r. ⌜ CarriesOut (now (seg .entry)) r (now (seg .exit)) (λ sees. plan.dyadic sees (next .0) op) ⌝ }
 {
-    if count(seg) < 2 {
-        return Outcome::Trapped(3, 4);
+    match both_values(seg) {
+        Both::Trap(class, number) => Outcome::Trapped(class, number),
+        Both::Values(a, b) => combine(seg, op, a, b, next, scratch),
     }
-    let Operand::Value(a) = value_of(seg, operand_at(seg, 0)) else {
-        return Outcome::Trapped(3, 5);
-    };
-    let Operand::Value(b) = value_of(seg, operand_at(seg, 1)) else {
-        return Outcome::Trapped(3, 5);
-    };
-    combine(seg, op, a, b, next, scratch)
 }
 
 fn combine(
@@ -184,18 +175,15 @@ fn paired(
 pub fn set_origin(seg: &mut [u32], next: CodeAddress) -> Outcome
     ensures { λ r. ⌜ CarriesOut (now (seg .entry)) r (now (seg .exit)) (λ sees. plan.setOrigin sees (next .0)) ⌝ }
 {
-    if count(seg) < 1 {
-        return Outcome::Trapped(3, 4);
-    }
-    let Operand::Value(v) = value_of(seg, operand_at(seg, 0)) else {
-        return Outcome::Trapped(3, 5);
-    };
-    match single(seg, v) {
-        Answer::Trap(class, number) => Outcome::Trapped(class, number),
-        Answer::Word(w) => match truth(w) {
-            Truth::Character => Outcome::Trapped(7, 0),
-            Truth::Other => Outcome::Trapped(8, 5),
-            Truth::Value(b) => origin_set(seg, b, next),
+    match first_value(seg, 1) {
+        First::Trap(class, number) => Outcome::Trapped(class, number),
+        First::Value(v) => match single(seg, v) {
+            Answer::Trap(class, number) => Outcome::Trapped(class, number),
+            Answer::Word(w) => match truth(w) {
+                Truth::Character => Outcome::Trapped(7, 0),
+                Truth::Other => Outcome::Trapped(8, 5),
+                Truth::Value(b) => origin_set(seg, b, next),
+            },
         },
     }
 }

@@ -5,13 +5,11 @@ ghost use lib.ListN.{length};
 ghost use Rattle.manual.specs.Scalars as plan;
 ghost use Rattle.effects.specs.Carried.{CarriesOut};
 ghost use Rattle.instructions_values.specs.Parts.{Whole, Carries, arrayAt, originOf, indexed};
-use operands::reading::Operand;
+use super::operand_values::First;
+use super::operand_values::first_value;
 use operands::reading::Value;
-use operands::reading::count;
 use operands::reading::elements_of;
 use operands::reading::lengths_of;
-use operands::reading::operand_at;
-use operands::reading::value_of;
 use operands::taken::Taken;
 use operands::taken::take_scalars;
 use descriptor::address::CodeAddress;
@@ -29,20 +27,19 @@ pub fn index(seg: &mut [u32], rank: u8, next: CodeAddress) -> Outcome
     ensures { λ r. ⌜ CarriesOut (now (seg .entry)) r (now (seg .exit)) (λ sees. plan.index sees (next .0) (rank % 2 ^ 4)) ⌝ }
 {
     let n = (rank % 16) as u32;
-    if count(seg) < n + 1 {
-        return Outcome::Trapped(3, 4);
-    }
-    let Operand::Value(a) = value_of(seg, operand_at(seg, 0)) else {
-        return Outcome::Trapped(3, 5);
-    };
-    let mut subscripts = [0u32; 16];
-    match take_scalars(seg, 1, n, false, &mut subscripts) {
-        Taken::Foreign => Outcome::Trapped(3, 5),
-        Taken::NoScalar => Outcome::Trapped(5, 0),
-        Taken::Words => match a {
-            Value::Scalar(_) => Outcome::Trapped(5, 0),
-            Value::Array(block) => element(seg, block, &subscripts[..n as usize], next),
-        },
+    match first_value(seg, n + 1) {
+        First::Trap(class, number) => Outcome::Trapped(class, number),
+        First::Value(a) => {
+            let mut subscripts = [0u32; 16];
+            match take_scalars(seg, 1, n, false, &mut subscripts) {
+                Taken::Foreign => Outcome::Trapped(3, 5),
+                Taken::NoScalar => Outcome::Trapped(5, 0),
+                Taken::Words => match a {
+                    Value::Scalar(_) => Outcome::Trapped(5, 0),
+                    Value::Array(block) => element(seg, block, &subscripts[..n as usize], next),
+                },
+            }
+        }
     }
 }
 
