@@ -6,9 +6,9 @@ ghost use Rattle.manual.specs.Values as values;
 ghost use Rattle.elements.specs.Answers.{finished, pairwiseBy, Paired};
 ghost use Rattle.elements.specs.Parts.{Operands};
 use crate::Finished;
-use crate::integers;
 use crate::extension::extent;
 use crate::extension::pick;
+use crate::integers;
 use operator::Dyadic;
 use scalar::Answer;
 

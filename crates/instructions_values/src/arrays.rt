@@ -22,13 +22,13 @@ use super::ravels::size_of;
 use super::results::replace_by_new;
 use super::results::replace_by_vector;
 use descriptor::address::CodeAddress;
-use operands::reading::Value;
-use elements::Finished;
-use elements::copies::up_from;
-use elements::shapes;
 use effects::Outcome;
 use effects_code::taking::jump;
 use effects_code::taking::replace_by_word;
+use elements::Finished;
+use elements::copies::up_from;
+use elements::shapes;
+use operands::reading::Value;
 use scalar::Answer;
 use segment::state::iorg;
 
@@ -138,7 +138,13 @@ pub fn reshape(seg: &mut [u32], next: CodeAddress, scratch: &mut [u32]) -> Outco
     }
 }
 
-fn read_lengths(seg: &mut [u32], a: Value, b: Value, next: CodeAddress, scratch: &mut [u32]) -> Outcome
+fn read_lengths(
+    seg: &mut [u32],
+    a: Value,
+    b: Value,
+    next: CodeAddress,
+    scratch: &mut [u32],
+) -> Outcome
     requires { ⌜ Readable (now seg) a × Readable (now seg) b × (length (now seg) ≤ 16384) × (length (now scratch) ≡ 16384) ⌝ }
     requires { ⌜ (values.rank (held (now seg) a) ≤ 1) × (values.size (held (now seg) a) ≤ 15) ⌝ }
     ensures { λ r. ⌜ ReplacesBy (now (seg .entry)) r (now (seg .exit)) (next .0) 2 (λ s. values.reshape (held s a) (held s b)) ⌝ }
@@ -152,7 +158,13 @@ fn read_lengths(seg: &mut [u32], a: Value, b: Value, next: CodeAddress, scratch:
     }
 }
 
-fn fill_shape(seg: &mut [u32], lengths: &[u32], b: Value, next: CodeAddress, scratch: &mut [u32]) -> Outcome
+fn fill_shape(
+    seg: &mut [u32],
+    lengths: &[u32],
+    b: Value,
+    next: CodeAddress,
+    scratch: &mut [u32],
+) -> Outcome
     requires { ⌜ Readable (now seg) b × (length (now seg) ≤ 16384) × (length (now scratch) ≡ 16384) ⌝ }
     ensures { λ r. ⌜ ReplacesBy (now (seg .entry)) r (now (seg .exit)) (next .0) 2 (λ s. shaped (now (lengths .entry)) (held s b)) ⌝ }
 {

@@ -9,16 +9,16 @@ ghost use Rattle.manual.specs.Values as values;
 ghost use Rattle.effects.specs.Seen.{whole};
 ghost use Rattle.elements.specs.Answers.{finished};
 ghost use Rattle.instructions_values.specs.Parts.{Carries, ReplacesBy, wordOf, madeOf};
-use operands::reading::lengths_of;
 use descriptor::address::CodeAddress;
 use descriptor::address::SegmentAddress;
-use elements::Finished;
-use effects_code::Done;
 use effects::Outcome;
+use effects_code::Done;
 use effects_code::storing::keep;
 use effects_code::taking::jump;
 use effects_code::taking::replace_by_array;
 use effects_code::taking::replace_by_word;
+use elements::Finished;
+use operands::reading::lengths_of;
 use scalar::Answer;
 
 // A scalar, or its trap.

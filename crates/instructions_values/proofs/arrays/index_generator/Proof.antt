@@ -38,7 +38,7 @@ returns-4 c =
     let a = c .before .before .before .before .before .before .before .before .before .before .before .before .before .before .before .before .before .before .before .before .before .before .before .args in
     let s = a .seg .now in
     let numbers : gives (values.vector (values.upFrom (iorg (flags s)) (c .before .before .before .before .before .before .before .before .n .given .0 .0))) ≡ values.indexGenerator ((seen s) .origin) (held s (c .before .before .before .before .before .before .before .before .before .before .before .before .before .before .before .before .before .v .given .0 .0)) =
-        rw (origin-seen s) (generator-numbers _ _ _ (rw (c .before .before .before .before .before .before .before .before .before .before .before .before .w .given .1) at (c .before .before .before .before .before .before .before .before .before .before .before .before .before .before .single .ensures)) _ (rw (c .before .before .before .before .before .before .before .before .n .given .1) at (c .before .before .before .before .before .before .before .before .before .before .short .ensures))) in
+    rw (origin-seen s) (generator-numbers _ _ _ (rw (c .before .before .before .before .before .before .before .before .before .before .before .before .w .given .1) at (c .before .before .before .before .before .before .before .before .before .before .before .before .before .before .single .ensures)) _ (rw (c .before .before .before .before .before .before .before .before .n .given .1) at (c .before .before .before .before .before .before .before .before .before .before .short .ensures))) in
     (c .before .before .before .before .generate .ensures)
     ∙ ap (λ (r : OrTrap values.Value). carry s (plan.replaceBy (a .next .0) 1 r)) numbers
     ∙ one-goes (c .before .before .before .before .before .before .before .before .before .before .before .before .before .before .before .before .before .before .before .first-value .ensures) (c .before .before .before .before .before .before .before .before .before .before .before .before .before .before .before .before .before .v .given .1) _
