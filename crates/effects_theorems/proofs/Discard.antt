@@ -31,7 +31,7 @@ use Rattle.effects_theorems.specs.Theorems.{StateKept}
 use Rattle.effects_theorems.proofs.StateWords.{state-on, state-step, state-top}
 use Rattle.effects_theorems.proofs.Counts.{machine-agree, cells-count}
 use Rattle.effects_theorems.proofs.Frames.{drop-downward, frames-same, chain-same, words-kept}
-use Rattle.effects_theorems.proofs.Sound.{Bounds, bounds, Regs, kept-regs}
+use Rattle.effects_theorems.proofs.Sound.{Bounds, bounds, Regs, kept-regs, Done}
 use Rattle.effects_theorems.proofs.Replace.{temporaries-split}
 
 -- the stack ends `n` cells lower
@@ -162,13 +162,8 @@ module _ (s : List ℕ) (g : Sound s) (n : ℕ) (some : n ≤ temporaries s) whe
       (λ w c. cell-elsewhere moved (dropped .own) w c ∙ dropped .same w (omega (arith, c, count-append w (downward s b n) us)) c)
       ∙ rw (map-drop (cell s) n (words s .temporaries))
 
-  pub discard-state : StateKept s (discard s n)
-  discard-state =
-      rw discard-is
-      (state-on (state-step (dropped .kept) (low .low)) (state-top s2 (ltop s2 - n) (omega (arith, fit2)) (omega arith)))
+  state3 : StateKept s s3
+  state3 = state-on (state-step (dropped .kept) (low .low)) (state-top s2 (ltop s2 - n) (omega (arith, fit2)) (omega arith))
 
-  pub discard-sound : Sound (discard s n)
-  discard-sound = rw discard-is sound3
-
-  pub discard-view : view (discard s n) ≡ manual.discard n (view s)
-  discard-view = rw discard-is view3
+  pub discard-done : Done s (discard s n) (manual.discard n (view s))
+  discard-done = rw discard-is (record { sound = sound3; seen = view3; state = state3 })

@@ -29,14 +29,15 @@ use Rattle.effects.specs.Fits.{HasElement, Fits}
 use Rattle.effects_theorems.specs.Theorems.{Performed, StateKept, SetsFlags}
 use Rattle.effects_theorems.proofs.Variables.{look-view}
 use Rattle.effects_theorems.proofs.Sources.{Found, put-source}
-use Rattle.effects_theorems.proofs.Replace.{finish-view, finish-sound, finish-state}
-use Rattle.effects_theorems.proofs.Discard.{discard-view, discard-sound, discard-state}
-use Rattle.effects_theorems.proofs.Swap.{swap-view, swap-sound, swap-state}
-use Rattle.effects_theorems.proofs.State.{jump-view, jump-sound, jump-state, origin-view, origin-sound, origin-state}
-use Rattle.effects_theorems.proofs.Store.{stored-view, stored-sound, stored-state}
-use Rattle.effects_theorems.proofs.Element.{stored-element-view, stored-element-sound, stored-element-state}
-use Rattle.effects_theorems.proofs.Enter.{enter-view, enter-sound, enter-state}
-use Rattle.effects_theorems.proofs.Leave.{with-view, with-sound, with-state, without-view, without-sound, without-state}
+use Rattle.effects_theorems.proofs.Sound.{Done}
+use Rattle.effects_theorems.proofs.Replace.{finish-done}
+use Rattle.effects_theorems.proofs.Discard.{discard-done}
+use Rattle.effects_theorems.proofs.Swap.{swap-done}
+use Rattle.effects_theorems.proofs.State.{jump-done, origin-done}
+use Rattle.effects_theorems.proofs.Store.{stored}
+use Rattle.effects_theorems.proofs.Element.{stored-element}
+use Rattle.effects_theorems.proofs.Enter.{enter-done}
+use Rattle.effects_theorems.proofs.Leave.{with-done, without-done}
 
 -- what is not full is found
 served : (s : List ℕ) (n : ℕ) → n ≢ 0 → cond (eqb n 0) false (noneFor s n) ≡ false → requestAt s n ≢ 0
@@ -73,57 +74,30 @@ module _ (s : List ℕ) (g : Sound s) (t : Target) (place w n : ℕ) (has : HasE
   held = sym (look-view s g t (has .there)) ∙ ap (cell s) x-is ∙ cell-array s x x-small
 
 -- an effect that is served
-abbrev Done : List ℕ → Effect → Type 0
-Done s e = Performed s e × StateKept s (perform s e)
-
-effect-done : (s : List ℕ) → Sound s → (e : Effect) → Fits s e → isFull s e ≡ false → Done s e
+effect-done : (s : List ℕ) → Sound s → (e : Effect) → Fits s e → isFull s e ≡ false → Done s (perform s e) (manual.performOn e (view s))
 unfolding replace store storeAt
 effect-done s g (replaces n source) h f =
-    let p = put-source s g source (h .1) (source-found s source f) in
-    let c = manual.meant source (view s) in (
-      record {
-        sound = finish-sound s g n (wordOf s source) c (placed s source) p (h .0);
-        seen = finish-view s g n (wordOf s source) c (placed s source) p (h .0);
-      },
-      finish-state s g n (wordOf s source) c (placed s source) p (h .0),
-    )
-effect-done s g (discards n) h f = (record { sound = discard-sound s g n h; seen = discard-view s g n h }, discard-state s g n h)
-effect-done s g swaps h f = (record { sound = swap-sound s g h; seen = swap-view s g h }, swap-state s g h)
+    finish-done s g n (wordOf s source) (manual.meant source (view s)) (placed s source) (put-source s g source (h .1) (source-found s source f)) (h .0)
+effect-done s g (discards n) h f = discard-done s g n h
+effect-done s g swaps h f = swap-done s g h
 effect-done s g (stores t source) h f =
-    let p = put-source s g source (h .1) (source-found s source f) in
-    let c = manual.meant source (view s) in (
-      record {
-        sound = stored-sound s g t (h .0) (wordOf s source) c (placed s source) p;
-        seen = stored-view s g t (h .0) (wordOf s source) c (placed s source) p;
-      },
-      stored-state s g t (h .0) (wordOf s source) c (placed s source) p,
-    )
+    stored s g t (h .0) (wordOf s source) (manual.meant source (view s)) (placed s source) (put-source s g source (h .1) (source-found s source f)) .done
 effect-done s g (storesElement t place w n) h f =
     let has = h .1 in
-    let b = blockOf s (addressOf s t) in
-    let is = x-is s g t place w n has in
-    let small = x-small s g t place w n has in
-    let had = copied s g t place w n has f in (
-      record {
-        sound = stored-element-sound s g t (has .there) b is small place w n (has .inside) (h .2) had (h .0);
-        seen = stored-element-view s g t (has .there) b is small place w n (has .inside) (h .2) had (h .0) ∙ rw (held s g t place w n has);
-      },
-      stored-element-state s g t (has .there) b is small place w n (has .inside) (h .2) had (h .0),
-    )
-effect-done s g (enters n f) h full = (record { sound = enter-sound s g n f h; seen = enter-view s g n f h }, enter-state s g n f h)
-effect-done s g (leaves n true) h f = (record { sound = with-sound s g n h; seen = with-view s g n h }, with-state s g n h)
-effect-done s g (leaves n false) h f = (record { sound = without-sound s g n h; seen = without-view s g n h }, without-state s g n h)
-effect-done s g (jumps place) h f =
-    let p = place % 2 ^ 16 in
-    let small : place % 2 ^ 16 < 2 ^ 16 = omega arith in
-    (record { sound = jump-sound s g p small; seen = jump-view s g p small }, jump-state s g p small)
-effect-done s g (setsOrigin v) h f = (record { sound = origin-sound s g v; seen = origin-view s g v }, origin-state s g v)
+    rw (held s g t place w n has)
+    (stored-element s g t (has .there) (blockOf s (addressOf s t)) (x-is s g t place w n has) (x-small s g t place w n has) place w n (has .inside) (h .2)
+    (copied s g t place w n has f) (h .0))
+effect-done s g (enters n f) h full = enter-done s g n f h
+effect-done s g (leaves n true) h f = with-done s g n h
+effect-done s g (leaves n false) h f = without-done s g n h
+effect-done s g (jumps place) h f = jump-done s g (place % 2 ^ 16) (omega arith)
+effect-done s g (setsOrigin v) h f = origin-done s g v
 
 pub perform-theorem : (s : List ℕ) → Sound s → (e : Effect) → Fits s e → isFull s e ≡ false → Performed s e
-perform-theorem s g e h f = effect-done s g e h f .0
+perform-theorem s g e h f = let d = effect-done s g e h f in record { sound = d .sound; seen = d .seen }
 
 pub kept-theorem : (s : List ℕ) → Sound s → (e : Effect) → Fits s e → isFull s e ≡ false → StateKept s (perform s e)
-kept-theorem s g e h f = effect-done s g e h f .1
+kept-theorem s g e h f = effect-done s g e h f .state
 
 -- the flags are seen
 flags-performed : (e : Effect) (m : Machine Cell) → (SetsFlags e → ⊥) → manual.performOn e m .flags ≡ m .flags

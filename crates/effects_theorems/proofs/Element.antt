@@ -35,15 +35,14 @@ use Rattle.effects.specs.Sources.{addressOf, heldAt, placed}
 use Rattle.effects.specs.Perform.{replace, storeAt, unshare, writeElement, storeElement}
 use Rattle.effects.specs.Sound.{Sound}
 use Rattle.effects.specs.Fits.{Addressable, CanReplace}
-use Rattle.effects_theorems.specs.Theorems.{StateKept}
 use Rattle.effects_theorems.proofs.StateWords.{state-none, state-on, state-step}
 use Rattle.effects_theorems.proofs.Counts.{machine-agree, count-put}
 use Rattle.effects_theorems.proofs.Frames.{part-length, chain-same, words-kept}
-use Rattle.effects_theorems.proofs.Sound.{Bounds, bounds, Regs, kept-regs}
+use Rattle.effects_theorems.proofs.Sound.{Bounds, bounds, Regs, kept-regs, Done, InPlace}
 use Rattle.effects_theorems.proofs.Variables.{same-put, variable-owner, in-view}
 use Rattle.effects_theorems.proofs.Sources.{Put, put-source}
-use Rattle.effects_theorems.proofs.Replace.{finish-view, finish-sound, finish-state}
-use Rattle.effects_theorems.proofs.Store.{stored-view, stored-sound, stored-state, stored-regs, stored-word, stored-words, stored-this}
+use Rattle.effects_theorems.proofs.Store.{stored-word, stored-this, stored}
+use Rattle.effects_theorems.proofs.Replace.{finish-done}
 
 -- a word that stands in one cell only is seen anew there, and all else as before
 seen-once : (f g : ℕ → Cell) (m : Machine ℕ) (t : Target) (w n : ℕ) → AddressableIn t m → manual.put t w m ≡ m → count w (allCells m) ≡ 1 → w ≢ n → f n ≡ g n
@@ -81,10 +80,10 @@ module _ (s : List ℕ) (g : Sound s) (t : Target) (at : Addressable s t) (x : �
   regs : Regs s e′
   regs = kept-regs (element .kept) (low .low)
 
-  pub element-words : words e′ ≡ words s
+  element-words : words e′ ≡ words s
   element-words = words-kept s e′ (element .kept) (low .low) (omega (arith, low))
 
-  pub element-view : view e′ ≡ manual.put t (value (shapeAt s x) (set (elementsAt s x) k v)) (view s)
+  element-view : view e′ ≡ manual.put t (value (shapeAt s x) (set (elementsAt s x) k v)) (view s)
   unfolding view
   element-view =
       ap (mapMachine (cell e′)) element-words
@@ -92,7 +91,7 @@ module _ (s : List ℕ) (g : Sound s) (t : Target) (at : Addressable s t) (x : �
       (omega (arith, g .own .counts x (named .0) (named .1), alone)) (omega arith) (cell-other s e′ 0 refl) (element .others)
       ∙ ap (λ (c : Cell). manual.put t c (mapMachine (cell s) (words s))) (element .this)
 
-  pub element-sound : Sound e′
+  element-sound : Sound e′
   element-sound = record {
     own = rw element-words (element .own);
     fits = omega (arith, regs, g .fits);
@@ -100,19 +99,15 @@ module _ (s : List ℕ) (g : Sound s) (t : Target) (at : Addressable s t) (x : �
     chain = rw (regs .frame) (chain-same e′ (g .chain) (regs .base) (λ j l h. element .kept .rest j (omega (arith, low)) (inr l)));
   }
 
-  pub element-regs : Regs s e′
-  element-regs = regs
-
-  pub element-state : StateKept s e′
-  element-state = state-step (element .kept) (low .low)
+  element-in-place : InPlace s e′ (words s) (manual.put t (value (shapeAt s x) (set (elementsAt s x) k v)) (view s))
+  element-in-place =
+      record { done = record { sound = element-sound; seen = element-view; state = state-step (element .kept) (low .low) }; regs = regs; held = element-words }
 
 -- a variable that alone points to its array
 record Lone (s s′ : List ℕ) (t : Target) (x : ℕ) : Type 0 where
-  sound : Sound s′
-  same : view s′ ≡ view s
+  done : Done s s′ (view s)
   there : Addressable s′ t
   regs : Regs s s′
-  state : StateKept s s′
   y : ℕ
   small : y < 2 ^ 16
   holds : heldAt s′ t ≡ arrayWord y
@@ -171,11 +166,9 @@ module _ (s : List ℕ) (g : Sound s) (t : Target) (at : Addressable s t) (x : �
 
   lone-here : countAt s x < 2 → Lone s s t x
   lone-here h = record {
-    sound = g;
-    same = refl;
+    done = record { sound = g; seen = refl; state = state-none s };
     there = at;
     regs = record { base = refl; top = refl; frame = refl; start = refl; long = refl };
-    state = state-none s;
     y = x;
     small = small;
     holds = is;
@@ -208,13 +201,9 @@ module _ (s : List ℕ) (g : Sound s) (t : Target) (at : Addressable s t) (x : �
     unfolding placeAt
     y-small = omega (arith, fresh-place (g .own) (shapeAt s x) (elementsAt s x) array-proper served)
 
-    sound1 : Sound s1
+    in-place : InPlace s s1 (manual.put t (arrayWord y) (words s)) (manual.put t (value (shapeAt s x) (elementsAt s x)) (view s))
     unfolding storeAt
-    sound1 = stored-sound s g t at (arrayWord y) (value (shapeAt s x) (elementsAt s x)) (placed s source) first
-
-    words1 : words s1 ≡ manual.put t (arrayWord y) (words s)
-    unfolding storeAt
-    words1 = stored-words s g t at (arrayWord y) (value (shapeAt s x) (elementsAt s x)) (placed s source) first
+    in-place = stored s g t at (arrayWord y) (value (shapeAt s x) (elementsAt s x)) (placed s source) first
 
     once : count (arrayWord y) (owners s1) ≡ 1
     once =
@@ -224,7 +213,7 @@ module _ (s : List ℕ) (g : Sound s) (t : Target) (at : Addressable s t) (x : �
         (hit-cases (arrayWord y) (arrayWord x)) in
         omega (
           arith,
-          ap (λ (m : Machine ℕ). count (arrayWord y) (allCells m)) words1,
+          ap (λ (m : Machine ℕ). count (arrayWord y) (allCells m)) (in-place .held),
           count-put (arrayWord y) t (words s) (arrayWord y) (arrayWord x) at,
           hit-same (arrayWord y),
           d,
@@ -237,37 +226,24 @@ module _ (s : List ℕ) (g : Sound s) (t : Target) (at : Addressable s t) (x : �
     this =
         sym (cell-array s1 y y-small) ∙ stored-this s g t at (arrayWord y) (value (shapeAt s x) (elementsAt s x)) (placed s source) first
 
-    regs1 : Regs s s1
-    unfolding storeAt
-    regs1 = stored-regs s g t at (arrayWord y) (value (shapeAt s x) (elementsAt s x)) (placed s source) first
-
-    state1 : StateKept s s1
-    unfolding storeAt
-    state1 = stored-state s g t at (arrayWord y) (value (shapeAt s x) (elementsAt s x)) (placed s source) first
-
-    same1 : view s1 ≡ view s
-    unfolding storeAt
-    same1 = stored-view s g t at (arrayWord y) (value (shapeAt s x) (elementsAt s x)) (placed s source) first ∙ value-now
-
     holds1 : heldAt s1 t ≡ arrayWord y
     unfolding storeAt
     holds1 =
-        ap (λ (j : ℕ). getD s1 j 0) (same-address s s1 (regs1 .base) t)
+        ap (λ (j : ℕ). getD s1 j 0) (same-address s s1 (in-place .regs .base) t)
         ∙ stored-word s g t at (arrayWord y) (value (shapeAt s x) (elementsAt s x)) (placed s source) first
 
     lone-copy : Lone s s1 t x
     lone-copy =
-        let n = sound1 .own .named y y-small (omega (arith, once)) in
+        let sound = in-place .done .sound in
+        let n = sound .own .named y y-small (omega (arith, once)) in
         record {
-          sound = sound1;
-          same = same1;
-          there = rw words1 (in-put (arrayWord y) t t (words s) .0 at);
-          regs = regs1;
-          state = state1;
+          done = record { sound = sound; seen = in-place .done .seen ∙ value-now; state = in-place .done .state };
+          there = rw (in-place .held) (in-put (arrayWord y) t t (words s) .0 at);
+          regs = in-place .regs;
           y = y;
           small = y-small;
           holds = holds1;
-          alone = omega (arith, once, sound1 .own .counts y (n .0) (n .1));
+          alone = omega (arith, once, sound .own .counts y (n .0) (n .1));
           shape = shape-of _ _ _ _ this;
           elements = elements-of _ _ _ _ this;
         }
@@ -296,22 +272,20 @@ module _ (s : List ℕ) (g : Sound s) (t : Target) (at : Addressable s t) (x : �
       range1 : k < product (shapeAt t1 (q .y))
       range1 = rw (q .shape) in-range
 
+      written : InPlace t1 t2 (words t1) (manual.put t (value (shapeAt t1 (q .y)) (set (elementsAt t1 (q .y)) k v)) (view t1))
+      written = element-in-place t1 (q .done .sound) t (q .there) (q .y) (q .holds) (q .small) (q .alone) k v range1 ok
+
       view2 : view t2 ≡ manual.put t after (view s)
-      view2 =
-          element-view t1 (q .sound) t (q .there) (q .y) (q .holds) (q .small) (q .alone) k v range1 ok
-          ∙ rw (q .shape, q .elements, q .same)
+      view2 = written .done .seen ∙ rw (q .shape, q .elements, q .done .seen)
 
       sound2 : Sound t2
-      sound2 = element-sound t1 (q .sound) t (q .there) (q .y) (q .holds) (q .small) (q .alone) k v range1 ok
-
-      regs2 : Regs t1 t2
-      regs2 = element-regs t1 (q .sound) t (q .there) (q .y) (q .holds) (q .small) (q .alone) k v range1 ok
+      sound2 = written .done .sound
 
       there2 : Addressable t2 t
-      there2 = rw (element-words t1 (q .sound) t (q .there) (q .y) (q .holds) (q .small) (q .alone) k v range1 ok) (q .there)
+      there2 = rw (written .held) (q .there)
 
       can2 : CanReplace t2 n
-      can2 = record { taken = omega (arith, can, regs2, q .regs); room = omega (arith, can, regs2, q .regs) }
+      can2 = record { taken = omega (arith, can, written .regs, q .regs); room = omega (arith, can, written .regs, q .regs) }
 
       first2 : Put t2 (owners t2) (placed t2 (manual.variable t)) (heldAt t2 t) (manual.look undefined t (view t2))
       first2 = put-source t2 sound2 (manual.variable t) there2 tt
@@ -319,22 +293,16 @@ module _ (s : List ℕ) (g : Sound s) (t : Target) (at : Addressable s t) (x : �
       pushed : manual.look undefined t (view t2) ≡ after
       pushed = rw view2 (look-put undefined after t (view s) (in-view s t .0 at))
 
-      view3 : view (replace t2 n (manual.variable t)) ≡ manual.replace n after (manual.put t after (view s))
+      replaced : Done t2 (replace t2 n (manual.variable t)) (manual.replace n (manual.look undefined t (view t2)) (view t2))
       unfolding replace
-      view3 =
-          finish-view t2 sound2 n (heldAt t2 t) (manual.look undefined t (view t2)) (placed t2 (manual.variable t)) first2 can2
-          ∙ rw (pushed, view2)
+      replaced = finish-done t2 sound2 n (heldAt t2 t) (manual.look undefined t (view t2)) (placed t2 (manual.variable t)) first2 can2
 
-      sound3 : Sound (replace t2 n (manual.variable t))
-      unfolding replace
-      sound3 = finish-sound t2 sound2 n (heldAt t2 t) (manual.look undefined t (view t2)) (placed t2 (manual.variable t)) first2 can2
-
-      state3 : StateKept s (replace t2 n (manual.variable t))
-      unfolding replace
-      state3 =
-          state-on (q .state)
-          (state-on (element-state t1 (q .sound) t (q .there) (q .y) (q .holds) (q .small) (q .alone) k v range1 ok)
-          (finish-state t2 sound2 n (heldAt t2 t) (manual.look undefined t (view t2)) (placed t2 (manual.variable t)) first2 can2))
+      done3 : Done s (replace t2 n (manual.variable t)) (manual.replace n after (manual.put t after (view s)))
+      done3 = record {
+        sound = replaced .sound;
+        seen = replaced .seen ∙ rw (pushed, view2);
+        state = state-on (q .done .state) (state-on (written .done .state) (replaced .state));
+      }
 
       written-is : writeElement t1 (addressOf s t) k v ≡ t2
       unfolding writeElement
@@ -352,20 +320,6 @@ module _ (s : List ℕ) (g : Sound s) (t : Target) (at : Addressable s t) (x : �
         let u = unshare s (addressOf s t) in
         rw (written-is u q) (sound2 u q, can2 u q, there2 u q)
 
-    pub stored-element-view : view (storeElement s t k v n) ≡ manual.replace n after (manual.put t after (view s))
+    pub stored-element : Done s (storeElement s t k v n) (manual.replace n after (manual.put t after (view s)))
     unfolding storeElement
-    stored-element-view =
-        let q = lone had in
-        rw (written-is (unshare s (addressOf s t)) q) (view3 (unshare s (addressOf s t)) q)
-
-    pub stored-element-sound : Sound (storeElement s t k v n)
-    unfolding storeElement
-    stored-element-sound =
-        let q = lone had in
-        rw (written-is (unshare s (addressOf s t)) q) (sound3 (unshare s (addressOf s t)) q)
-
-    pub stored-element-state : StateKept s (storeElement s t k v n)
-    unfolding storeElement
-    stored-element-state =
-        let q = lone had in
-        rw (written-is (unshare s (addressOf s t)) q) (state3 (unshare s (addressOf s t)) q)
+    stored-element = let q = lone had in rw (written-is (unshare s (addressOf s t)) q) (done3 (unshare s (addressOf s t)) q)

@@ -30,7 +30,7 @@ use Rattle.effects_theorems.specs.Theorems.{StateKept}
 use Rattle.effects_theorems.proofs.Counts.{machine-agree, cells-count}
 use Rattle.effects_theorems.proofs.Cells.{undefined-cell}
 use Rattle.effects_theorems.proofs.Frames.{frames-next, frames-fuel, frames-same, chain-same}
-use Rattle.effects_theorems.proofs.Sound.{Bounds, bounds}
+use Rattle.effects_theorems.proofs.Sound.{Bounds, bounds, Done}
 
 -- a run of equal words, and two words after it
 sets-run : (n : ℕ) (s : List ℕ) (i c : ℕ) (vs : List ℕ) → i + n ≤ length s → (k : ℕ) → k < n → getD (sets s i (replicate n c ++ vs)) (i + k) 0 ≡ c
@@ -215,17 +215,12 @@ module _ (s : List ℕ) (g : Sound s) (n f : ℕ) (fit : sbase s + ltop s + n + 
       let r : getD (set s1 0 w0) 1 0 ≡ getD s 1 0 = rw getD-set-other (under1 1 (inl (omega (arith, low)))) in
       rw (z, r)
 
-  pub enter-state : StateKept s (enter s n f)
-  enter-state =
-      rw enter-is
-      (record {
-        long = moved .long;
-        base = base2;
-        rest = λ i l u. other i (omega arith) (omega arith) (inl (omega (arith, low)));
-      })
-
-  pub enter-sound : Sound (enter s n f)
-  enter-sound = rw enter-is sound2
+  state2 : StateKept s s2
+  state2 = record {
+    long = moved .long;
+    base = base2;
+    rest = λ i l u. other i (omega arith) (omega arith) (inl (omega (arith, low)));
+  }
 
   enter-map : {A : Type 0} (h : ℕ → A) (m : Machine ℕ) → mapMachine h (manual.enter undefinedWord n f m) ≡ manual.enter (h undefinedWord) n f (mapMachine h m)
   enter-map h m = rw (map-run h n undefinedWord (m .temporaries))
@@ -238,5 +233,5 @@ module _ (s : List ℕ) (g : Sound s) (n f : ℕ) (fit : sbase s + ltop s + n + 
       ∙ ap (manual.enter (cell s2 undefinedWord) n f) (machine-agree (cell s2) (cell s) (words s) (λ w c. cell-elsewhere moved (g .own) w c))
       ∙ ap (λ (c : Cell). manual.enter c n f (mapMachine (cell s) (words s))) (undefined-cell s2)
 
-  pub enter-view : view (enter s n f) ≡ manual.enter undefined n f (view s)
-  enter-view = rw enter-is view2
+  pub enter-done : Done s (enter s n f) (manual.enter undefined n f (view s))
+  enter-done = rw enter-is (record { sound = sound2; seen = view2; state = state2 })

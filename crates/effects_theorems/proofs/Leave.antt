@@ -33,7 +33,7 @@ use Rattle.effects_theorems.proofs.StateWords.{state-on, state-step}
 use Rattle.effects_theorems.proofs.Counts.{machine-agree, cells-count, count-getD, current-count}
 use Rattle.effects_theorems.proofs.Cells.{undefined-cell}
 use Rattle.effects_theorems.proofs.Frames.{downward-length, drop-downward, frame, frames-next, frames-fuel, frames-same, chain-same, words-kept}
-use Rattle.effects_theorems.proofs.Sound.{Bounds, bounds, owners-few, Regs, kept-regs}
+use Rattle.effects_theorems.proofs.Sound.{Bounds, bounds, owners-few, Regs, kept-regs, Done}
 use Rattle.effects_theorems.proofs.Variables.{getD-downward}
 use Rattle.effects_theorems.proofs.Sources.{Put, put-shared}
 
@@ -215,6 +215,9 @@ module _ (s : List ℕ) (g : Sound s) (n : ℕ) (empty : ltop s ≡ lbase s + 1)
         ∙ ap (λ (ds : List Cell). left ds n (mapMachine (cell r1) m)) shown
         ∙ ap (left cs n) (machine-agree (cell r1) (cell s) m (λ v c. first .same v c (omega (arith, c, count-append v top (owners s)))))
 
+    left-done : length top ≤ 1 → Done s r3 (left cs n (view s))
+    left-done few = record { sound = left-sound few; seen = left-view; state = left-state }
+
 -- the older frame's LTOP and LBASE
 module _ (s : List ℕ) (n last v : ℕ) (starts : last + 2 + n ≤ lbase s) (low : 8 ≤ blockptr s) (mid : blockptr s + 3 ≤ sbase s) (short : length s ≤ 16384)
     (fit : sbase s + lbase s < length s) (small : v ≤ lbase s) where
@@ -343,14 +346,8 @@ module _ (s : List ℕ) (g : Sound s) (n : ℕ) (can : CanLeave s n false) where
       let small : lastLbaseAt s (lbase s) % 2 ^ 16 ≡ lastLbaseAt s (lbase s) = omega (arith, bounds g, can .cells) in
       rw (small, regs0 .frame)
 
-  pub without-sound : Sound (leaveWithout s n)
-  without-sound = rw without-is (left-sound s g n (can .empty) (can .cells) [] s [] without-first refl f0 back0 (omega arith))
-
-  pub without-state : StateKept s (leaveWithout s n)
-  without-state = rw without-is (left-state s g n (can .empty) (can .cells) [] s [] without-first refl f0 back0)
-
-  pub without-view : view (leaveWithout s n) ≡ manual.leave undefined n false (view s)
-  without-view = rw without-is (left-view s g n (can .empty) (can .cells) [] s [] without-first refl f0 back0)
+  pub without-done : Done s (leaveWithout s n) (manual.leave undefined n false (view s))
+  without-done = rw without-is (left-done s g n (can .empty) (can .cells) [] s [] without-first refl f0 back0 (omega arith))
 
 -- RETURN with a result: the frame's highest cell
 module _ (s : List ℕ) (g : Sound s) (n : ℕ) (can : CanLeave s n true) where
@@ -419,11 +416,5 @@ module _ (s : List ℕ) (g : Sound s) (n : ℕ) (can : CanLeave s n true) where
       let small : lastLbaseAt s (lbase s) % 2 ^ 16 ≡ lastLbaseAt s (lbase s) = omega (arith, bounds g, can .cells) in
       rw (small, regs1 .frame)
 
-  pub with-sound : Sound (leaveWith s n)
-  with-sound = rw with-is (left-sound s g n (can .empty) (can .cells) (w ∷ []) (share s w) (c ∷ []) (with-put .step) with-shown f1 back1 (omega arith))
-
-  pub with-state : StateKept s (leaveWith s n)
-  with-state = rw with-is (left-state s g n (can .empty) (can .cells) (w ∷ []) (share s w) (c ∷ []) (with-put .step) with-shown f1 back1)
-
-  pub with-view : view (leaveWith s n) ≡ manual.leave undefined n true (view s)
-  with-view = rw with-is (left-view s g n (can .empty) (can .cells) (w ∷ []) (share s w) (c ∷ []) (with-put .step) with-shown f1 back1)
+  pub with-done : Done s (leaveWith s n) (manual.leave undefined n true (view s))
+  with-done = rw with-is (left-done s g n (can .empty) (can .cells) (w ∷ []) (share s w) (c ∷ []) (with-put .step) with-shown f1 back1 (omega arith))

@@ -32,7 +32,7 @@ use Rattle.effects_theorems.specs.Theorems.{StateKept}
 use Rattle.effects_theorems.proofs.StateWords.{state-on, state-step, state-set, state-top}
 use Rattle.effects_theorems.proofs.Counts.{machine-agree, cells-count}
 use Rattle.effects_theorems.proofs.Frames.{drop-downward, frames-same, chain-same, words-kept}
-use Rattle.effects_theorems.proofs.Sound.{Bounds, bounds, Regs, kept-regs}
+use Rattle.effects_theorems.proofs.Sound.{Bounds, bounds, Regs, kept-regs, Done}
 use Rattle.effects_theorems.proofs.Sources.{Put}
 
 pub replace-map : {A : Type 0} (f : ℕ → A) (n w : ℕ) (m : Machine ℕ) → mapMachine f (manual.replace n w m) ≡ manual.replace n (f w) (mapMachine f m)
@@ -199,7 +199,7 @@ module _ (s : List ℕ) (g : Sound s) (n w : ℕ) (c : Cell) (s1 : List ℕ) (fi
       finish-other s2 n w b at2 some2 fit2 short2 low2 mid2 above2 i (omega (arith, low)) (omega (arith, low, can))
       ∙ kept2 .rest i (omega (arith, low)) (inr l)
 
-  pub finish-state : StateKept s (finish s2 b w)
+  finish-state : StateKept s (finish s2 b w)
   unfolding finish setLtop
   finish-state =
       state-on (state-step kept2 (low .low))
@@ -210,7 +210,7 @@ module _ (s : List ℕ) (g : Sound s) (n w : ℕ) (c : Cell) (s1 : List ℕ) (fi
   left3 : (v : ℕ) → 0 < count v vs → cell (finish s2 b w) v ≡ cell s1 v
   left3 v k = cell-elsewhere moved (second .own) v k ∙ second .same v (omega (arith, k, count-append v (downward s1 b n) vs)) k
 
-  pub finish-view : view (finish s2 b w) ≡ manual.replace n c (view s)
+  finish-view : view (finish s2 b w) ≡ manual.replace n c (view s)
   unfolding view
   finish-view =
       ap (mapMachine (cell (finish s2 b w))) words3
@@ -219,10 +219,13 @@ module _ (s : List ℕ) (g : Sound s) (n w : ℕ) (c : Cell) (s1 : List ℕ) (fi
       ∙ ap (λ (d : Cell). manual.replace n d (mapMachine (cell s1) m)) (first .shown)
       ∙ ap (manual.replace n c) (machine-agree (cell s1) (cell s) m (λ v k. first .step .same v k (omega (arith, k))))
 
-  pub finish-sound : Sound (finish s2 b w)
+  finish-sound : Sound (finish s2 b w)
   finish-sound = record {
     own = rw words3 (own-elsewhere moved (second .own));
     fits = omega (arith, regs3, can, low);
     above = omega (arith, regs3, can, low);
     chain = rw (regs3 .2) (chain-same (finish s2 b w) (g .chain) (regs3 .0) (λ i p q. same3 i p (omega arith)));
   }
+
+  pub finish-done : Done s (finish s2 b w) (manual.replace n c (view s))
+  finish-done = record { sound = finish-sound; seen = finish-view; state = finish-state }

@@ -8,11 +8,13 @@ use lib.ListN.{getD, set, length, length-set, length-append}
 use lib.Seq.{getD-set-other}
 use Rattle.segment.specs.State.{sbase, ltop, lbase, blockptr}
 use Rattle.storage.specs.Owned.{Kept}
-use Rattle.segment.specs.Machine.{cellsOfFrames, depth}
-use Rattle.segment.specs.View.{words, owners}
+use Rattle.segment.specs.Machine.{cellsOfFrames, depth, Machine}
+use Rattle.segment.specs.View.{words, owners, view}
+use Rattle.segment.specs.Cells.{Cell}
 use Rattle.storage_theorems.proofs.Walks.{over-le}
 use Rattle.storage_theorems.specs.Elsewhere.{Elsewhere}
 use Rattle.effects.specs.Sound.{Sound}
+use Rattle.effects_theorems.specs.Theorems.{StateKept}
 use Rattle.effects_theorems.proofs.Frames.{downward-length, part-length, frames-length, depth-is}
 
 pub record Bounds (s : List ℕ) : Type 0 where
@@ -78,3 +80,15 @@ kept-regs k l = record {
   start = k .rest 4 (omega arith) (inl (omega arith));
   long = k .long;
 }
+
+-- what an effect leaves: a sound segment, seen as the machine after it, and the state words that are not its own
+pub record Done (s after : List ℕ) (m : Machine Cell) : Type 0 where
+  pub sound : Sound after
+  pub seen : view after ≡ m
+  pub state : StateKept s after
+
+-- and LTOP, LBASE and the rest, where no frame is entered or left and nothing pushed or taken
+pub record InPlace (s after : List ℕ) (cells : Machine ℕ) (m : Machine Cell) : Type 0 where
+  pub done : Done s after m
+  pub regs : Regs s after
+  pub held : words after ≡ cells

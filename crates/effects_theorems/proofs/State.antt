@@ -24,7 +24,7 @@ use Rattle.effects_theorems.specs.Theorems.{StateKept}
 use Rattle.effects_theorems.proofs.StateWords.{state-set}
 use Rattle.effects_theorems.proofs.Counts.{machine-agree}
 use Rattle.effects_theorems.proofs.Frames.{frames-bottom, frames-next, frames-same, chain-same}
-use Rattle.effects_theorems.proofs.Sound.{Bounds, bounds, set-elsewhere}
+use Rattle.effects_theorems.proofs.Sound.{Bounds, bounds, set-elsewhere, Done}
 
 module _ (s : List ℕ) (g : Sound s) (place : ℕ) (small : place < 2 ^ 16) where
   abbrev i : ℕ
@@ -85,7 +85,7 @@ module _ (s : List ℕ) (g : Sound s) (place : ℕ) (small : place < 2 ^ 16) whe
       (sbase s + lbase s + 2) (ltop s - (lbase s + 1)) (λ k l u. other k (omega arith)) in
       rw (o0, o1, o2, o4, gl, tm, jumped-frames)
 
-  pub jump-sound : Sound (setPctr s place)
+  jump-sound : Sound (setPctr s place)
   unfolding setPctr
   jump-sound =
       let o1 : lbase s′ ≡ lbase s = ap (λ (w : ℕ). w / 2 ^ 16) (other 1 (omega (arith, low))) in
@@ -96,16 +96,19 @@ module _ (s : List ℕ) (g : Sound s) (place : ℕ) (small : place < 2 ^ 16) whe
         chain = rw o1 (chain-same s′ (g .chain) (moved .bound) (λ k l u. other k (omega arith)));
       }
 
-  pub jump-state : StateKept s (setPctr s place)
+  jump-state : StateKept s (setPctr s place)
   unfolding setPctr
   jump-state = state-set s i v (omega arith) (inr (omega (arith, low)))
 
-  pub jump-view : view (setPctr s place) ≡ manual.jump place (view s)
+  jump-view : view (setPctr s place) ≡ manual.jump place (view s)
   unfolding setPctr view
   jump-view =
       ap (mapMachine (cell s′)) jumped-words
       ∙ rw (map-jump (cell s′) place (words s .frames))
       (ap (manual.jump place) (machine-agree (cell s′) (cell s) (words s) (λ w k. cell-elsewhere moved (g .own) w k)))
+
+  pub jump-done : Done s (setPctr s place) (manual.jump place (view s))
+  jump-done = record { sound = jump-sound; seen = jump-view; state = jump-state }
 
 -- the flags, or the trap's word
 abbrev withFlags : {A : Type 0} → ℕ → Machine A → Machine A
@@ -130,7 +133,7 @@ module _ (s : List ℕ) (g : Sound s) (i v : ℕ) (from : 2 ≤ i) (to : i < 4) 
     inner = λ j l u. rest j (omega (arith, bound));
   }
 
-  pub state-words : words t ≡ withFlags (flags t) (words s)
+  state-words : words t ≡ withFlags (flags t) (words s)
   unfolding words
   state-words =
       let o0 : getD t 0 0 ≡ getD s 0 0 = rest 0 (omega arith) in
@@ -143,7 +146,7 @@ module _ (s : List ℕ) (g : Sound s) (i v : ℕ) (from : 2 ≤ i) (to : i < 4) 
       (λ k l u. rest k (omega (arith, bound))) in
       rw (o0, o1, o4, gl, tm, fr)
 
-  pub state-sound : Sound t
+  state-sound : Sound t
   state-sound =
       let o1 : lbase t ≡ lbase s = ap (λ (w : ℕ). w / 2 ^ 16) (rest 1 (omega arith)) in
       record {
@@ -153,27 +156,23 @@ module _ (s : List ℕ) (g : Sound s) (i v : ℕ) (from : 2 ≤ i) (to : i < 4) 
         chain = rw o1 (chain-same t (g .chain) (settled .bound) (λ k l u. rest k (omega (arith, bound))));
       }
 
-  pub state-view : view t ≡ withFlags (flags t) (view s)
+  state-view : view t ≡ withFlags (flags t) (view s)
   unfolding view
   state-view =
       ap (mapMachine (cell t)) state-words
       ∙ ap (withFlags (flags t)) (machine-agree (cell t) (cell s) (words s) (λ w k. cell-elsewhere settled (g .own) w k))
 
 module _ (s : List ℕ) (g : Sound s) (v : ℕ) where
-  pub origin-sound : Sound (setIorg s v)
-  unfolding setIorg
-  origin-sound = state-sound s g 2 (flags s / 2 * 2 + v) (omega arith) (omega arith)
-
-  pub origin-state : StateKept s (setIorg s v)
-  unfolding setIorg
-  origin-state = state-set s 2 (flags s / 2 * 2 + v) (omega arith) (inl (omega arith))
-
-  pub origin-view : view (setIorg s v) ≡ manual.setOrigin v (view s)
+  pub origin-done : Done s (setIorg s v) (manual.setOrigin v (view s))
   unfolding setIorg view words
-  origin-view =
+  origin-done =
       let l : 2 < length s = omega (arith, bounds g) in
       let w : flags (set s 2 (flags s / 2 * 2 + v)) ≡ flags s / 2 * 2 + v = rw getD-set-same in
-      state-view s g 2 (flags s / 2 * 2 + v) (omega arith) (omega arith) ∙ ap (λ (f : ℕ). withFlags f (view s)) w
+      record {
+        sound = state-sound s g 2 (flags s / 2 * 2 + v) (omega arith) (omega arith);
+        seen = state-view s g 2 (flags s / 2 * 2 + v) (omega arith) (omega arith) ∙ ap (λ (f : ℕ). withFlags f (view s)) w;
+        state = state-set s 2 (flags s / 2 * 2 + v) (omega arith) (inl (omega arith));
+      }
 
 -- the trap's word is no part of the machine
 module _ (s : List ℕ) (g : Sound s) (v : ℕ) where

@@ -29,7 +29,7 @@ use Rattle.effects_theorems.specs.Theorems.{StateKept}
 use Rattle.effects_theorems.proofs.StateWords.{state-on, state-step, state-set}
 use Rattle.effects_theorems.proofs.Counts.{machine-agree, count-put}
 use Rattle.effects_theorems.proofs.Frames.{chain-same, words-kept}
-use Rattle.effects_theorems.proofs.Sound.{Bounds, bounds, Regs, kept-regs, set-elsewhere}
+use Rattle.effects_theorems.proofs.Sound.{Bounds, bounds, Regs, kept-regs, set-elsewhere, InPlace}
 use Rattle.effects_theorems.proofs.Variables.{Place, variable-place, words-put, variable-chain, same-put}
 use Rattle.effects_theorems.proofs.Sources.{Put}
 
@@ -126,7 +126,7 @@ module _ (s : List ℕ) (g : Sound s) (t : Target) (at : Addressable s t) (w : �
   left : (v : ℕ) → 0 < count v vs → cell s3 v ≡ cell s1 v
   left v k = second .same v (omega (arith, k)) k ∙ cell-elsewhere moved (first .step .own) v (omega (arith, k, counted v))
 
-  pub stored-view : view s3 ≡ put t c (view s)
+  stored-view : view s3 ≡ put t c (view s)
   unfolding view
   stored-view =
       ap (mapMachine (cell s3)) words3
@@ -135,7 +135,7 @@ module _ (s : List ℕ) (g : Sound s) (t : Target) (at : Addressable s t) (w : �
       ∙ ap (λ (d : Cell). put t d (mapMachine (cell s1) m)) (first .shown)
       ∙ ap (put t c) (machine-agree (cell s1) (cell s) m (λ v k. first .step .same v k (omega (arith, k))))
 
-  pub stored-sound : Sound s3
+  stored-sound : Sound s3
   stored-sound = record {
     own = rw words3 (second .own);
     fits = omega (arith, regs3, regs0, g .fits);
@@ -144,12 +144,11 @@ module _ (s : List ℕ) (g : Sound s) (t : Target) (at : Addressable s t) (w : �
         (chain-same s3 (variable-chain s g w t at) (regs3 .base) (λ j l h. kept3 .rest j (omega (arith, low, regs0)) (inr l)));
   }
 
-  pub stored-state : StateKept s s3
+  stored-state : StateKept s s3
   stored-state =
       state-on (state-set s i w (omega (arith, spot .state)) (inr (spot .state))) (state-step kept3 (omega (arith, low, regs0)))
 
-  -- what the variable's cell holds now
-  pub stored-regs : Regs s s3
+  stored-regs : Regs s s3
   stored-regs = record {
     base = regs3 .base ∙ regs0 .base;
     top = regs3 .top ∙ regs0 .top;
@@ -158,17 +157,18 @@ module _ (s : List ℕ) (g : Sound s) (t : Target) (at : Addressable s t) (w : �
     long = regs3 .long ∙ regs0 .long;
   }
 
+  -- what the variable's cell holds now
   pub stored-word : getD s3 i 0 ≡ w
   stored-word =
       let l : i < length s = spot .within in
       kept3 .rest i (omega (arith, spot .state)) (⊎-elim (λ q. inl (omega (arith, q, regs0))) (λ q. inr (omega (arith, q, regs0))) (spot .outside))
       ∙ rw getD-set-same
 
-  pub stored-words : words s3 ≡ put t w m
-  stored-words = words3
-
   pub stored-this : cell s3 w ≡ c
   stored-this =
       left w
       (⊎-elim (λ e. absurd (omega (arith, e))) (λ e. omega (arith, e, hit-same w, count-put w t m w (suc w) at)) (hit-cases w (suc w)))
       ∙ first .shown
+
+  pub stored : InPlace s s3 (put t w m) (put t c (view s))
+  stored = record { done = record { sound = stored-sound; seen = stored-view; state = stored-state }; regs = stored-regs; held = words3 }

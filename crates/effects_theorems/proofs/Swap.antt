@@ -25,11 +25,10 @@ use Rattle.effects.specs.Sources.{operandAt}
 use Rattle.effects.specs.Perform.{swap}
 use Rattle.effects.specs.Seen.{temporaries}
 use Rattle.effects.specs.Sound.{Sound}
-use Rattle.effects_theorems.specs.Theorems.{StateKept}
 use Rattle.effects_theorems.proofs.StateWords.{state-on, state-set}
 use Rattle.effects_theorems.proofs.Counts.{machine-agree, cells-count, swapped-count}
 use Rattle.effects_theorems.proofs.Frames.{frames-same, chain-same}
-use Rattle.effects_theorems.proofs.Sound.{Bounds, bounds}
+use Rattle.effects_theorems.proofs.Sound.{Bounds, bounds, Done}
 
 -- the two highest words of a list read from the highest down
 two-swapped : (s s′ : List ℕ) (a n : ℕ) → getD s′ (a + suc n) 0 ≡ getD s (a + n) 0 → getD s′ (a + n) 0 ≡ getD s (a + suc n) 0
@@ -104,16 +103,11 @@ module _ (s : List ℕ) (g : Sound s) (two : 2 ≤ temporaries s) where
       ∙ machine-agree (cell s′) (cell s) (manual.swap (words s)) (λ w c. cell-elsewhere moved (g .own) w (omega (arith, c, same-count w)))
       ∙ rw (map-swapped (cell s) (words s .temporaries))
 
-  pub swap-state : StateKept s (swap s)
+  pub swap-done : Done s (swap s) (manual.swap (view s))
   unfolding swap
-  swap-state =
-      state-on (state-set s (sbase s + ltop s) (operandAt s 1) (omega (arith, low)) (inr (omega (arith, low))))
-      (state-set (set s (sbase s + ltop s) (operandAt s 1)) (sbase s + ltop s - 1) (operandAt s 0) (omega (arith, low)) (inr (omega (arith, low, two))))
-
-  pub swap-sound : Sound (swap s)
-  unfolding swap
-  swap-sound = sound′
-
-  pub swap-view : view (swap s) ≡ manual.swap (view s)
-  unfolding swap
-  swap-view = view′
+  swap-done = record {
+    sound = sound′;
+    seen = view′;
+    state = state-on (state-set s (sbase s + ltop s) (operandAt s 1) (omega (arith, low)) (inr (omega (arith, low))))
+        (state-set (set s (sbase s + ltop s) (operandAt s 1)) (sbase s + ltop s - 1) (operandAt s 0) (omega (arith, low)) (inr (omega (arith, low, two))));
+  }

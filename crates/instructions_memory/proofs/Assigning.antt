@@ -1,6 +1,6 @@
 -- ASSIGN and ASSIGN_NORESULT by the ways of the code.
 use Prim.Native.Nat.{ℕ, _≤_, _<_}
-use mathlib.Core.Path.{_≡_, refl, ap, _∙_}
+use mathlib.Core.Path.{_≡_, ap, _∙_}
 use mathlib.Core.List.{List, [], _∷_}
 use borrow.Author.Tests.{lt-ltb, le-ltb}
 use Rattle.descriptor.specs.declared.Target.{Target}
@@ -21,7 +21,7 @@ use Rattle.operands.proofs.ValuesSeen.{value-seen}
 use Rattle.effects.specs.declared.Outcome.the-variants.{Finished, Trapped}
 use Rattle.effects_code.specs.Done.{storeShared}
 use Rattle.effects.specs.Carried.{did, carry}
-use Rattle.effects_code.proofs.Carrying.{store-operand, stored, stored-away}
+use Rattle.effects_code.proofs.Carrying.{store-operand}
 
 module _ (s : List ℕ) where
   -- What is assigned: an operand that is there and is a value.
@@ -75,8 +75,8 @@ module _ (s : List ℕ) where
       module _ (a : Value) (o : Operand) (is : o ≡ O.Value a) (there : operandOf s (operandAt s 0) ≡ o) where
         pub value-assigned : did Finished (perform (storeShared s t (operandAt s 0)) (jumps next)) ≡ carry s assign
         unfolding plan.assign
-        value-assigned = rw (store-operand s t 0) (stored s next (operand 0) refl t ∙ assigned (at t c) storing enough a (there ∙ is))
+        value-assigned = rw (store-operand s t 0) (assigned (at t c) storing enough a (there ∙ is))
 
         pub value-moved : did Finished (perform (discard (storeShared s t (operandAt s 0)) 1) (jumps next)) ≡ carry s move
         unfolding plan.assignNoResult
-        value-moved = rw (store-operand s t 0) (stored-away s next (operand 0) refl t 1 ∙ assigned (at t c) moving enough a (there ∙ is))
+        value-moved = rw (store-operand s t 0) (assigned (at t c) moving enough a (there ∙ is))

@@ -119,7 +119,7 @@ module _ (s : List ℕ) (next : ℕ) where
         planned = rw (scalars, room-seen s, le-ltb (room s) 1 some)
 
         pub vector-refused : Full ≡ answer s vector → did (Trapped 1 2) (attempt s vector) ≡ carry s constant
-        vector-refused full = carry-refused s vector (jumps next ∷ []) (refl, tt) full ∙ ap (carry s) planned
+        vector-refused full = carry-refused s vector (jumps next ∷ []) full ∙ ap (carry s) planned
 
         pub vector-pushed : Done ≡ answer s vector → did Finished (perform (attempt s vector) (jumps next)) ≡ carry s constant
-        vector-pushed done = carry-served s vector (jumps next ∷ []) (refl, tt) done ∙ ap (carry s) planned
+        vector-pushed done = carry-served s vector (jumps next ∷ []) done ∙ ap (carry s) planned

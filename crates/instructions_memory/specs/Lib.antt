@@ -1,2 +1,3 @@
--- What the functions of the crate ask of each other.
+-- What the contracts of the crate say beside the manual's plans.
+pub mod Pushed
 pub mod Indexed

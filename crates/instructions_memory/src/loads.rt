@@ -3,19 +3,14 @@ ghost use mathlib.Core.Path.{_≡_};
 ghost use mathlib.Core.Bool.{cond};
 ghost use Prim.Native.Nat.{_≤_, _<_, _%_, _^_};
 ghost use lib.ListN.{length};
-ghost use Rattle.descriptor.specs.declared.Target as targets;
 ghost use Rattle.descriptor.specs.Fields.{integerWord};
 ghost use Rattle.descriptor.specs.Kinds.{bit};
 ghost use Rattle.manual.specs.Effects as effect;
-ghost use Rattle.manual.specs.Instructions.{wordsFrom};
 ghost use Rattle.manual.specs.Loads as plan;
-ghost use Rattle.manual.specs.OrTrap.{gives};
-ghost use Rattle.manual.specs.Seen.{at};
-ghost use Rattle.effects.specs.Sources.{heldAt};
-ghost use Rattle.effects.specs.Seen.{read, seen};
 ghost use Rattle.operands.specs.Operands.{isUndefined};
 ghost use Rattle.operands.specs.Variables.{variableSeen, Sure};
-ghost use Rattle.effects.specs.Carried.{did, carry};
+ghost use Rattle.effects.specs.Carried.{CarriesOut};
+ghost use Rattle.instructions_memory.specs.Pushed.{LoadsHeld, wordsAt};
 use descriptor::Descriptor;
 use descriptor::address::CodeAddress;
 use effects::Outcome;
@@ -33,9 +28,9 @@ use procedure::bytes::word_at;
 use segment::state::iorg;
 
 // A word that names no array.
-pub fn push_word(seg: &mut [u32], w: u32, next: u32) -> Outcome
+pub fn push_word(seg: &mut [u32], w: u32, next: CodeAddress) -> Outcome
     requires { ⌜ length (now seg) ≤ 16384 ⌝ }
-    ensures { λ r. ⌜ did r (now (seg .exit)) ≡ carry (now (seg .entry)) (plan.push (seen (now (seg .entry))) next (effect.word w)) ⌝ }
+    ensures { λ r. ⌜ CarriesOut (now (seg .entry)) r (now (seg .exit)) (λ sees. plan.push sees (next .0) (effect.word w)) ⌝ }
 {
     if room(seg) < 1 {
         return Outcome::Trapped(1, 1);
@@ -45,9 +40,9 @@ pub fn push_word(seg: &mut [u32], w: u32, next: u32) -> Outcome
     Outcome::Finished
 }
 
-pub fn load(seg: &mut [u32], variable: Resolved, next: u32) -> Outcome
+pub fn load(seg: &mut [u32], variable: Resolved, next: CodeAddress) -> Outcome
     requires { ⌜ (length (now seg) ≤ 16384) × Sure (now seg) variable ⌝ }
-    ensures { λ r. ⌜ did r (now (seg .exit)) ≡ carry (now (seg .entry)) (plan.load (seen (now (seg .entry))) next (variableSeen (now (seg .entry)) variable)) ⌝ }
+    ensures { λ r. ⌜ CarriesOut (now (seg .entry)) r (now (seg .exit)) (λ sees. plan.load sees (next .0) (variableSeen (now (seg .entry)) variable)) ⌝ }
 {
     match variable {
         Resolved::Trap(class, number) => Outcome::Trapped(class, number),
@@ -56,9 +51,9 @@ pub fn load(seg: &mut [u32], variable: Resolved, next: u32) -> Outcome
 }
 
 // The word that the variable holds is pushed, and counted.
-fn load_word(seg: &mut [u32], w: u32, next: u32) -> Outcome
+fn load_word(seg: &mut [u32], w: u32, next: CodeAddress) -> Outcome
     requires { ⌜ length (now seg) ≤ 16384 ⌝ }
-    ensures { λ r. ⌜ ((t : targets.Target) → w ≡ heldAt (now (seg .entry)) t → did r (now (seg .exit)) ≡ carry (now (seg .entry)) (plan.load (seen (now (seg .entry))) next (gives (at t (read (now (seg .entry)) w))))) ⌝ }
+    ensures { λ r. ⌜ LoadsHeld (now (seg .entry)) r (now (seg .exit)) (next .0) w ⌝ }
 {
     if is_undefined(w) {
         return Outcome::Trapped(10, 0);
@@ -71,9 +66,9 @@ fn load_word(seg: &mut [u32], w: u32, next: u32) -> Outcome
     Outcome::Finished
 }
 
-pub fn refer(seg: &mut [u32], variable: Resolved, next: u32) -> Outcome
+pub fn refer(seg: &mut [u32], variable: Resolved, next: CodeAddress) -> Outcome
     requires { ⌜ length (now seg) ≤ 16384 ⌝ }
-    ensures { λ r. ⌜ did r (now (seg .exit)) ≡ carry (now (seg .entry)) (plan.referTo (seen (now (seg .entry))) next (variableSeen (now (seg .entry)) variable)) ⌝ }
+    ensures { λ r. ⌜ CarriesOut (now (seg .entry)) r (now (seg .exit)) (λ sees. plan.referTo sees (next .0) (variableSeen (now (seg .entry)) variable)) ⌝ }
 {
     match variable {
         Resolved::Trap(class, number) => Outcome::Trapped(class, number),
@@ -81,9 +76,9 @@ pub fn refer(seg: &mut [u32], variable: Resolved, next: u32) -> Outcome
     }
 }
 
-pub fn test_defined(seg: &mut [u32], variable: Resolved, next: u32) -> Outcome
+pub fn test_defined(seg: &mut [u32], variable: Resolved, next: CodeAddress) -> Outcome
     requires { ⌜ length (now seg) ≤ 16384 ⌝ }
-    ensures { λ r. ⌜ did r (now (seg .exit)) ≡ carry (now (seg .entry)) (plan.testDefined (seen (now (seg .entry))) next (variableSeen (now (seg .entry)) variable)) ⌝ }
+    ensures { λ r. ⌜ CarriesOut (now (seg .entry)) r (now (seg .exit)) (λ sees. plan.testDefined sees (next .0) (variableSeen (now (seg .entry)) variable)) ⌝ }
 {
     match variable {
         Resolved::Trap(class, number) => Outcome::Trapped(class, number),
@@ -100,24 +95,24 @@ fn defined(w: u32) -> u32
     1
 }
 
-pub fn push_undefined(seg: &mut [u32], next: u32) -> Outcome
+pub fn push_undefined(seg: &mut [u32], next: CodeAddress) -> Outcome
     requires { ⌜ length (now seg) ≤ 16384 ⌝ }
-    ensures { λ r. ⌜ did r (now (seg .exit)) ≡ carry (now (seg .entry)) (plan.pushUndefined (seen (now (seg .entry))) next) ⌝ }
+    ensures { λ r. ⌜ CarriesOut (now (seg .entry)) r (now (seg .exit)) (λ sees. plan.pushUndefined sees (next .0)) ⌝ }
 {
     push_word(seg, Descriptor::UNDEFINED, next)
 }
 
-pub fn get_origin(seg: &mut [u32], next: u32) -> Outcome
+pub fn get_origin(seg: &mut [u32], next: CodeAddress) -> Outcome
     requires { ⌜ length (now seg) ≤ 16384 ⌝ }
-    ensures { λ r. ⌜ did r (now (seg .exit)) ≡ carry (now (seg .entry)) (plan.getOrigin (seen (now (seg .entry))) next) ⌝ }
+    ensures { λ r. ⌜ CarriesOut (now (seg .entry)) r (now (seg .exit)) (λ sees. plan.getOrigin sees (next .0)) ⌝ }
 {
     let origin = iorg(seg);
     push_word(seg, origin, next)
 }
 
-pub fn short_constant(seg: &mut [u32], negative: bool, magnitude: u32, next: u32) -> Outcome
+pub fn short_constant(seg: &mut [u32], negative: bool, magnitude: u32, next: CodeAddress) -> Outcome
     requires { ⌜ length (now seg) ≤ 16384 ⌝ }
-    ensures { λ r. ⌜ did r (now (seg .exit)) ≡ carry (now (seg .entry)) (plan.shortConstant (seen (now (seg .entry))) next (integerWord (bit negative) (magnitude % 2 ^ 12))) ⌝ }
+    ensures { λ r. ⌜ CarriesOut (now (seg .entry)) r (now (seg .exit)) (λ sees. plan.shortConstant sees (next .0) (integerWord (bit negative) (magnitude % 2 ^ 12))) ⌝ }
 {
     push_word(
         seg,
@@ -126,9 +121,9 @@ pub fn short_constant(seg: &mut [u32], negative: bool, magnitude: u32, next: u32
     )
 }
 
-pub fn constant_scalar(seg: &mut [u32], w: u32, next: u32) -> Outcome
+pub fn constant_scalar(seg: &mut [u32], w: u32, next: CodeAddress) -> Outcome
     requires { ⌜ length (now seg) ≤ 16384 ⌝ }
-    ensures { λ r. ⌜ did r (now (seg .exit)) ≡ carry (now (seg .entry)) (plan.constantScalar (seen (now (seg .entry))) next w) ⌝ }
+    ensures { λ r. ⌜ CarriesOut (now (seg .entry)) r (now (seg .exit)) (λ sees. plan.constantScalar sees (next .0) w) ⌝ }
 {
     if Descriptor::of(w).is_scalar() {
         return push_word(seg, w, next);
@@ -142,20 +137,20 @@ pub fn constant_vector(
     code: &[u8],
     count: u8,
     first: CodeAddress,
-    next: u32,
+    next: CodeAddress,
     scratch: &mut [u32],
 ) -> Outcome
     requires { ⌜ (length (now seg) ≤ 16384) × (length (now scratch) ≡ 16384) ⌝ }
-    ensures { λ r. ⌜ did r (now (seg .exit)) ≡ carry (now (seg .entry)) (plan.constantVector (seen (now (seg .entry))) next (wordsFrom (count % 2 ^ 8) (now (code .entry)) (first .0 % 2 ^ 16))) ⌝ }
+    ensures { λ r. ⌜ CarriesOut (now (seg .entry)) r (now (seg .exit)) (λ sees. plan.constantVector sees (next .0) (wordsAt (count % 2 ^ 8) (now (code .entry)) (first .0))) ⌝ }
 {
     let n = count as usize;
     read_words(code, first, &mut scratch[..n]);
     push_vector(seg, &scratch[..n], next)
 }
 
-fn push_vector(seg: &mut [u32], words: &[u32], next: u32) -> Outcome
+fn push_vector(seg: &mut [u32], words: &[u32], next: CodeAddress) -> Outcome
     requires { ⌜ (length (now seg) ≤ 16384) × (length (now words) < 2 ^ 8) ⌝ }
-    ensures { λ r. ⌜ did r (now (seg .exit)) ≡ carry (now (seg .entry)) (plan.constantVector (seen (now (seg .entry))) next (now (words .entry))) ⌝ }
+    ensures { λ r. ⌜ CarriesOut (now (seg .entry)) r (now (seg .exit)) (λ sees. plan.constantVector sees (next .0) (now (words .entry))) ⌝ }
 {
     if any_other(words) {
         return Outcome::Trapped(3, 5);
@@ -175,7 +170,7 @@ fn push_vector(seg: &mut [u32], words: &[u32], next: u32) -> Outcome
 
 fn read_words(code: &[u8], first: CodeAddress, out: &mut [u32])
     requires { ⌜ length (now out) < 2 ^ 8 ⌝ }
-    ensures { λ _. ⌜ now (out .exit) ≡ wordsFrom (length (now (out .entry))) (now (code .entry)) (first .0 % 2 ^ 16) ⌝ }
+    ensures { λ _. ⌜ now (out .exit) ≡ wordsAt (length (now (out .entry))) (now (code .entry)) (first .0) ⌝ }
 {
     let start = first.number() % 0x1_0000;
     let n = out.len();

@@ -9,12 +9,12 @@ ghost use Rattle.manual.specs.Effects.{storesElement, jumps};
 ghost use Rattle.manual.specs.Seen.{at};
 ghost use Rattle.manual.specs.Memory as plan;
 ghost use Rattle.effects.specs.Sources.{heldAt};
-ghost use Rattle.effects.specs.Seen.{read, seen};
 ghost use Rattle.operands.specs.Variables.{variableSeen, Sure};
 ghost use Rattle.effects_code.specs.Done.{Held};
-ghost use Rattle.effects.specs.Carried.{did, carry};
-ghost use Rattle.instructions_memory.specs.Indexed.{Indexed};
+ghost use Rattle.effects.specs.Carried.{CarriesOut};
+ghost use Rattle.instructions_memory.specs.Indexed.{Indexed, AssignsIndexed};
 use descriptor::Target;
+use descriptor::address::CodeAddress;
 use descriptor::address::SegmentAddress;
 use effects::Outcome;
 use effects_code::Done;
@@ -36,8 +36,8 @@ use operands::taken::take_scalars;
 use operands::variables::Resolved;
 use segment::state::iorg;
 
-pub fn assign(seg: &mut [u32], variable: Resolved, next: u32) -> Outcome
-    ensures { λ r. ⌜ did r (now (seg .exit)) ≡ carry (now (seg .entry)) (plan.assign (seen (now (seg .entry))) next (variableSeen (now (seg .entry)) variable)) ⌝ }
+pub fn assign(seg: &mut [u32], variable: Resolved, next: CodeAddress) -> Outcome
+    ensures { λ r. ⌜ CarriesOut (now (seg .entry)) r (now (seg .exit)) (λ sees. plan.assign sees (next .0) (variableSeen (now (seg .entry)) variable)) ⌝ }
 {
     match variable {
         Resolved::Trap(class, number) => Outcome::Trapped(class, number),
@@ -45,8 +45,8 @@ pub fn assign(seg: &mut [u32], variable: Resolved, next: u32) -> Outcome
     }
 }
 
-fn assign_to(seg: &mut [u32], t: Target, next: u32) -> Outcome
-    ensures { λ r. ⌜ ((c : Cell) → did r (now (seg .exit)) ≡ carry (now (seg .entry)) (plan.assign (seen (now (seg .entry))) next (gives (at t c)))) ⌝ }
+fn assign_to(seg: &mut [u32], t: Target, next: CodeAddress) -> Outcome
+    ensures { λ r. ⌜ ((c : Cell) → CarriesOut (now (seg .entry)) r (now (seg .exit)) (λ sees. plan.assign sees (next .0) (gives (at t c)))) ⌝ }
 {
     if count(seg) < 1 {
         return Outcome::Trapped(3, 4);
@@ -60,8 +60,8 @@ fn assign_to(seg: &mut [u32], t: Target, next: u32) -> Outcome
     Outcome::Finished
 }
 
-pub fn assign_no_result(seg: &mut [u32], variable: Resolved, next: u32) -> Outcome
-    ensures { λ r. ⌜ did r (now (seg .exit)) ≡ carry (now (seg .entry)) (plan.assignNoResult (seen (now (seg .entry))) next (variableSeen (now (seg .entry)) variable)) ⌝ }
+pub fn assign_no_result(seg: &mut [u32], variable: Resolved, next: CodeAddress) -> Outcome
+    ensures { λ r. ⌜ CarriesOut (now (seg .entry)) r (now (seg .exit)) (λ sees. plan.assignNoResult sees (next .0) (variableSeen (now (seg .entry)) variable)) ⌝ }
 {
     match variable {
         Resolved::Trap(class, number) => Outcome::Trapped(class, number),
@@ -69,8 +69,8 @@ pub fn assign_no_result(seg: &mut [u32], variable: Resolved, next: u32) -> Outco
     }
 }
 
-fn move_to(seg: &mut [u32], t: Target, next: u32) -> Outcome
-    ensures { λ r. ⌜ ((c : Cell) → did r (now (seg .exit)) ≡ carry (now (seg .entry)) (plan.assignNoResult (seen (now (seg .entry))) next (gives (at t c)))) ⌝ }
+fn move_to(seg: &mut [u32], t: Target, next: CodeAddress) -> Outcome
+    ensures { λ r. ⌜ ((c : Cell) → CarriesOut (now (seg .entry)) r (now (seg .exit)) (λ sees. plan.assignNoResult sees (next .0) (gives (at t c)))) ⌝ }
 {
     if count(seg) < 1 {
         return Outcome::Trapped(3, 4);
@@ -89,11 +89,11 @@ pub fn assign_indexed(
     seg: &mut [u32],
     rank: u8,
     variable: Resolved,
-    next: u32,
+    next: CodeAddress,
     scratch: &mut [u32],
 ) -> Outcome
     requires { ⌜ (length (now seg) ≤ 16384) × (length (now scratch) ≡ 16384) × Sure (now seg) variable ⌝ }
-    ensures { λ r. ⌜ did r (now (seg .exit)) ≡ carry (now (seg .entry)) (plan.assignIndexed (seen (now (seg .entry))) next (rank % 2 ^ 4) (variableSeen (now (seg .entry)) variable)) ⌝ }
+    ensures { λ r. ⌜ CarriesOut (now (seg .entry)) r (now (seg .exit)) (λ sees. plan.assignIndexed sees (next .0) (rank % 2 ^ 4) (variableSeen (now (seg .entry)) variable)) ⌝ }
 {
     match variable {
         Resolved::Trap(class, number) => Outcome::Trapped(class, number),
@@ -106,11 +106,11 @@ fn assign_element(
     rank: u32,
     t: Target,
     held: u32,
-    next: u32,
+    next: CodeAddress,
     scratch: &mut [u32],
 ) -> Outcome
     requires { ⌜ (length (now seg) ≤ 16384) × (length (now scratch) ≡ 16384) × (rank < 2 ^ 4) × (held ≡ heldAt (now seg) t) ⌝ }
-    ensures { λ r. ⌜ did r (now (seg .exit)) ≡ carry (now (seg .entry)) (plan.assignIndexed (seen (now (seg .entry))) next rank (gives (at t (read (now (seg .entry)) held)))) ⌝ }
+    ensures { λ r. ⌜ AssignsIndexed (now (seg .entry)) r (now (seg .exit)) (next .0) rank t held ⌝ }
 {
     if count(seg) < rank + 1 {
         return Outcome::Trapped(3, 4);
@@ -136,12 +136,12 @@ fn element_in(
     t: Target,
     block: SegmentAddress,
     taken: &[u32],
-    next: u32,
+    next: CodeAddress,
     scratch: &mut [u32],
 ) -> Outcome
     requires { ⌜ (length (now seg) ≤ 16384) × (length (now scratch) ≡ 16384) × (rank < length (now taken)) × (rank < 2 ^ 4) ⌝ }
     requires { ⌜ Indexed (now seg) rank t block (now taken) ⌝ }
-    ensures { λ r. ⌜ did r (now (seg .exit)) ≡ carry (now (seg .entry)) (plan.assignIndexed (seen (now (seg .entry))) next rank (gives (at t (read (now (seg .entry)) (heldAt (now (seg .entry)) t))))) ⌝ }
+    ensures { λ r. ⌜ AssignsIndexed (now (seg .entry)) r (now (seg .exit)) (next .0) rank t (heldAt (now (seg .entry)) t) ⌝ }
 {
     let r = rank as usize;
     let lengths = lengths_of(seg, block);
@@ -162,12 +162,12 @@ fn store_at(
     k: u32,
     w: u32,
     n: u32,
-    next: u32,
+    next: CodeAddress,
     scratch: &mut [u32],
 ) -> Outcome
     requires { ⌜ Held (now seg) t (block .0) ⌝ }
     requires { ⌜ (0 < n) × (length (now seg) ≤ 16384) × (length (now scratch) ≡ 16384) ⌝ }
-    ensures { λ r. ⌜ did r (now (seg .exit)) ≡ carry (now (seg .entry)) (gives (storesElement t k w n ∷ jumps next ∷ [])) ⌝ }
+    ensures { λ r. ⌜ CarriesOut (now (seg .entry)) r (now (seg .exit)) (λ sees. gives (storesElement t k w n ∷ jumps (next .0) ∷ [])) ⌝ }
 {
     match store_element(seg, t, block, k, w, n, scratch) {
         Done::Full => Outcome::Trapped(1, 2),
@@ -178,8 +178,8 @@ fn store_at(
     }
 }
 
-pub fn eat(seg: &mut [u32], next: u32) -> Outcome
-    ensures { λ r. ⌜ did r (now (seg .exit)) ≡ carry (now (seg .entry)) (plan.eat (seen (now (seg .entry))) next) ⌝ }
+pub fn eat(seg: &mut [u32], next: CodeAddress) -> Outcome
+    ensures { λ r. ⌜ CarriesOut (now (seg .entry)) r (now (seg .exit)) (λ sees. plan.eat sees (next .0)) ⌝ }
 {
     if count(seg) < 1 {
         return Outcome::Trapped(3, 4);
@@ -189,8 +189,8 @@ pub fn eat(seg: &mut [u32], next: u32) -> Outcome
     Outcome::Finished
 }
 
-pub fn interchange(seg: &mut [u32], next: u32) -> Outcome
-    ensures { λ r. ⌜ did r (now (seg .exit)) ≡ carry (now (seg .entry)) (plan.interchange (seen (now (seg .entry))) next) ⌝ }
+pub fn interchange(seg: &mut [u32], next: CodeAddress) -> Outcome
+    ensures { λ r. ⌜ CarriesOut (now (seg .entry)) r (now (seg .exit)) (λ sees. plan.interchange sees (next .0)) ⌝ }
 {
     if count(seg) < 2 {
         return Outcome::Trapped(3, 4);
@@ -200,8 +200,8 @@ pub fn interchange(seg: &mut [u32], next: u32) -> Outcome
     Outcome::Finished
 }
 
-pub fn no_operation(seg: &mut [u32], next: u32) -> Outcome
-    ensures { λ r. ⌜ did r (now (seg .exit)) ≡ carry (now (seg .entry)) (plan.noOperation (seen (now (seg .entry))) next) ⌝ }
+pub fn no_operation(seg: &mut [u32], next: CodeAddress) -> Outcome
+    ensures { λ r. ⌜ CarriesOut (now (seg .entry)) r (now (seg .exit)) (λ sees. plan.noOperation sees (next .0)) ⌝ }
 {
     jump(seg, next);
     Outcome::Finished

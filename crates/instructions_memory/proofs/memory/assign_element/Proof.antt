@@ -60,7 +60,7 @@ slice-aggregate-element-in : tie.Need-slice-aggregate-element-in
 slice-aggregate-element-in c = search needs
 
 element-in-requires : tie.Need-element-in-requires
-element-in-requires c κs = ((search needs, search needs, search needs, search needs), indexed-array _ (c .before .before .before .before .before .before .before .before .before .before .before .before .before .before .before .before .before .before .before .before .before .before .args .next) _ _ _ (omega arith) _ (sym (c .before .before .before .before .before .before .before .before .before .before .before .before .before .before .before .value-of .ensures) ∙ c .before .before .before .before .before .before .before .before .before .before .before .before .before .v .given .1) _ _ _ (c .before .before .before .before .before .before .enum-told4 .given .1) (c .before .before .before .before .before .before .before .before .before .take-scalars .ensures) (c .before .before .before .before .v2 .given .1) (c .before .before .before .before .before .before .before .before .before .before .before .before .before .before .before .before .before .before .before .before .before .before .pre .3))
+element-in-requires c κs = ((search needs, search needs, search needs, search needs), indexed-array _ (c .before .before .before .before .before .before .before .before .before .before .before .before .before .before .before .before .before .before .before .before .before .before .args .next .0) _ _ _ (omega arith) _ (sym (c .before .before .before .before .before .before .before .before .before .before .before .before .before .before .before .value-of .ensures) ∙ c .before .before .before .before .before .before .before .before .before .before .before .before .before .v .given .1) _ _ _ (c .before .before .before .before .before .before .enum-told4 .given .1) (c .before .before .before .before .before .before .before .before .before .take-scalars .ensures) (c .before .before .before .before .v2 .given .1) (c .before .before .before .before .before .before .before .before .before .before .before .before .before .before .before .before .before .before .before .before .before .before .pre .3))
 
 same-length-3 : tie.Need-same-length-3
 same-length-3 c = search needs
