@@ -1,5 +1,5 @@
 -- Loops that write the results of elements: the results so far, and the first trap.
-use Prim.Native.Nat.{ℕ, zero, suc, _+_, _-_, _<_}
+use Prim.Native.Nat.{ℕ, zero, suc, _+_, _<_, _≤_}
 use native.Mathlib.Nat.{le-of-suc-le-suc, not-suc-le-zero}
 use native.Mathlib.Numerals.{add-one}
 use native.Mathlib.Omega.{arith}
@@ -7,8 +7,8 @@ use mathlib.Core.Path.{_≡_, refl, sym, ap, _∙_}
 use mathlib.Core.Bool.{Bool, true, false}
 use mathlib.Core.List.{List, [], _∷_, _++_, append-assoc, append-nil, map}
 use lib.Dec.{eqb}
-use borrow.Author.Tests.{eq-eqb, ne-eqb, eqb-true, eqb-false}
-use lib.ListN.{length, getD, take, drop, set, length-replicate, getD-replicate}
+use borrow.Author.Tests.{eq-eqb, ne-eqb, eqb-false}
+use lib.ListN.{length, getD, take, drop, set, length-set, length-replicate, getD-replicate}
 use lib.Seq.{take-suc-set, drop-cons}
 use Rattle.manual.specs.OrTrap.{OrTrap, gives, trap, andThen}
 use Rattle.elements.specs.Answers.{Paired}
@@ -46,7 +46,7 @@ pub start : {rs : List (OrTrap ℕ)} {out : List ℕ} → Written rs out 0
 start {rs} {out} = record { so-far = sym (joined-none (collect rs)) }
 
 -- the element at i is a trap
-pub trapped : {rs : List (OrTrap ℕ)} {out : List ℕ} {i : ℕ} {r : OrTrap ℕ} {c k : ℕ} → Written rs out i → Element rs i r → r ≡ trap c k → collect rs ≡ trap c k
+trapped : {rs : List (OrTrap ℕ)} {out : List ℕ} {i : ℕ} {r : OrTrap ℕ} {c k : ℕ} → Written rs out i → Element rs i r → r ≡ trap c k → collect rs ≡ trap c k
 trapped {rs} {out} {i} inv e t =
     inv .so-far ∙ ap (λ (l : List (OrTrap ℕ)). joined (take i out) (collect l)) (drop-cons rs i (trap 0 0) (e .below)) ∙ rw (e .is, t)
 
@@ -68,6 +68,37 @@ word {rs} {out} {i} {r} {w} inv e t h =
 pub ended : {rs : List (OrTrap ℕ)} {out : List ℕ} {i : ℕ} (n : ℕ) → Written rs out i → length rs ≡ n → i ≡ n → collect rs ≡ gives (take n out)
 ended {rs} {out} {i} n inv h e =
     inv .so-far ∙ rw (e, ← h, lib.Seq.drop-length rs) (ap gives (append-nil (take (length rs) out)))
+
+-- ---- a loop that stops at the first trap
+
+-- After i of n turns.
+pub record Exact (rs : List (OrTrap ℕ)) (n : ℕ) (out₀ out : List ℕ) (i : ℕ) : Type 0 where
+  pub count : length rs ≡ n
+  pub room : n ≤ length out₀
+  pub kept : length out ≡ length out₀
+  pub within : i ≤ n
+  pub written : Written rs out i
+
+pub exact-start : {rs : List (OrTrap ℕ)} {n : ℕ} {out : List ℕ} → length rs ≡ n → n ≤ length out → Exact rs n out out 0
+exact-start e h = record { count = e; room = h; kept = refl; within = omega arith; written = start }
+
+module _ {rs : List (OrTrap ℕ)} {n : ℕ} {out₀ out : List ℕ} {i : ℕ} (inv : Exact rs n out₀ out i) where
+  pub exact-trap : {r : OrTrap ℕ} {c k : ℕ} → Element rs i r → r ≡ trap c k → trap c k ≡ collect rs
+  exact-trap e t = sym (trapped (inv .written) e t)
+
+  pub exact-word : {r : OrTrap ℕ} {w : ℕ} → Element rs i r → r ≡ gives w → Exact rs n out₀ (set out i w) (i + 1)
+  exact-word e t =
+      let below : i < n = rw (← inv .count) (e .below) in
+      record {
+        count = inv .count;
+        room = inv .room;
+        kept = simp length-set (inv .kept);
+        within = omega arith;
+        written = word (inv .written) e t (omega (arith, inv .room, inv .kept));
+      }
+
+  pub exact-end : i ≡ n → gives (take n out) ≡ collect rs
+  exact-end all = sym (ended n (inv .written) (inv .count) all)
 
 -- ---- a one-element operand is repeated
 
@@ -114,7 +145,7 @@ spread-all n i a e = rw (ne-eqb (length a) 1 e)
 
 -- ---- one operand
 
-pub length-each : {A : Type 0} (f : ℕ → A) (xs : List ℕ) → length (map f xs) ≡ length xs
+length-each : {A : Type 0} (f : ℕ → A) (xs : List ℕ) → length (map f xs) ≡ length xs
 length-each f [] = refl
 length-each f (x ∷ xs) = ap suc (length-each f xs)
 
@@ -123,8 +154,27 @@ getD-each f [] i d h = absurd (not-suc-le-zero h)
 getD-each f (x ∷ xs) zero d h = refl
 getD-each f (x ∷ xs) (suc i) d h = getD-each f xs i d (le-of-suc-le-suc h)
 
-pub each-at : (f : ℕ → OrTrap ℕ) (a : List ℕ) (i : ℕ) → i < length a → Element (map f a) i (f (getD a i 0))
+each-at : (f : ℕ → OrTrap ℕ) (a : List ℕ) (i : ℕ) → i < length a → Element (map f a) i (f (getD a i 0))
 each-at f a i h = record { below = rw (length-each f a) h; is = getD-each f a i (trap 0 0) h }
+
+-- The loop over them, which stops at the first trap.
+pub record EachSoFar (f : ℕ → OrTrap ℕ) (a out₀ out : List ℕ) (i : ℕ) : Type 0 where
+  pub exact : Exact (map f a) (length a) out₀ out i
+
+pub each-start : {f : ℕ → OrTrap ℕ} {a out : List ℕ} → length a ≤ length out → EachSoFar f a out out 0
+each-start {f} {a} h = record { exact = exact-start (length-each f a) h }
+
+module _ {f : ℕ → OrTrap ℕ} {a out₀ out : List ℕ} {i : ℕ} (inv : EachSoFar f a out₀ out i) where
+  pub each-trap : {c k : ℕ} → i < length a → f (getD a i 0) ≡ trap c k → trap c k ≡ each f a
+  unfolding each
+  each-trap h e = exact-trap (inv .exact) (each-at f a i h) e
+
+  pub each-on : {w : ℕ} → i < length a → f (getD a i 0) ≡ gives w → EachSoFar f a out₀ (set out i w) (i + 1)
+  each-on h e = record { exact = exact-word (inv .exact) (each-at f a i h) e }
+
+  pub each-end : i ≡ length a → gives (take (length a) out) ≡ each f a
+  unfolding each
+  each-end all = exact-end (inv .exact) all
 
 -- ---- the results of a whole loop
 
@@ -143,17 +193,6 @@ operands {a} {b} {n} p e = record { count = e; first = record { fits = λ h. fir
     second : (length b ≡ 1 → ⊥) → (t : Bool) → isSingle a ≡ t → length b ≡ n
     second h true t = sym (e ∙ rw t)
     second h false t = sym (e ∙ rw t (p .fits (eqb-false (length a) 1 t) h))
-
--- ---- fast loops: the words so far are the results, where nothing odd was met
-
-pub fast-on : (f : ℕ → ℕ → OrTrap ℕ) {a b out : List ℕ} {n i x y w odd more : ℕ} → Operands a b n → i < n → i < length out
-    → x ≡ getD (spread n a) i 0 → y ≡ getD (spread n b) i 0 → (more ≡ 0 → f x y ≡ gives w)
-    → (odd ≡ 0 → Written (zip f (spread n a) (spread n b)) out i) → odd + more ≡ 0 → Written (zip f (spread n a) (spread n b)) (set out i w) (i + 1)
-fast-on f o h l p q e inv z = word (inv (omega arith)) (pair-at f o h p q) (e (omega arith)) l
-
-pub fast-end : (f : ℕ → ℕ → OrTrap ℕ) {a b out : List ℕ} {n i odd : ℕ} → Operands a b n → i ≡ n
-    → (odd ≡ 0 → Written (zip f (spread n a) (spread n b)) out i) → eqb odd 0 ≡ true → gives (take n out) ≡ pairwise f a b
-fast-end f {n = n} {odd = odd} o e inv t = sym (ended n (inv (eqb-true odd 0 t)) (length-pairs f o) e) ∙ pairs-are f o
 
 -- ---- as many words as elements
 
