@@ -7,7 +7,7 @@ use mathlib.Core.Path.{_≡_, refl, sym, ap, _∙_}
 use mathlib.Core.Bool.{Bool, true, false}
 use mathlib.Core.List.{List, [], _∷_, _++_, append-assoc, append-nil, map}
 use lib.Dec.{eqb}
-use borrow.Author.Tests.{eq-eqb, ne-eqb, eqb-true, eqb-false}
+use borrow.Author.Tests.{eq-eqb, ne-eqb, eqb-false}
 use lib.ListN.{length, getD, take, drop, set, length-replicate, getD-replicate}
 use lib.Seq.{take-suc-set, drop-cons}
 use Rattle.manual.specs.OrTrap.{OrTrap, gives, trap, andThen}
@@ -143,17 +143,6 @@ operands {a} {b} {n} p e = record { count = e; first = record { fits = λ h. fir
     second : (length b ≡ 1 → ⊥) → (t : Bool) → isSingle a ≡ t → length b ≡ n
     second h true t = sym (e ∙ rw t)
     second h false t = sym (e ∙ rw t (p .fits (eqb-false (length a) 1 t) h))
-
--- ---- fast loops: the words so far are the results, where nothing odd was met
-
-pub fast-on : (f : ℕ → ℕ → OrTrap ℕ) {a b out : List ℕ} {n i x y w odd more : ℕ} → Operands a b n → i < n → i < length out
-    → x ≡ getD (spread n a) i 0 → y ≡ getD (spread n b) i 0 → (more ≡ 0 → f x y ≡ gives w)
-    → (odd ≡ 0 → Written (zip f (spread n a) (spread n b)) out i) → odd + more ≡ 0 → Written (zip f (spread n a) (spread n b)) (set out i w) (i + 1)
-fast-on f o h l p q e inv z = word (inv (omega arith)) (pair-at f o h p q) (e (omega arith)) l
-
-pub fast-end : (f : ℕ → ℕ → OrTrap ℕ) {a b out : List ℕ} {n i odd : ℕ} → Operands a b n → i ≡ n
-    → (odd ≡ 0 → Written (zip f (spread n a) (spread n b)) out i) → eqb odd 0 ≡ true → gives (take n out) ≡ pairwise f a b
-fast-end f {n = n} {odd = odd} o e inv t = sym (ended n (inv (eqb-true odd 0 t)) (length-pairs f o) e) ∙ pairs-are f o
 
 -- ---- as many words as elements
 

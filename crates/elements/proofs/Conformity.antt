@@ -2,7 +2,7 @@
 use Prim.Native.Nat.{ℕ}
 use mathlib.Core.Path.{_≡_, refl, sym, ap, _∙_}
 use mathlib.Core.Bool.{Bool, true, false, not}
-use mathlib.Core.List.{List, [], _∷_}
+use mathlib.Core.List.{List}
 use lib.Dec.{eqb, ltb}
 use borrow.Author.Tests.{eqb-true, eqb-false, eq-eqb, ne-eqb}
 use native.Mathlib.Omega.{arith}
@@ -10,17 +10,8 @@ use lib.ListN.{length}
 use Rattle.segment.specs.Blocks.{product}
 use Rattle.manual.specs.OrTrap.{gives, trap, stopIf}
 use Rattle.manual.specs.Values.{same, conform, extent, isSingle}
+use Rattle.manual.proofs.Elements.{same-lists}
 use Rattle.elements.specs.Answers.{Paired}
-
-same-is : (xs ys : List ℕ) → same xs ys ≡ true → xs ≡ ys
-same-is [] [] h = refl
-same-is [] (y ∷ ys) h = cc
-same-is (x ∷ xs) [] h = cc
-same-is (x ∷ xs) (y ∷ ys) h = go (eqb x y) refl (λ e. same-is xs ys e)
-  where
-    go : (t : Bool) → eqb x y ≡ t → (same xs ys ≡ true → xs ≡ ys) → (x ∷ xs) ≡ (y ∷ ys)
-    go true e ih = let p : x ≡ y = eqb-true x y e in let q : xs ≡ ys = ih (rw e at h) in cc
-    go false e ih = let z : false ≡ true = rw e at h in cc
 
 -- operands a and b of the shapes s and t
 module _ (a b s t shape : List ℕ) (counted-a : length a ≡ product s) (counted-b : length b ≡ product t) (h : conform s (length a) t (length b) ≡ gives shape) where
@@ -33,7 +24,7 @@ module _ (a b s t shape : List ℕ) (counted-a : length a ≡ product s) (counte
       judged = simp (ne-eqb (length a) 1 p, ne-eqb (length b) 1 q) at h
 
       go : (u v : Bool) → eqb (length s) (length t) ≡ u → same s t ≡ v → (s ≡ t) × (s ≡ shape)
-      go true true e f = let k : gives s ≡ gives shape = rw (e, f) at judged in (same-is s t f, cc)
+      go true true e f = let k : gives s ≡ gives shape = rw (e, f) at judged in (same-lists s t f, cc)
       go true false e f = let k : trap 6 0 ≡ gives shape = rw (e, f) at judged in let z : _≡_ {A = ℕ} 0 1 = cc in absurd (omega arith)
       go false v e f = let k : trap 5 0 ≡ gives shape = rw e at judged in let z : _≡_ {A = ℕ} 0 1 = cc in absurd (omega arith)
 

@@ -1,15 +1,16 @@
 -- Loops that write a list: word by word, or by copies of a part.
 use Prim.Native.Nat.{ℕ, zero, suc, _+_, _-_, _*_, _≤_, _<_, min}
-use native.Mathlib.Nat.{le-of-suc-le-suc, not-suc-le-zero, add-zero, suc-mul, le-of-lt, zero-add, zero-mul, mul-one, add-comm, eq-zero-or-pos, add-sub-cancel-left}
+use native.Mathlib.Nat.{le-of-suc-le-suc, not-suc-le-zero, add-zero, suc-mul, le-of-lt, zero-add, zero-mul, mul-one, eq-zero-or-pos, add-sub-cancel-left}
 use mathlib.Core.Logic.{⊎-elim}
 use native.Mathlib.Numerals.{add-one}
 use native.Mathlib.Omega.{arith}
 use mathlib.Core.Path.{_≡_, refl, sym, ap, _∙_}
 use mathlib.Core.List.{List, _++_, append-assoc, append-nil}
-use lib.ListN.{length, getD, take, drop, set, replicate, length-replicate, getD-replicate, length-append, length-drop, List·getD-append}
+use lib.ListN.{length, getD, take, drop, set, replicate, length-replicate, getD-replicate, length-drop, List·getD-append}
 use borrow.Rule.Slice.PartMut.{putMid, post-is}
 use lib.Seq.{ext-getD, take-at, take-add, drop-append-add, drop-drop, getD-drop, set-at, take-suc, drop-cons, append-snoc, length-take-le, take-length, drop-length, getD-take, getD-append-add}
 use Rattle.manual.specs.Values.{cycle, copies, upFrom}
+use Rattle.manual.proofs.Elements.{length-cycle}
 
 -- the first i words of d are those of goal, and the rest are those of d₀
 pub record Filled (goal d₀ d : List ℕ) (i : ℕ) : Type 0 where
@@ -58,10 +59,6 @@ filled-part {goal} {d₀} {d} {part} {i} {e} f h g p =
 
 -- ---- copies
 
-length-copies : (k : ℕ) (r : List ℕ) → length (copies k r) ≡ k * length r
-length-copies zero r = sym (zero-mul (length r))
-length-copies (suc k) r = length-append r (copies k r) ∙ rw (length-copies k r, suc-mul k (length r)) (add-comm (length r) (k * length r))
-
 getD-copies : (k q j : ℕ) (r : List ℕ) → q < k → j < length r → getD (copies k r) (q * length r + j) 0 ≡ getD r j 0
 getD-copies zero q j r h l = absurd (not-suc-le-zero h)
 getD-copies (suc k) zero j r h l = rw (zero-mul (length r), zero-add j) (List·getD-append r (copies k r) 0 j l)
@@ -84,19 +81,6 @@ le-times (suc q) m h = rw (suc-mul q m) (omega (arith, le-times q m h))
 pub filled-from : {n : ℕ} (r : List ℕ) → (length r ≡ 0 → n ≡ 0) → 0 < n → 0 < length r
 filled-from {n} r h l = ⊎-elim (λ (e : length r ≡ 0). absurd (omega (arith, h e))) (λ (e : 0 < length r). e) (eq-zero-or-pos (length r))
 
-length-cycle-some : (n : ℕ) (r : List ℕ) → 0 < length r → length (cycle n r) ≡ n
-unfolding cycle
-length-cycle-some n r h = length-take-le n (copies n r) (rw (length-copies n r) (le-times n (length r) h))
-
-length-cycle-none : (r : List ℕ) → length (cycle 0 r) ≡ 0
-unfolding cycle
-length-cycle-none r = refl
-
--- of nothing there is no cycle
-pub length-cycle : (n : ℕ) (r : List ℕ) → (length r ≡ 0 → n ≡ 0) → length (cycle n r) ≡ n
-length-cycle zero r h = length-cycle-none r
-length-cycle (suc n) r h = length-cycle-some (suc n) r (filled-from r h (omega arith))
-
 cycle-at : {n i j : ℕ} {r : List ℕ} → i < n → Round i j r → getD r j 0 ≡ getD (cycle n r) i 0
 unfolding cycle
 cycle-at {n} {i} {j} {r} h p =
@@ -107,7 +91,7 @@ cycle-at {n} {i} {j} {r} h p =
 -- one word, round and round
 pub cycle-single : (n : ℕ) (r : List ℕ) → length r ≡ 1 → replicate n (getD r 0 0) ≡ cycle n r
 cycle-single n r h =
-    ext-getD 0 (replicate n (getD r 0 0)) (cycle n r) (length-replicate n (getD r 0 0) ∙ sym (length-cycle-some n r (omega arith)))
+    ext-getD 0 (replicate n (getD r 0 0)) (cycle n r) (length-replicate n (getD r 0 0) ∙ sym (length-cycle n r (λ e. absurd (omega arith))))
     (λ i l. at i (rw (length-replicate n (getD r 0 0)) at l))
   where
     at : (i : ℕ) → i < n → getD (replicate n (getD r 0 0)) i 0 ≡ getD (cycle n r) i 0

@@ -1,6 +1,7 @@
 -- Laws of the crate.
 pub mod Filling
 pub mod Collecting
+pub mod Fast
 pub mod Testing
 pub mod Lengths
 pub mod Places

@@ -1,14 +1,14 @@
 -- Loops over subscripts: the worst fault, and the place in the ravel, summed from the left.
 use Prim.Native.Nat.{ℕ, suc, _+_, _-_, _*_, _/_, _%_, _≤_, _<_, max}
-use native.Mathlib.Nat.{mul-le-mul-right, mul-le-mul-left, add-mul, mul-assoc, mul-one, one-mul, zero-mul, zero-add, add-zero, add-assoc}
+use native.Mathlib.Nat.{mul-le-mul-left, add-mul, mul-assoc, mul-one, zero-mul, zero-add, add-zero, add-assoc}
 use native.Mathlib.Numerals.{add-one}
 use native.Mathlib.Omega.{arith}
 use native.Mathlib.Decide.{decLt}
 use mathlib.Core.Path.{_≡_, refl, sym, ap, _∙_}
 use mathlib.Core.Bool.{Bool, true, false, cond, not, _&&_, _||_}
 use mathlib.Core.List.{List, [], _∷_}
-use lib.Dec.{ltb, leb, eqb}
-use borrow.Author.Tests.{lt-ltb, le-ltb, ltb-true, leb-true}
+use lib.Dec.{ltb, eqb}
+use borrow.Author.Tests.{lt-ltb, le-ltb}
 use lib.ListN.{length, getD, drop, length-drop}
 use lib.Seq.{drop-cons, drop-length}
 use Rattle.descriptor.specs.Fields.{sign, isCharacter}
@@ -19,6 +19,8 @@ use Rattle.scalar.specs.Reading.{wholeOf, wholeUnits, wholeNumber}
 use Rattle.segment.specs.Blocks.{product}
 use Rattle.manual.specs.OrTrap.{gives, trap}
 use Rattle.manual.specs.Values.{any, isFraction, inRange, inRanges, offset, placeOf, place}
+use Rattle.manual.proofs.Tests.{both-hold}
+use Rattle.manual.proofs.Elements.{place-below}
 use Rattle.elements.specs.Parts.{faultOf, worstOf}
 
 -- ---- the worst fault
@@ -177,40 +179,6 @@ module _ (o : ℕ) (s l : List ℕ) (n : length s ≡ length l) where
   unfolding place
   place-within h = rw (no-letter (omega arith), fractions (omega arith), le-ltb 1 (worstOf o s l) (omega arith), all-in-range h)
 
--- ---- one subscript in range
-
-both : (a b : Bool) → (a && b) ≡ true → (a ≡ true) × (b ≡ true)
-both true b h = (refl, h)
-both false b h = (h, cc)
-
-below : (o : ℕ) (v : Whole) (l : ℕ) → inRange o v l ≡ true → offset o v < l
-below o (W.Number negative n) l h =
-    let x = both (not negative) (leb o n && ltb n (l + o)) h in
-    let y = both (leb o n) (ltb n (l + o)) (x .1) in
-    let p = leb-true o n (y .0) in
-    let q = ltb-true n (l + o) (y .1) in
-    omega arith
-below o W.Fraction l h = let z : _≡_ {A = ℕ} 0 1 = cc in absurd (omega arith)
-below o W.Character l h = let z : _≡_ {A = ℕ} 0 1 = cc in absurd (omega arith)
-
--- ---- the place is in the ravel
-
-place-below : (o : ℕ) (s l : List ℕ) → length s ≡ length l → inRanges o s l ≡ true → placeOf o s l < product l
-place-below o [] [] n h = omega arith
-place-below o [] (x ∷ l) n h = absurd (omega arith)
-place-below o (w ∷ s) [] n h = absurd (omega arith)
-place-below o (w ∷ s) (x ∷ l) n h =
-    let b = both (inRange o (wholeOf w) x) (inRanges o s l) h in
-    let r : offset o (wholeOf w) < x = below o (wholeOf w) x (b .0) in
-    let k : placeOf o s l < product l = place-below o s l (omega arith) (b .1) in
-    step (offset o (wholeOf w)) (placeOf o s l) x (product l) r k
-  where
-    step : (v p x q : ℕ) → v < x → p < q → v * q + p < x * q
-    step v p x q r k =
-        let m : (v + 1) * q ≤ x * q = mul-le-mul-right q (omega arith) in
-        let e : (v + 1) * q ≡ v * q + q = add-mul v 1 q ∙ ap (λ (z : ℕ). v * q + z) (one-mul q) in
-        omega arith
-
 -- ---- the sum, from the left
 
 pub record Horner (o : ℕ) (s l : List ℕ) (at i : ℕ) : Type 0 where
@@ -230,7 +198,7 @@ horner-on {o} {s} {l} {at} {i} f h k =
     let g : placeOf o s l ≡ at * (getD l i 0 * product (drop (suc i) l)) + (v * product (drop (suc i) l) + placeOf o (drop (suc i) s) (drop (suc i) l)) = rw (drop-cons s i 0 h, drop-cons l i 0 k) at (f .so-far) in
     record {
       so-far = rw (add-one i) (g ∙ regroup at (getD l i 0) (product (drop (suc i) l)) v (placeOf o (drop (suc i) s) (drop (suc i) l)));
-      rest = rw (add-one i) (both (inRange o (wholeOf (getD s i 0)) (getD l i 0)) (inRanges o (drop (suc i) s) (drop (suc i) l)) e .1);
+      rest = rw (add-one i) (both-hold (inRange o (wholeOf (getD s i 0)) (getD l i 0)) (inRanges o (drop (suc i) s) (drop (suc i) l)) e .1);
     }
 
 horner-below : {o : ℕ} {s l : List ℕ} {at i : ℕ} → Horner o s l at i → length s ≡ length l → inRanges o s l ≡ true → at < product l

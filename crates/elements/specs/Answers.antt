@@ -4,7 +4,12 @@ use Prim.Native.Nat.{ℕ}
 use mathlib.Core.Path.{_≡_}
 use mathlib.Core.List.{List}
 use lib.ListN.{length}
-use Rattle.manual.specs.OrTrap.{OrTrap, gives, trap}
+use Rattle.descriptor.specs.Fields.{isCharacter}
+use Rattle.operator.specs.declared.Monadic.{Monadic}
+use Rattle.operator.specs.declared.Dyadic.{Dyadic}
+use Rattle.scalar.specs.Operators.{monadicOf, dyadicOf}
+use Rattle.manual.specs.OrTrap.{OrTrap, gives, trap, stopIf}
+use Rattle.manual.specs.Values.{answered, any, each, pairwise, shorts}
 use Rattle.elements.specs.declared.Finished.{Finished}
 use Rattle.elements.specs.declared.Finished.the-variants as F
 use Rattle.elements.specs.declared.Shape.{Shape}
@@ -27,6 +32,17 @@ shapeNamed (S.Trap class number) a b = trap class number
 abbrev pub placeNamed : Found → OrTrap ℕ
 placeNamed (P.At place) = gives place
 placeNamed (P.Trap class number) = trap class number
+
+-- An operator's results on every element, and on every pair of elements.
+abbrev pub eachBy : Monadic → List ℕ → OrTrap (List ℕ)
+eachBy operator a = each (λ w. answered (monadicOf operator w)) a
+
+abbrev pub pairwiseBy : Dyadic → List ℕ → List ℕ → OrTrap (List ℕ)
+pairwiseBy operator a b = pairwise (λ x y. answered (dyadicOf operator x y)) a b
+
+-- The lengths that a ravel's numbers are: the characters among them are judged before the other faults.
+abbrev pub lengthsOf : List ℕ → OrTrap (List ℕ)
+lengthsOf ravel = stopIf (any isCharacter ravel) 7 0 (shorts ravel)
 
 -- Two operands have as many elements, unless one of them has a single element.
 pub record Paired (a b : List ℕ) : Type 0 where

@@ -2,13 +2,16 @@
 -- Assumes nothing.
 use Prim.Native.Nat.{ℕ, _+_, _/_, _%_, _^_, _<_, _≤_, max}
 use mathlib.Core.Path.{_≡_}
-use mathlib.Core.Bool.{cond}
+use mathlib.Core.Bool.{Bool, true, cond}
 use mathlib.Core.List.{List, [], _∷_}
 use lib.ListN.{length}
+use Rattle.scalar.specs.declared.Answer.{Answer}
 use Rattle.scalar.specs.declared.Whole.{Whole}
 use Rattle.scalar.specs.declared.Whole.the-variants as W
 use Rattle.scalar.specs.Reading.{wholeOf}
-use Rattle.manual.specs.Values.{extent, inRange}
+use Rattle.segment.specs.Blocks.{product}
+use Rattle.manual.specs.OrTrap.{gives}
+use Rattle.manual.specs.Values.{answered, extent, pairwise, inRange, inRanges}
 
 -- An operand for n elements has one, or n.
 pub record Spans (n : ℕ) (a : List ℕ) : Type 0 where
@@ -19,6 +22,10 @@ pub record Operands (a b : List ℕ) (n : ℕ) : Type 0 where
   pub count : n ≡ extent a b
   pub first : Spans n a
   pub second : Spans n b
+
+-- Where a fast loop says so, the words that it wrote are the results of all pairs.
+abbrev pub Relied : (ℕ → ℕ → Answer) → Bool → List ℕ → List ℕ → List ℕ → Type 0
+Relied f says a b words = says ≡ true → gives words ≡ pairwise (λ x y. answered (f x y)) a b
 
 -- Bits 30–23 are clear: an integer's word, if it is a scalar's.
 abbrev pub Plain : ℕ → Type 0
@@ -45,3 +52,8 @@ abbrev pub worstOf : ℕ → List ℕ → List ℕ → ℕ
 worstOf origin [] ls = 0
 worstOf origin (w ∷ ws) [] = 0
 worstOf origin (w ∷ ws) (l ∷ ls) = max (faultOf origin (wholeOf w) l) (worstOf origin ws ls)
+
+-- Subscripts that lead to a place of an array with these lengths.
+abbrev pub Within : ℕ → List ℕ → List ℕ → Type 0
+Within origin subscripts lengths =
+    (length subscripts ≡ length lengths) × (product lengths ≤ 65536) × (inRanges origin subscripts lengths ≡ true)

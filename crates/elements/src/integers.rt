@@ -1,14 +1,10 @@
 // Fast loops for integers, without branches. Each stores every word and adds up an oddness number, from bits 30-23 of the
 // operands and of the result: where the sum is 0, all were integers and the words are right. One loop for each operator, for
 // the compiler makes vector code of it, and none where the operator is a parameter.
-ghost use mathlib.Core.Path.{_≡_};
-ghost use mathlib.Core.Bool.{true};
 ghost use Prim.Native.Nat.{_≤_};
 ghost use lib.ListN.{length, take};
 ghost use Rattle.scalar.specs.Operators as S;
-ghost use Rattle.manual.specs.OrTrap.{gives};
-ghost use Rattle.manual.specs.Values as values;
-ghost use Rattle.elements.specs.Parts.{Operands};
+ghost use Rattle.elements.specs.Parts.{Operands, Relied};
 use crate::extension::pick;
 use crate::words::difference_word;
 use crate::words::is_zero;
@@ -23,7 +19,7 @@ use segment::word;
 // start with integers are not tried.
 pub fn all(operator: Dyadic, a: &[u32], b: &[u32], n: usize, out: &mut [u32]) -> bool
     requires { ⌜ Operands (now a) (now b) n × (n ≤ length (now out)) × (n ≤ 65536) ⌝ }
-    ensures { λ r. ⌜ (r ≡ true → gives (take n (now (out .exit))) ≡ values.pairwise (λ x y. values.answered (S.dyadicOf operator x y)) (now (a .entry)) (now (b .entry))) ⌝ }
+    ensures { λ r. ⌜ Relied (S.dyadicOf operator) r (now (a .entry)) (now (b .entry)) (take n (now (out .exit))) ⌝ }
 {
     if word(a, 0) / 0x80_0000 % 0x100 + word(b, 0) / 0x80_0000 % 0x100 != 0 {
         return false;
@@ -42,7 +38,7 @@ pub fn all(operator: Dyadic, a: &[u32], b: &[u32], n: usize, out: &mut [u32]) ->
 
 fn sum(a: &[u32], b: &[u32], n: usize, out: &mut [u32]) -> bool
     requires { ⌜ Operands (now a) (now b) n × (n ≤ length (now out)) × (n ≤ 65536) ⌝ }
-    ensures { λ r. ⌜ (r ≡ true → gives (take n (now (out .exit))) ≡ values.pairwise (λ x y. values.answered (S.sum x y)) (now (a .entry)) (now (b .entry))) ⌝ }
+    ensures { λ r. ⌜ Relied S.sum r (now (a .entry)) (now (b .entry)) (take n (now (out .exit))) ⌝ }
 {
     let mut odd: u32 = 0;
     let mut i = 0;
@@ -59,7 +55,7 @@ fn sum(a: &[u32], b: &[u32], n: usize, out: &mut [u32]) -> bool
 
 fn difference(a: &[u32], b: &[u32], n: usize, out: &mut [u32]) -> bool
     requires { ⌜ Operands (now a) (now b) n × (n ≤ length (now out)) × (n ≤ 65536) ⌝ }
-    ensures { λ r. ⌜ (r ≡ true → gives (take n (now (out .exit))) ≡ values.pairwise (λ x y. values.answered (S.difference x y)) (now (a .entry)) (now (b .entry))) ⌝ }
+    ensures { λ r. ⌜ Relied S.difference r (now (a .entry)) (now (b .entry)) (take n (now (out .exit))) ⌝ }
 {
     let mut odd: u32 = 0;
     let mut i = 0;
@@ -77,7 +73,7 @@ fn difference(a: &[u32], b: &[u32], n: usize, out: &mut [u32]) -> bool
 // LESS and EQUAL go by the difference, and trap with it.
 fn less(a: &[u32], b: &[u32], n: usize, out: &mut [u32]) -> bool
     requires { ⌜ Operands (now a) (now b) n × (n ≤ length (now out)) × (n ≤ 65536) ⌝ }
-    ensures { λ r. ⌜ (r ≡ true → gives (take n (now (out .exit))) ≡ values.pairwise (λ x y. values.answered (S.less x y)) (now (a .entry)) (now (b .entry))) ⌝ }
+    ensures { λ r. ⌜ Relied S.less r (now (a .entry)) (now (b .entry)) (take n (now (out .exit))) ⌝ }
 {
     let mut odd: u32 = 0;
     let mut i = 0;
@@ -94,7 +90,7 @@ fn less(a: &[u32], b: &[u32], n: usize, out: &mut [u32]) -> bool
 
 fn equal(a: &[u32], b: &[u32], n: usize, out: &mut [u32]) -> bool
     requires { ⌜ Operands (now a) (now b) n × (n ≤ length (now out)) × (n ≤ 65536) ⌝ }
-    ensures { λ r. ⌜ (r ≡ true → gives (take n (now (out .exit))) ≡ values.pairwise (λ x y. values.answered (S.equal x y)) (now (a .entry)) (now (b .entry))) ⌝ }
+    ensures { λ r. ⌜ Relied S.equal r (now (a .entry)) (now (b .entry)) (take n (now (out .exit))) ⌝ }
 {
     let mut odd: u32 = 0;
     let mut i = 0;
@@ -111,7 +107,7 @@ fn equal(a: &[u32], b: &[u32], n: usize, out: &mut [u32]) -> bool
 
 fn product(a: &[u32], b: &[u32], n: usize, out: &mut [u32]) -> bool
     requires { ⌜ Operands (now a) (now b) n × (n ≤ length (now out)) × (n ≤ 65536) ⌝ }
-    ensures { λ r. ⌜ (r ≡ true → gives (take n (now (out .exit))) ≡ values.pairwise (λ x y. values.answered (S.product x y)) (now (a .entry)) (now (b .entry))) ⌝ }
+    ensures { λ r. ⌜ Relied S.product r (now (a .entry)) (now (b .entry)) (take n (now (out .exit))) ⌝ }
 {
     let mut odd: u64 = 0;
     let mut i = 0;

@@ -1,10 +1,10 @@
 // Loops over the element words of arrays: parts of lent slices, with proved indices.
 pub mod copies;
 pub mod dyadic;
+mod extension;
 mod integers;
 pub mod kinds;
 pub mod monadic;
-mod extension;
 pub mod shapes;
 pub mod subscripts;
 mod words;

@@ -2,12 +2,10 @@
 ghost use mathlib.Core.Path.{_≡_};
 ghost use Prim.Native.Nat.{_≤_, min};
 ghost use lib.ListN.{length, take};
-ghost use Rattle.descriptor.specs.Fields.{isCharacter};
 ghost use Rattle.scalar.specs.Reading.{wholeOf};
 ghost use Rattle.segment.specs.Blocks as layout;
-ghost use Rattle.manual.specs.OrTrap.{stopIf};
 ghost use Rattle.manual.specs.Values as values;
-ghost use Rattle.elements.specs.Answers.{finished, shapeNamed};
+ghost use Rattle.elements.specs.Answers.{finished, shapeNamed, lengthsOf};
 use crate::Finished;
 use crate::Shape;
 use crate::kinds;
@@ -57,7 +55,7 @@ fn same(a: &[u32], b: &[u32]) -> bool
 // The lengths that a ravel's numbers are. The characters among them are judged before the other faults.
 pub fn lengths(ravel: &[u32], out: &mut [u32]) -> Finished
     requires { ⌜ length (now ravel) ≤ length (now out) ⌝ }
-    ensures { λ r. ⌜ finished r (take (length (now (ravel .entry))) (now (out .exit))) ≡ stopIf (values.any isCharacter (now (ravel .entry))) 7 0 (values.shorts (now (ravel .entry))) ⌝ }
+    ensures { λ r. ⌜ finished r (take (length (now (ravel .entry))) (now (out .exit))) ≡ lengthsOf (now (ravel .entry)) ⌝ }
 {
     if kinds::any_character(ravel) {
         return Finished::Trap(7, 0);

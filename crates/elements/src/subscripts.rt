@@ -1,13 +1,12 @@
 // Subscripts, and the place in the ravel that they lead to.
 ghost use mathlib.Core.Path.{_≡_};
-ghost use mathlib.Core.Bool.{true, cond};
 ghost use Prim.Native.Nat.{_≤_, max};
 ghost use lib.ListN.{length};
 ghost use Rattle.scalar.specs.Reading.{wholeOf};
 ghost use Rattle.segment.specs.Blocks as layout;
 ghost use Rattle.manual.specs.Values as values;
 ghost use Rattle.elements.specs.Answers.{placeNamed};
-ghost use Rattle.elements.specs.Parts.{faultOf, worstOf};
+ghost use Rattle.elements.specs.Parts.{faultOf, worstOf, Within};
 use crate::Found;
 use scalar::Whole;
 use scalar::reading;
@@ -77,7 +76,7 @@ fn outside(origin: u32, negative: bool, magnitude: u32, length: u32) -> u32
 
 // The place, for subscripts in range. All ranges are judged before: a zero length would let the earlier factors overflow.
 fn place_of(origin: u32, subscripts: &[u32], lengths: &[u32]) -> u32
-    requires { ⌜ (length (now subscripts) ≡ length (now lengths)) × (layout.product (now lengths) ≤ 65536) × (values.inRanges origin (now subscripts) (now lengths) ≡ true) ⌝ }
+    requires { ⌜ Within origin (now subscripts) (now lengths) ⌝ }
     ensures { λ r. ⌜ r ≡ values.placeOf origin (now (subscripts .entry)) (now (lengths .entry)) ⌝ }
 {
     let mut at: u32 = 0;

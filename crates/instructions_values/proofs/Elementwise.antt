@@ -14,7 +14,6 @@ use Rattle.scalar.specs.declared.Answer.the-variants.{Word, Trap}
 use Rattle.scalar.specs.Operators.{monadicOf, dyadicOf}
 use Rattle.segment.specs.Blocks.{shapeAt, elementsAt}
 use Rattle.manual.specs.OrTrap.{OrTrap, gives, trap, andThen}
-use Rattle.manual.specs.Effects.{word, made, replaces, jumps, Plan}
 use Rattle.manual.specs.Values as values
 use Rattle.manual.specs.Values.{Value, value, scalar, rank, size, answered, collect, each, conform, pairwise, extent}
 use Rattle.manual.specs.Scalars.{replaceBy}
@@ -23,20 +22,14 @@ use Rattle.elements.specs.Answers.{shapeNamed, Paired}
 use Rattle.elements.proofs.Conformity as conformity
 use Rattle.effects.specs.Seen.{whole}
 use Rattle.operands.proofs.Whole.{whole-facts}
+use Rattle.instructions_values.specs.Parts.{wordOf, madeOf}
 
 module _ (next n : ℕ) where
-  -- The new array of a shape, or the first trap of its elements.
-  abbrev pub madeOf : List ℕ → OrTrap (List ℕ) → Plan
-  madeOf shape result = andThen result (λ words. gives (replaces n (made shape words) ∷ jumps next ∷ []))
-
-  abbrev wordOf : OrTrap ℕ → Plan
-  wordOf result = andThen result (λ w. gives (replaces n (word w) ∷ jumps next ∷ []))
-
-  like-array : (shape : List ℕ) → 1 ≤ length shape → (result : OrTrap (List ℕ)) → replaceBy next n (andThen result (λ ravel. gives (value shape ravel))) ≡ madeOf shape result
+  like-array : (shape : List ℕ) → 1 ≤ length shape → (result : OrTrap (List ℕ)) → replaceBy next n (andThen result (λ ravel. gives (value shape ravel))) ≡ madeOf next n shape result
   like-array shape some (gives words) = simp (ne-eqb (length shape) 0 (λ e. omega arith))
   like-array shape some (trap class number) = refl
 
-  like-scalar : (answer : Answer) → replaceBy next n (andThen (collect (answered answer ∷ [])) (λ ravel. gives (value [] ravel))) ≡ wordOf (answered answer)
+  like-scalar : (answer : Answer) → replaceBy next n (andThen (collect (answered answer ∷ [])) (λ ravel. gives (value [] ravel))) ≡ wordOf next n (answered answer)
   like-scalar (Word w) = refl
   like-scalar (Trap class number) = refl
 

@@ -12,16 +12,15 @@ use Rattle.manual.specs.OrTrap.{gives, trap, andThen, stopIf}
 use Rattle.manual.specs.Effects.{word, replaces, jumps, Plan}
 use Rattle.manual.specs.Values.{Value, rank, place}
 use Rattle.manual.specs.Scalars.{valueOf, isForeign, isScalarCell, anyCell, operands, scalarWords, subscripted, index}
-use Rattle.effects.specs.Sources.{operandAt}
-use Rattle.effects.specs.Seen.{whole, temporaries, seen}
+use Rattle.effects.specs.Seen.{seen}
 use Rattle.operands.specs.declared.reading.Value.{Value as Operand}
-use Rattle.operands.specs.declared.reading.Operand.the-variants as found
-use Rattle.operands.specs.Operands.{operandOf, held}
+use Rattle.operands.specs.Operands.{held}
 use Rattle.operands.specs.Taken.{takenOf}
 use Rattle.operands.proofs.Seen.{origin-seen}
 use Rattle.operands.proofs.Subscripts.{taken-plan}
-use Rattle.instructions_values.specs.Parts.{indexed}
-use Rattle.instructions_values.proofs.Taking.{first-value}
+use Rattle.instructions_values.specs.declared.operand_values.First.{First}
+use Rattle.instructions_values.specs.declared.operand_values.First.the-variants as F
+use Rattle.instructions_values.specs.Parts.{FirstFound, indexed}
 
 -- The subscripts are taken, and lead to a place.
 module _ (origin next : ℕ) (subscripts : List ℕ) (a : Value) where
@@ -39,7 +38,7 @@ module _ (origin next : ℕ) (subscripts : List ℕ) (a : Value) where
     indexed-at k e = simp (eq-eqb (length subscripts) (length (a .shape)) alike, ← e)
 
 -- What is indexed is a value.
-module _ (s : List ℕ) (next n : ℕ) (all : n + 1 ≤ temporaries s) (v : Operand) (first : operandOf s (operandAt s 0) ≡ found.Value v) where
+module _ (s : List ℕ) (next n : ℕ) {r : First} (f : FirstFound s (n + 1) r) {v : Operand} (found : r ≡ F.Value v) where
   abbrev subscriptsWith : ℕ → ℕ → Value → List ℕ → Plan
   subscriptsWith origin n a words =
       andThen (stopIf (not (eqb n (length (a .shape)))) 9 1 (place origin words (a .shape))) (λ k.
@@ -55,7 +54,7 @@ module _ (s : List ℕ) (next n : ℕ) (all : n + 1 ≤ temporaries s) (v : Oper
   unfolding index
   index-taken =
       rw (← origin-seen s)
-      (first-value s (n + 1) (omega arith) all cells v first
+      (f .goes v found cells
       ∙ sym (taken-plan false (eqb (rank (held s v)) 0) (operands (seen s) 1 n) (subscriptsWith ((seen s) .origin) n (held s v))))
 
   -- The words are so many, and it is an array.

@@ -6,3 +6,4 @@ pub mod Fronts
 pub mod Elementwise
 pub mod Vectors
 pub mod Indexing
+pub mod Origin

@@ -13,7 +13,8 @@ use Rattle.segment.specs.Blocks.{product}
 use Rattle.manual.specs.OrTrap.{gives, trap, andThen, stopIf}
 use Rattle.manual.specs.Values.{Value, value, vector, rank, size, any, single, shortOf, shorts, catenate, upFrom, indexGenerator, cycle, reshape}
 use Rattle.manual.specs.Scalars.{replaceBy}
-use Rattle.elements.proofs.Filling.{length-upFrom, length-cycle}
+use Rattle.manual.proofs.Elements.{no-lengths, length-cycle}
+use Rattle.elements.proofs.Filling.{length-upFrom}
 use Rattle.operands.specs.declared.reading.Value.{Value as Operand}
 use Rattle.operands.specs.declared.reading.Value.the-variants.{Scalar, Array}
 use Rattle.operands.specs.Operands.{held}
@@ -121,10 +122,6 @@ module _ (lengths : List ℕ) (b : Value) (n : ℕ) (count : n ≡ min (product 
         by-test false e = refl
 
 -- As many elements as the lengths ask for.
-no-lengths : (lengths : List ℕ) → length lengths ≡ 0 → product lengths ≡ 1
-no-lengths [] none = refl
-no-lengths (l ∷ ls) none = absurd (omega arith)
-
 module _ (lengths : List ℕ) (n : ℕ) (count : n ≡ product lengths) where
   pub repeated-some : length lengths ≡ 0 → 0 < n
   repeated-some none = omega (arith, no-lengths lengths none)

@@ -3,14 +3,16 @@ ghost use mathlib.Core.Path.{_≡_};
 ghost use Prim.Native.Nat.{_≤_, _<_};
 ghost use lib.ListN.{length};
 ghost use Rattle.segment.specs.Blocks as layout;
-ghost use Rattle.segment.specs.State as fields;
 ghost use Rattle.manual.specs.OrTrap.{gives};
 ghost use Rattle.manual.specs.Values as values;
 ghost use Rattle.manual.specs.Scalars as plan;
-ghost use Rattle.effects.specs.Seen.{seen};
 ghost use Rattle.operands.specs.Operands.{held};
-ghost use Rattle.effects.specs.Carried.{did, carry};
-ghost use Rattle.instructions_values.specs.Parts.{Readable, shaped};
+ghost use Rattle.effects.specs.Carried.{CarriesOut};
+ghost use Rattle.instructions_values.specs.Parts.{Readable, ReplacesBy, originOf, shaped, filled};
+use super::operand_values::Both;
+use super::operand_values::First;
+use super::operand_values::both_values;
+use super::operand_values::first_value;
 use super::ravels::copy_ravel;
 use super::ravels::copy_shape;
 use super::ravels::cycle_ravel;
@@ -19,75 +21,66 @@ use super::ravels::single;
 use super::ravels::size_of;
 use super::results::replace_by_new;
 use super::results::replace_by_vector;
-use operands::reading::Operand;
-use operands::reading::Value;
-use operands::reading::count;
-use operands::reading::operand_at;
-use operands::reading::value_of;
-use elements::Finished;
-use elements::copies::up_from;
-use elements::shapes;
+use descriptor::address::CodeAddress;
 use effects::Outcome;
 use effects_code::taking::jump;
 use effects_code::taking::replace_by_word;
+use elements::Finished;
+use elements::copies::up_from;
+use elements::shapes;
+use operands::reading::Value;
 use scalar::Answer;
 use segment::state::iorg;
 
-pub fn shape(seg: &mut [u32], next: u32) -> Outcome
+pub fn shape(seg: &mut [u32], next: CodeAddress) -> Outcome
     requires { ⌜ length (now seg) ≤ 16384 ⌝ }
-    ensures { λ r. ⌜ did r (now (seg .exit)) ≡ carry (now (seg .entry)) (plan.shape (seen (now (seg .entry))) next) ⌝ }
+    ensures { λ r. ⌜ CarriesOut (now (seg .entry)) r (now (seg .exit)) (λ sees. plan.shape sees (next .0)) ⌝ }
 {
-    if count(seg) < 1 {
-        return Outcome::Trapped(3, 4);
+    match first_value(seg, 1) {
+        First::Trap(class, number) => Outcome::Trapped(class, number),
+        First::Value(v) => {
+            let mut lengths = [0u32; 16];
+            let rank = copy_shape(seg, v, &mut lengths);
+            replace_by_vector(seg, 1, &lengths[..rank], next)
+        }
     }
-    let Operand::Value(v) = value_of(seg, operand_at(seg, 0)) else {
-        return Outcome::Trapped(3, 5);
-    };
-    let mut lengths = [0u32; 16];
-    let rank = copy_shape(seg, v, &mut lengths);
-    replace_by_vector(seg, 1, &lengths[..rank], next)
 }
 
-pub fn ravel(seg: &mut [u32], next: u32, scratch: &mut [u32]) -> Outcome
+pub fn ravel(seg: &mut [u32], next: CodeAddress, scratch: &mut [u32]) -> Outcome
     requires { ⌜ (length (now seg) ≤ 16384) × (length (now scratch) ≡ 16384) ⌝ }
-    ensures { λ r. ⌜ did r (now (seg .exit)) ≡ carry (now (seg .entry)) (plan.ravel (seen (now (seg .entry))) next) ⌝ }
+    ensures { λ r. ⌜ CarriesOut (now (seg .entry)) r (now (seg .exit)) (λ sees. plan.ravel sees (next .0)) ⌝ }
 {
-    if count(seg) < 1 {
-        return Outcome::Trapped(3, 4);
+    match first_value(seg, 1) {
+        First::Trap(class, number) => Outcome::Trapped(class, number),
+        First::Value(v) => {
+            let n = copy_ravel(seg, v, scratch);
+            replace_by_vector(seg, 1, &scratch[..n], next)
+        }
     }
-    let Operand::Value(v) = value_of(seg, operand_at(seg, 0)) else {
-        return Outcome::Trapped(3, 5);
-    };
-    let n = copy_ravel(seg, v, scratch);
-    replace_by_vector(seg, 1, &scratch[..n], next)
 }
 
-pub fn catenate(seg: &mut [u32], next: u32, scratch: &mut [u32]) -> Outcome
+pub fn catenate(seg: &mut [u32], next: CodeAddress, scratch: &mut [u32]) -> Outcome
     requires { ⌜ (length (now seg) ≤ 16384) × (length (now scratch) ≡ 16384) ⌝ }
-    ensures { λ r. ⌜ did r (now (seg .exit)) ≡ carry (now (seg .entry)) (plan.catenate (seen (now (seg .entry))) next) ⌝ }
+    ensures { λ r. ⌜ CarriesOut (now (seg .entry)) r (now (seg .exit)) (λ sees. plan.catenate sees (next .0)) ⌝ }
 {
-    if count(seg) < 2 {
-        return Outcome::Trapped(3, 4);
+    match both_values(seg) {
+        Both::Trap(class, number) => Outcome::Trapped(class, number),
+        Both::Values(a, b) => {
+            if 1 < rank_of(seg, a) {
+                return Outcome::Trapped(5, 0);
+            }
+            if 1 < rank_of(seg, b) {
+                return Outcome::Trapped(5, 0);
+            }
+            join(seg, a, b, next, scratch)
+        }
     }
-    let Operand::Value(a) = value_of(seg, operand_at(seg, 0)) else {
-        return Outcome::Trapped(3, 5);
-    };
-    let Operand::Value(b) = value_of(seg, operand_at(seg, 1)) else {
-        return Outcome::Trapped(3, 5);
-    };
-    if 1 < rank_of(seg, a) {
-        return Outcome::Trapped(5, 0);
-    }
-    if 1 < rank_of(seg, b) {
-        return Outcome::Trapped(5, 0);
-    }
-    join(seg, a, b, next, scratch)
 }
 
-fn join(seg: &mut [u32], a: Value, b: Value, next: u32, scratch: &mut [u32]) -> Outcome
+fn join(seg: &mut [u32], a: Value, b: Value, next: CodeAddress, scratch: &mut [u32]) -> Outcome
     requires { ⌜ Readable (now seg) a × Readable (now seg) b × (length (now seg) ≤ 16384) × (length (now scratch) ≡ 16384) ⌝ }
     requires { ⌜ (values.rank (held (now seg) a) ≤ 1) × (values.rank (held (now seg) b) ≤ 1) ⌝ }
-    ensures { λ r. ⌜ did r (now (seg .exit)) ≡ carry (now (seg .entry)) (plan.replaceBy next 2 (values.catenate (held (now (seg .entry)) a) (held (now (seg .entry)) b))) ⌝ }
+    ensures { λ r. ⌜ ReplacesBy (now (seg .entry)) r (now (seg .exit)) (next .0) 2 (λ s. values.catenate (held s a) (held s b)) ⌝ }
 {
     let m = size_of(seg, a);
     let n = size_of(seg, b);
@@ -100,28 +93,25 @@ fn join(seg: &mut [u32], a: Value, b: Value, next: u32, scratch: &mut [u32]) -> 
     replace_by_vector(seg, 2, &scratch[..m + n], next)
 }
 
-pub fn index_generator(seg: &mut [u32], next: u32, scratch: &mut [u32]) -> Outcome
+pub fn index_generator(seg: &mut [u32], next: CodeAddress, scratch: &mut [u32]) -> Outcome
     requires { ⌜ (length (now seg) ≤ 16384) × (length (now scratch) ≡ 16384) ⌝ }
-    ensures { λ r. ⌜ did r (now (seg .exit)) ≡ carry (now (seg .entry)) (plan.indexGenerator (seen (now (seg .entry))) next) ⌝ }
+    ensures { λ r. ⌜ CarriesOut (now (seg .entry)) r (now (seg .exit)) (λ sees. plan.indexGenerator sees (next .0)) ⌝ }
 {
-    if count(seg) < 1 {
-        return Outcome::Trapped(3, 4);
-    }
-    let Operand::Value(v) = value_of(seg, operand_at(seg, 0)) else {
-        return Outcome::Trapped(3, 5);
-    };
-    match single(seg, v) {
-        Answer::Trap(class, number) => Outcome::Trapped(class, number),
-        Answer::Word(w) => match shapes::short(w) {
+    match first_value(seg, 1) {
+        First::Trap(class, number) => Outcome::Trapped(class, number),
+        First::Value(v) => match single(seg, v) {
             Answer::Trap(class, number) => Outcome::Trapped(class, number),
-            Answer::Word(n) => generate(seg, n as usize, next, scratch),
+            Answer::Word(w) => match shapes::short(w) {
+                Answer::Trap(class, number) => Outcome::Trapped(class, number),
+                Answer::Word(n) => generate(seg, n as usize, next, scratch),
+            },
         },
     }
 }
 
-fn generate(seg: &mut [u32], n: usize, next: u32, scratch: &mut [u32]) -> Outcome
+fn generate(seg: &mut [u32], n: usize, next: CodeAddress, scratch: &mut [u32]) -> Outcome
     requires { ⌜ (length (now seg) ≤ 16384) × (length (now scratch) ≡ 16384) ⌝ }
-    ensures { λ r. ⌜ did r (now (seg .exit)) ≡ carry (now (seg .entry)) (plan.replaceBy next 1 (gives (values.vector (values.upFrom (fields.iorg (fields.flags (now (seg .entry)))) n)))) ⌝ }
+    ensures { λ r. ⌜ ReplacesBy (now (seg .entry)) r (now (seg .exit)) (next .0) 1 (λ s. gives (values.vector (values.upFrom (originOf s) n))) ⌝ }
 {
     if scratch.len() < n {
         return Outcome::Trapped(1, 2);
@@ -130,32 +120,34 @@ fn generate(seg: &mut [u32], n: usize, next: u32, scratch: &mut [u32]) -> Outcom
     replace_by_vector(seg, 1, &scratch[..n], next)
 }
 
-pub fn reshape(seg: &mut [u32], next: u32, scratch: &mut [u32]) -> Outcome
+pub fn reshape(seg: &mut [u32], next: CodeAddress, scratch: &mut [u32]) -> Outcome
     requires { ⌜ (length (now seg) ≤ 16384) × (length (now scratch) ≡ 16384) ⌝ }
-    ensures { λ r. ⌜ did r (now (seg .exit)) ≡ carry (now (seg .entry)) (plan.reshape (seen (now (seg .entry))) next) ⌝ }
+    ensures { λ r. ⌜ CarriesOut (now (seg .entry)) r (now (seg .exit)) (λ sees. plan.reshape sees (next .0)) ⌝ }
 {
-    if count(seg) < 2 {
-        return Outcome::Trapped(3, 4);
+    match both_values(seg) {
+        Both::Trap(class, number) => Outcome::Trapped(class, number),
+        Both::Values(a, b) => {
+            if 1 < rank_of(seg, a) {
+                return Outcome::Trapped(5, 0);
+            }
+            if 15 < size_of(seg, a) {
+                return Outcome::Trapped(5, 0);
+            }
+            read_lengths(seg, a, b, next, scratch)
+        }
     }
-    let Operand::Value(a) = value_of(seg, operand_at(seg, 0)) else {
-        return Outcome::Trapped(3, 5);
-    };
-    let Operand::Value(b) = value_of(seg, operand_at(seg, 1)) else {
-        return Outcome::Trapped(3, 5);
-    };
-    if 1 < rank_of(seg, a) {
-        return Outcome::Trapped(5, 0);
-    }
-    if 15 < size_of(seg, a) {
-        return Outcome::Trapped(5, 0);
-    }
-    read_lengths(seg, a, b, next, scratch)
 }
 
-fn read_lengths(seg: &mut [u32], a: Value, b: Value, next: u32, scratch: &mut [u32]) -> Outcome
+fn read_lengths(
+    seg: &mut [u32],
+    a: Value,
+    b: Value,
+    next: CodeAddress,
+    scratch: &mut [u32],
+) -> Outcome
     requires { ⌜ Readable (now seg) a × Readable (now seg) b × (length (now seg) ≤ 16384) × (length (now scratch) ≡ 16384) ⌝ }
     requires { ⌜ (values.rank (held (now seg) a) ≤ 1) × (values.size (held (now seg) a) ≤ 15) ⌝ }
-    ensures { λ r. ⌜ did r (now (seg .exit)) ≡ carry (now (seg .entry)) (plan.replaceBy next 2 (values.reshape (held (now (seg .entry)) a) (held (now (seg .entry)) b))) ⌝ }
+    ensures { λ r. ⌜ ReplacesBy (now (seg .entry)) r (now (seg .exit)) (next .0) 2 (λ s. values.reshape (held s a) (held s b)) ⌝ }
 {
     let mut words = [0u32; 16];
     let mut lengths = [0u32; 16];
@@ -166,9 +158,15 @@ fn read_lengths(seg: &mut [u32], a: Value, b: Value, next: u32, scratch: &mut [u
     }
 }
 
-fn fill_shape(seg: &mut [u32], lengths: &[u32], b: Value, next: u32, scratch: &mut [u32]) -> Outcome
+fn fill_shape(
+    seg: &mut [u32],
+    lengths: &[u32],
+    b: Value,
+    next: CodeAddress,
+    scratch: &mut [u32],
+) -> Outcome
     requires { ⌜ Readable (now seg) b × (length (now seg) ≤ 16384) × (length (now scratch) ≡ 16384) ⌝ }
-    ensures { λ r. ⌜ did r (now (seg .exit)) ≡ carry (now (seg .entry)) (plan.replaceBy next 2 (shaped (now (lengths .entry)) (held (now (seg .entry)) b))) ⌝ }
+    ensures { λ r. ⌜ ReplacesBy (now (seg .entry)) r (now (seg .exit)) (next .0) 2 (λ s. shaped (now (lengths .entry)) (held s b)) ⌝ }
 {
     let n = shapes::product(lengths) as usize;
     if 0x1_0000 <= n {
@@ -186,12 +184,12 @@ fn repeated(
     lengths: &[u32],
     n: usize,
     b: Value,
-    next: u32,
+    next: CodeAddress,
     scratch: &mut [u32],
 ) -> Outcome
     requires { ⌜ Readable (now seg) b × (length (now seg) ≤ 16384) × (length (now scratch) ≡ 16384) ⌝ }
     requires { ⌜ (n ≡ layout.product (now lengths)) × (values.size (held (now seg) b) ≡ 0 → n ≡ 0) ⌝ }
-    ensures { λ r. ⌜ did r (now (seg .exit)) ≡ carry (now (seg .entry)) (plan.replaceBy next 2 (gives (values.value (now (lengths .entry)) (values.cycle n (held (now (seg .entry)) b .ravel))))) ⌝ }
+    ensures { λ r. ⌜ ReplacesBy (now (seg .entry)) r (now (seg .exit)) (next .0) 2 (λ s. filled (now (lengths .entry)) n (held s b)) ⌝ }
 {
     if scratch.len() < n {
         return Outcome::Trapped(1, 2);
@@ -201,9 +199,9 @@ fn repeated(
 }
 
 // No lengths make a scalar.
-fn reshaped(seg: &mut [u32], lengths: &[u32], ravel: &[u32], next: u32) -> Outcome
+fn reshaped(seg: &mut [u32], lengths: &[u32], ravel: &[u32], next: CodeAddress) -> Outcome
     requires { ⌜ (length (now lengths) ≡ 0 → 0 < length (now ravel)) ⌝ }
-    ensures { λ r. ⌜ did r (now (seg .exit)) ≡ carry (now (seg .entry)) (plan.replaceBy next 2 (gives (values.value (now (lengths .entry)) (now (ravel .entry))))) ⌝ }
+    ensures { λ r. ⌜ ReplacesBy (now (seg .entry)) r (now (seg .exit)) (next .0) 2 (λ _. gives (values.value (now (lengths .entry)) (now (ravel .entry)))) ⌝ }
 {
     if lengths.len() == 0 {
         replace_by_word(seg, 2, ravel[0]);

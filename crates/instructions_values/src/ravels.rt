@@ -5,11 +5,11 @@ ghost use lib.ListN.{length};
 ghost use Rattle.manual.specs.Values as values;
 ghost use Rattle.operands.specs.Operands.{held};
 ghost use Rattle.instructions_values.specs.Parts.{Readable, Front};
+use effects_code::storing::keep;
+use elements::copies::cycle;
 use operands::reading::Value;
 use operands::reading::elements_of;
 use operands::reading::lengths_of;
-use elements::copies::cycle;
-use effects_code::storing::keep;
 use scalar::Answer;
 
 pub fn rank_of(seg: &[u32], v: Value) -> usize

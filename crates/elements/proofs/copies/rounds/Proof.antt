@@ -1,12 +1,12 @@
 use borrow.Rule.Slice.PartMut.{same-len-mid}
-use Rattle.elements.proofs.Filling.{round-fits}
 use Prim.Native.Nat.{_≤_, _-_, _+_}
 use mathlib.Core.Path.{_≡_, refl, sym, ap, _∙_}
 use native.Mathlib.Omega.{arith}
 use borrow.Author.Needs.{needs}
 use lib.ListN.{length}
 use Rattle.manual.specs.Values.{cycle}
-use Rattle.elements.proofs.Filling.{Filled, begun, filled-part, filled-all, Rounds, rounds-start, rounds-on, round-is, filled-from, length-cycle}
+use Rattle.manual.proofs.Elements.{length-cycle}
+use Rattle.elements.proofs.Filling.{Filled, begun, filled-part, filled-all, Rounds, rounds-start, rounds-on, round-is, round-fits, filled-from}
 use lib.Seq.{length-take-le}
 use Rattle.elements.proofs.copies.rounds.Statement.{statement}
 use Rattle.elements.proofs.copies.rounds.Tie as tie

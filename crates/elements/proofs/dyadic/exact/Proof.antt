@@ -56,7 +56,7 @@ returns c =
     let l = x .before in
     let s = l .before .before .before .before .before in
     let below = l .loop-test .taken in
-    let f = applied (s .args .operator) in
+    let f = applied (s .args .op) in
     sym (trapped (l .before .loop .inv .2) (pair-at f (s .pre .0) below (x .pick .ensures _ below) (y .pick2 .ensures _ below))
     (ap answered (sym (o .dyadic .ensures) ∙ c .before .r2 .given .1)))
     ∙ pairs-are f (s .pre .0)
@@ -77,7 +77,7 @@ loop-again c =
     let below = l .loop-test .taken in (
       omega arith,
       simp length-set (l .before .loop .inv .1),
-      word (l .before .loop .inv .2) (pair-at (applied (s .args .operator)) (s .pre .0) below (x .pick .ensures _ below) (y .pick2 .ensures _ below))
+      word (l .before .loop .inv .2) (pair-at (applied (s .args .op)) (s .pre .0) below (x .pick .ensures _ below) (y .pick2 .ensures _ below))
           (ap answered (sym (o .dyadic .ensures) ∙ c .before .r .given .1)) (omega arith),
     )
 
@@ -87,7 +87,7 @@ same-length-2 c = c .before .loop .inv .1
 returns-2 : tie.Need-returns-2 Inv-loop μ-loop
 returns-2 c =
     let s = c .before .before .before .before .before in
-    let f = applied (s .args .operator) in
+    let f = applied (s .args .op) in
     sym (ended _ (c .before .loop .inv .2) (length-pairs f (s .pre .0)) (omega arith)) ∙ pairs-are f (s .pre .0)
 
 pub exact-spec : {M : Type 1} → statement M

@@ -1,49 +1,16 @@
-use Prim.Native.Nat.{_≤_, _-_, _*_}
-use mathlib.Core.Path.{_≡_, refl, ap}
+use Prim.Native.Nat.{_-_}
 use native.Mathlib.Omega.{arith}
 use borrow.Author.Needs.{needs}
-use lib.ListN.{length, length-set}
 use Rattle.scalar.specs.Operators.{sum}
-use Rattle.manual.specs.Values.{answered, zip, spread}
-use Rattle.elements.proofs.Collecting.{Written, start, spans-below, fast-on, fast-end}
+use Rattle.elements.proofs.Fast.{Fast, begins, first-there, second-there, goes-on, ends}
 use Rattle.elements.proofs.integers.sum.Statement.{statement}
 use Rattle.elements.proofs.integers.sum.Tie as tie
 
 abbrev Inv-loop : tie.InvT-loop
-Inv-loop a b n out₀ odd₀ i₀ out odd i = (i ≤ n) × (odd ≤ 1024 * i) × (length out ≡ length out₀) × (odd ≡ 0 → Written (zip (λ x y. answered (sum x y)) (spread n a) (spread n b)) out i)
+Inv-loop a b n out₀ odd₀ i₀ out odd i = Fast sum 1024 a b n out₀ out odd i
 
 abbrev μ-loop : tie.MeasureT-loop
 μ-loop a b n out₀ odd₀ i₀ out odd i = n - i
-
-loop-holds : tie.Need-loop-holds Inv-loop μ-loop
-loop-holds c = (omega arith, omega arith, refl, λ z. start)
-
-pick-requires : tie.Need-pick-requires Inv-loop μ-loop
-pick-requires c κs = spans-below (c .before .before .before .before .before .pre .0 .first) (c .loop-test .taken)
-
-pick-requires-2 : tie.Need-pick-requires-2 Inv-loop μ-loop
-pick-requires-2 c κs = spans-below (c .before .before .before .before .before .before .pre .0 .second) (c .before .loop-test .taken)
-
-sum-word-requires : tie.Need-sum-word-requires Inv-loop μ-loop
-sum-word-requires c κs = search needs
-
-mul-out : tie.Need-mul-out Inv-loop μ-loop
-mul-out c = omega arith
-
-slice-write-out : tie.Need-slice-write-out Inv-loop μ-loop
-slice-write-out c = omega arith
-
-oddness-requires : tie.Need-oddness-requires Inv-loop μ-loop
-oddness-requires c κs = search needs
-
-add-odd : tie.Need-add-odd Inv-loop μ-loop
-add-odd c = omega arith
-
-add-i : tie.Need-add-i Inv-loop μ-loop
-add-i c = omega arith
-
-loop-less : tie.Need-loop-less Inv-loop μ-loop
-loop-less c = omega arith
 
 loop-again : tie.Need-loop-again Inv-loop μ-loop
 loop-again c =
@@ -51,20 +18,8 @@ loop-again c =
     let y = w .before in
     let x = y .before in
     let l = x .before in
-    let s = l .before .before .before .before .before in
-    let below = l .loop-test .taken in (
-      omega arith,
-      omega arith,
-      simp length-set (l .before .loop .inv .2),
-      fast-on (λ x y. answered (sum x y)) (s .pre .0) below (omega arith) (x .pick .ensures _ below) (y .pick2 .ensures _ below)
-          (λ z. let p = c .oddness .ensures .1 z in ap answered (w .sum-word .ensures (p .0) (p .1) (p .2))) (l .before .loop .inv .3),
-    )
-
-same-length : tie.Need-same-length Inv-loop μ-loop
-same-length c = c .before .loop .inv .2
-
-returns : tie.Need-returns Inv-loop μ-loop
-returns c = fast-end (λ x y. answered (sum x y)) (c .before .before .before .before .before .pre .0) (omega arith) (c .before .loop .inv .3)
+    goes-on (l .before .loop .inv) (l .loop-test .taken) (x .pick .ensures) (y .pick2 .ensures) (c .oddness .ensures .0)
+    (λ z. let p = c .oddness .ensures .1 z in w .sum-word .ensures (p .0) (p .1) (p .2))
 
 pub sum-spec : {M : Type 1} → statement M
 sum-spec =
@@ -72,16 +27,16 @@ sum-spec =
     (tie.spec
     Inv-loop
     μ-loop
-    loop-holds
-    pick-requires
-    pick-requires-2
-    sum-word-requires
-    mul-out
-    slice-write-out
-    oddness-requires
-    add-odd
-    add-i
-    loop-less
+    (λ c. begins (c .before .before .before .pre .0) (omega arith))
+    (λ c κs. first-there (c .before .loop .inv) (c .loop-test .taken))
+    (λ c κs. second-there (c .before .before .loop .inv) (c .before .loop-test .taken))
+    (λ c κs. search needs)
+    (λ c. omega arith)
+    (λ c. omega arith)
+    (λ c κs. search needs)
+    (λ c. omega arith)
+    (λ c. omega arith)
+    (λ c. omega arith)
     loop-again
-    same-length
-    returns)
+    (λ c. c .before .loop .inv .kept)
+    (λ c. ends (c .before .loop .inv) (omega arith)))

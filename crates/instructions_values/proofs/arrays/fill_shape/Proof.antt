@@ -50,7 +50,7 @@ returns-3 : tie.Need-returns-3
 returns-3 c =
     let a = c .before .before .before .before .before .before .before .before .before .before .before .before .before .before .before .args in
     let filled : values.size (held (a .seg .now) (a .b)) ≡ 0 → c .before .before .before .before .before .before .before .before .before .before .before .product .result ≡ 0 = λ none. ⊎-elim (λ w. eqb-true _ _ (not-false _ (w .1 .left))) (λ w. absurd (w .left (c .before .before .before .before .before .before .before .before .size-of .ensures ∙ none))) (c .before .before .before .before .before .before .before .if2 .came) in
-    (c .before .before .before .before .repeated .ensures) ∙ ap (λ (r : OrTrap values.Value). carry (a .seg .now) (plan.replaceBy (a .next) 2 r)) (shaped-filled (a .lengths .now) (held (a .seg .now) (a .b)) (c .before .before .before .before .before .before .before .before .before .before .before .product .result) (c .before .before .before .before .before .before .before .before .before .before .before .product .ensures) (omega arith) filled)
+    (c .before .before .before .before .repeated .ensures) ∙ ap (λ (r : OrTrap values.Value). carry (a .seg .now) (plan.replaceBy (a .next .0) 2 r)) (shaped-filled (a .lengths .now) (held (a .seg .now) (a .b)) (c .before .before .before .before .before .before .before .before .before .before .before .product .result) (c .before .before .before .before .before .before .before .before .before .before .before .product .ensures) (omega arith) filled)
 
 pub fill-shape-spec : {M : Type 1} → statement M
 fill-shape-spec =

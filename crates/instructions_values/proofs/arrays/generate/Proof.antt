@@ -19,7 +19,7 @@ use Rattle.instructions_values.proofs.arrays.generate.Tie as tie
 returns : tie.Need-returns
 returns c =
     let a = c .before .before .before .args in
-    numbers-long (a .seg .now) _ (a .n) (a .next) (omega arith)
+    numbers-long (a .seg .now) _ (a .n) (a .next .0) (omega arith)
 
 iorg-requires : tie.Need-iorg-requires
 iorg-requires c κs = search needs
@@ -52,7 +52,7 @@ returns-2 : tie.Need-returns-2
 returns-2 c =
     let a = c .before .before .before .before .before .before .before .before .before .before .before .before .before .before .args in
     let numbers : c .before .before .before .before .before .before .before .up-from .last .1 .0 ≡ values.upFrom (iorg (flags (a .seg .now))) (a .n) = rw (← c .before .before .before .before .before .before .before .before .before .iorg .ensures, ← length-take-le (a .n) (a .scratch .now) (omega arith)) (c .before .before .before .before .before .before .before .up-from .ensures) in
-    (c .before .before .replace-by-vector .ensures) ∙ ap (λ (words : List ℕ). carry (a .seg .now) (plan.replaceBy (a .next) 1 (gives (values.vector words)))) (written (c .before .before .before .before .before .before .before .before .before .before .before .before .before .before .args .n) (c .before .before .before .before .before .before .before .before .before .before .before .before .before .before .args .scratch .now) (c .before .before .before .before .before .before .before .up-from .last .1 .0) (omega arith) (ap length (c .before .before .before .before .before .before .before .up-from .ensures) ∙ length-upFrom _ _) ∙ numbers)
+    (c .before .before .replace-by-vector .ensures) ∙ ap (λ (words : List ℕ). carry (a .seg .now) (plan.replaceBy (a .next .0) 1 (gives (values.vector words)))) (written (c .before .before .before .before .before .before .before .before .before .before .before .before .before .before .args .n) (c .before .before .before .before .before .before .before .before .before .before .before .before .before .before .args .scratch .now) (c .before .before .before .before .before .before .before .up-from .last .1 .0) (omega arith) (ap length (c .before .before .before .before .before .before .before .up-from .ensures) ∙ length-upFrom _ _) ∙ numbers)
 
 pub generate-spec : {M : Type 1} → statement M
 generate-spec =

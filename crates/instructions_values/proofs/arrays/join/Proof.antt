@@ -29,7 +29,7 @@ same-length c = search needs
 returns : tie.Need-returns
 returns c =
     let a = c .before .before .before .before .before .before .before .args in
-    rw (catenate-joined (held (a .seg .now) (a .a)) (held (a .seg .now) (a .b)) (c .before .before .before .before .before .before .before .pre .1 .0) (c .before .before .before .before .before .before .before .pre .1 .1) (omega (arith, size-few (c .before .before .before .before .before .before .before .args .seg .now) (c .before .before .before .before .before .before .before .pre .0 .2) (c .before .before .before .before .before .before .before .args .a) (c .before .before .before .before .before .before .before .pre .0 .0), size-few (c .before .before .before .before .before .before .before .args .seg .now) (c .before .before .before .before .before .before .before .pre .0 .2) (c .before .before .before .before .before .before .before .args .b) (c .before .before .before .before .before .before .before .pre .0 .1)))) (vector-long (a .seg .now) 2 (held (a .seg .now) (a .a) .ravel ++ held (a .seg .now) (a .b) .ravel) (a .next) (simp length-append (omega arith)))
+    rw (catenate-joined (held (a .seg .now) (a .a)) (held (a .seg .now) (a .b)) (c .before .before .before .before .before .before .before .pre .1 .0) (c .before .before .before .before .before .before .before .pre .1 .1) (omega (arith, size-few (c .before .before .before .before .before .before .before .args .seg .now) (c .before .before .before .before .before .before .before .pre .0 .2) (c .before .before .before .before .before .before .before .args .a) (c .before .before .before .before .before .before .before .pre .0 .0), size-few (c .before .before .before .before .before .before .before .args .seg .now) (c .before .before .before .before .before .before .before .pre .0 .2) (c .before .before .before .before .before .before .before .args .b) (c .before .before .before .before .before .before .before .pre .0 .1)))) (vector-long (a .seg .now) 2 (held (a .seg .now) (a .a) .ravel ++ held (a .seg .now) (a .b) .ravel) (a .next .0) (simp length-append (omega arith)))
 
 copy-ravel-requires : tie.Need-copy-ravel-requires
 copy-ravel-requires c κs = search needs
@@ -75,7 +75,7 @@ returns-2 : tie.Need-returns-2
 returns-2 c =
     let a = c .before .before .before .before .before .before .before .before .before .before .before .before .before .before .before .before .before .before .before .before .before .before .args in
     let both = fronts-joined _ _ _ _ _ _ (front-at _ _ _ (c .before .before .before .before .before .before .before .before .before .before .before .before .copy-ravel .ensures) _ (c .before .before .before .before .before .before .before .before .before .before .before .before .before .before .before .before .before .before .size-of .ensures)) (front-more _ _ _ (front-at _ _ _ (c .before .before .before .before .before .before .before .copy-ravel2 .ensures) _ (c .before .before .before .before .before .before .before .before .before .before .before .before .before .before .before .before .size-of2 .ensures)) _) in
-    (c .before .before .replace-by-vector .ensures) ∙ ap (λ (words : List ℕ). carry (a .seg .now) (plan.replaceBy (a .next) 2 (gives (values.vector words)))) (both .first) ∙ ap (λ (r : OrTrap values.Value). carry (a .seg .now) (plan.replaceBy (a .next) 2 r)) (sym (catenate-joined (held (a .seg .now) (a .a)) (held (a .seg .now) (a .b)) (c .before .before .before .before .before .before .before .before .before .before .before .before .before .before .before .before .before .before .before .before .before .before .pre .1 .0) (c .before .before .before .before .before .before .before .before .before .before .before .before .before .before .before .before .before .before .before .before .before .before .pre .1 .1) (omega (arith, size-few (c .before .before .before .before .before .before .before .before .before .before .before .before .before .before .before .before .before .before .before .before .before .before .args .seg .now) (c .before .before .before .before .before .before .before .before .before .before .before .before .before .before .before .before .before .before .before .before .before .before .pre .0 .2) (c .before .before .before .before .before .before .before .before .before .before .before .before .before .before .before .before .before .before .before .before .before .before .args .a) (c .before .before .before .before .before .before .before .before .before .before .before .before .before .before .before .before .before .before .before .before .before .before .pre .0 .0), size-few (c .before .before .before .before .before .before .before .before .before .before .before .before .before .before .before .before .before .before .before .before .before .before .args .seg .now) (c .before .before .before .before .before .before .before .before .before .before .before .before .before .before .before .before .before .before .before .before .before .before .pre .0 .2) (c .before .before .before .before .before .before .before .before .before .before .before .before .before .before .before .before .before .before .before .before .before .before .args .b) (c .before .before .before .before .before .before .before .before .before .before .before .before .before .before .before .before .before .before .before .before .before .before .pre .0 .1)))))
+    (c .before .before .replace-by-vector .ensures) ∙ ap (λ (words : List ℕ). carry (a .seg .now) (plan.replaceBy (a .next .0) 2 (gives (values.vector words)))) (both .first) ∙ ap (λ (r : OrTrap values.Value). carry (a .seg .now) (plan.replaceBy (a .next .0) 2 r)) (sym (catenate-joined (held (a .seg .now) (a .a)) (held (a .seg .now) (a .b)) (c .before .before .before .before .before .before .before .before .before .before .before .before .before .before .before .before .before .before .before .before .before .before .pre .1 .0) (c .before .before .before .before .before .before .before .before .before .before .before .before .before .before .before .before .before .before .before .before .before .before .pre .1 .1) (omega (arith, size-few (c .before .before .before .before .before .before .before .before .before .before .before .before .before .before .before .before .before .before .before .before .before .before .args .seg .now) (c .before .before .before .before .before .before .before .before .before .before .before .before .before .before .before .before .before .before .before .before .before .before .pre .0 .2) (c .before .before .before .before .before .before .before .before .before .before .before .before .before .before .before .before .before .before .before .before .before .before .args .a) (c .before .before .before .before .before .before .before .before .before .before .before .before .before .before .before .before .before .before .before .before .before .before .pre .0 .0), size-few (c .before .before .before .before .before .before .before .before .before .before .before .before .before .before .before .before .before .before .before .before .before .before .args .seg .now) (c .before .before .before .before .before .before .before .before .before .before .before .before .before .before .before .before .before .before .before .before .before .before .pre .0 .2) (c .before .before .before .before .before .before .before .before .before .before .before .before .before .before .before .before .before .before .before .before .before .before .args .b) (c .before .before .before .before .before .before .before .before .before .before .before .before .before .before .before .before .before .before .before .before .before .before .pre .0 .1)))))
 
 pub join-spec : {M : Type 1} → statement M
 join-spec =

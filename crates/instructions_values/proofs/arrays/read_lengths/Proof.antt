@@ -62,7 +62,7 @@ same-length-3 c = search needs
 returns-2 : tie.Need-returns-2
 returns-2 c =
     let a = c .before .before .before .before .before .before .before .before .before .before .before .before .before .before .before .before .before .before .before .before .args in
-    (c .before .before .before .before .fill-shape .ensures) ∙ ap (λ (r : OrTrap values.Value). carry (a .seg .now) (plan.replaceBy (a .next) 2 r)) (reshape-lengths (held (a .seg .now) (a .a)) (held (a .seg .now) (a .b)) (c .before .before .before .before .before .before .before .before .before .before .before .before .before .before .before .before .before .before .before .before .pre .1 .0) (c .before .before .before .before .before .before .before .before .before .before .before .before .before .before .before .before .before .before .before .before .pre .1 .1) _ (rw (c .before .before .before .before .before .before .before .before .enum-told .given .1, ← front-count _ _ _ (c .before .before .before .before .before .before .before .before .before .before .before .before .before .before .before .copy-ravel .ensures), c .before .before .before .before .before .before .before .before .before .before .before .before .before .before .before .copy-ravel .ensures .first) at (c .before .before .before .before .before .before .before .before .before .before .before .lengths2 .ensures)))
+    (c .before .before .before .before .fill-shape .ensures) ∙ ap (λ (r : OrTrap values.Value). carry (a .seg .now) (plan.replaceBy (a .next .0) 2 r)) (reshape-lengths (held (a .seg .now) (a .a)) (held (a .seg .now) (a .b)) (c .before .before .before .before .before .before .before .before .before .before .before .before .before .before .before .before .before .before .before .before .pre .1 .0) (c .before .before .before .before .before .before .before .before .before .before .before .before .before .before .before .before .before .before .before .before .pre .1 .1) _ (rw (c .before .before .before .before .before .before .before .before .enum-told .given .1, ← front-count _ _ _ (c .before .before .before .before .before .before .before .before .before .before .before .before .before .before .before .copy-ravel .ensures), c .before .before .before .before .before .before .before .before .before .before .before .before .before .before .before .copy-ravel .ensures .first) at (c .before .before .before .before .before .before .before .before .before .before .before .lengths2 .ensures)))
 
 pub read-lengths-spec : {M : Type 1} → statement M
 read-lengths-spec =

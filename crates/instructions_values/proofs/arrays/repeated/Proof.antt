@@ -17,7 +17,7 @@ use Rattle.instructions_values.proofs.arrays.repeated.Tie as tie
 returns : tie.Need-returns
 returns c =
     let a = c .before .before .before .before .args in
-    repeated-long (a .lengths .now) (a .n) (c .before .before .before .before .pre .1 .0) (a .seg .now) (a .next) _ (c .before .before .before .before .pre .1 .1) (omega arith)
+    repeated-long (a .lengths .now) (a .n) (c .before .before .before .before .pre .1 .0) (a .seg .now) (a .next .0) _ (c .before .before .before .before .pre .1 .1) (omega arith)
 
 slice-relend-prefix-cycle-ravel : tie.Need-slice-relend-prefix-cycle-ravel
 slice-relend-prefix-cycle-ravel c = search needs
@@ -47,7 +47,7 @@ returns-2 : tie.Need-returns-2
 returns-2 c =
     let a = c .before .before .before .before .before .before .before .before .before .before .before .before .before .before .args in
     let words : c .before .before .before .before .before .before .before .cycle-ravel .last .1 .1 .0 ≡ values.cycle (a .n) (held (a .seg .now) (a .b) .ravel) = rw (← length-take-le (a .n) (a .scratch .now) (omega arith)) (c .before .before .before .before .before .before .before .cycle-ravel .ensures) in
-    (c .before .before .reshaped .ensures) ∙ ap (λ (words : List ℕ). carry (a .seg .now) (plan.replaceBy (a .next) 2 (gives (values.value (a .lengths .now) words)))) (written (c .before .before .before .before .before .before .before .before .before .before .before .before .before .before .args .n) (c .before .before .before .before .before .before .before .before .before .before .before .before .before .before .args .scratch .now) (c .before .before .before .before .before .before .before .cycle-ravel .last .1 .1 .0) (omega arith) (omega arith) ∙ words)
+    (c .before .before .reshaped .ensures) ∙ ap (λ (words : List ℕ). carry (a .seg .now) (plan.replaceBy (a .next .0) 2 (gives (values.value (a .lengths .now) words)))) (written (c .before .before .before .before .before .before .before .before .before .before .before .before .before .before .args .n) (c .before .before .before .before .before .before .before .before .before .before .before .before .before .before .args .scratch .now) (c .before .before .before .before .before .before .before .cycle-ravel .last .1 .1 .0) (omega arith) (omega arith) ∙ words)
 
 pub repeated-spec : {M : Type 1} → statement M
 repeated-spec =

@@ -51,7 +51,7 @@ returns : tie.Need-returns
 returns c =
     let a = c .before .before .before .before .before .before .before .before .before .before .before .before .before .args in
     let h = rw (c .before .class .given .1) at (conformed (a .seg .now) (a .first .0) (a .second .0) (c .before .before .before .conform .result) _ _ _ _ (c .before .before .before .before .before .lengths-of .ensures) (c .before .before .before .before .lengths-of2 .ensures) (c .before .before .before .before .before .before .before .before .before .elements-of .ensures) (c .before .before .before .before .before .before .before .elements-of2 .ensures) (c .before .before .before .conform .ensures)) in
-    ap (carry (a .seg .now)) (sym (dyadic-refused (a .next) (a .op) (held (a .seg .now) (Array (a .first))) (held (a .seg .now) (Array (a .second))) _ _ h))
+    ap (carry (a .seg .now)) (sym (dyadic-refused (a .next .0) (a .op) (held (a .seg .now) (Array (a .first))) (held (a .seg .now) (Array (a .second))) _ _ h))
 
 same-length-2 : tie.Need-same-length-2
 same-length-2 c = search needs
@@ -63,7 +63,7 @@ returns-2 : tie.Need-returns-2
 returns-2 c =
     let a = c .before .before .before .before .before .before .before .before .before .before .before .before .before .before .before .before .before .before .before .args in
     let h = rw (c .before .before .before .before .before .before .before .enum-told .given .1) at (conformed (a .seg .now) (a .first .0) (a .second .0) (c .before .before .before .before .before .before .before .before .before .conform .result) _ _ _ _ (c .before .before .before .before .before .before .before .before .before .before .before .lengths-of .ensures) (c .before .before .before .before .before .before .before .before .before .before .lengths-of2 .ensures) (c .before .before .before .before .before .before .before .before .before .before .before .before .before .before .before .elements-of .ensures) (c .before .before .before .before .before .before .before .before .before .before .before .before .before .elements-of2 .ensures) (c .before .before .before .before .before .before .before .before .before .conform .ensures)) in
-    (c .before .before .before .before .paired .ensures) ∙ ap (carry (a .seg .now)) (sym (dyadic-shaped (a .next) (a .op) (held (a .seg .now) (Array (a .first))) (held (a .seg .now) (Array (a .second))) _ (ranked _ _ (c .before .before .before .before .before .before .before .before .before .before .before .before .before .before .before .before .before .before .before .pre .0)) h))
+    (c .before .before .before .before .paired .ensures) ∙ ap (carry (a .seg .now)) (sym (dyadic-shaped (a .next .0) (a .op) (held (a .seg .now) (Array (a .first))) (held (a .seg .now) (Array (a .second))) _ (ranked _ _ (c .before .before .before .before .before .before .before .before .before .before .before .before .before .before .before .before .before .before .before .pre .0)) h))
 
 same-length-4 : tie.Need-same-length-4
 same-length-4 c = search needs
@@ -75,7 +75,7 @@ returns-3 : tie.Need-returns-3
 returns-3 c =
     let a = c .before .before .before .before .before .before .before .before .before .before .before .before .before .before .before .before .before .before .before .args in
     let h = rw (c .before .before .before .before .before .before .before .enum-told2 .given .1) at (conformed (a .seg .now) (a .first .0) (a .second .0) (c .before .before .before .before .before .before .before .before .before .conform .result) _ _ _ _ (c .before .before .before .before .before .before .before .before .before .before .before .lengths-of .ensures) (c .before .before .before .before .before .before .before .before .before .before .lengths-of2 .ensures) (c .before .before .before .before .before .before .before .before .before .before .before .before .before .before .before .elements-of .ensures) (c .before .before .before .before .before .before .before .before .before .before .before .before .before .elements-of2 .ensures) (c .before .before .before .before .before .before .before .before .before .conform .ensures)) in
-    (c .before .before .before .before .paired2 .ensures) ∙ ap (carry (a .seg .now)) (sym (dyadic-shaped (a .next) (a .op) (held (a .seg .now) (Array (a .first))) (held (a .seg .now) (Array (a .second))) _ (ranked _ _ (c .before .before .before .before .before .before .before .before .before .before .before .before .before .before .before .before .before .before .before .pre .1)) h))
+    (c .before .before .before .before .paired2 .ensures) ∙ ap (carry (a .seg .now)) (sym (dyadic-shaped (a .next .0) (a .op) (held (a .seg .now) (Array (a .first))) (held (a .seg .now) (Array (a .second))) _ (ranked _ _ (c .before .before .before .before .before .before .before .before .before .before .before .before .before .before .before .before .before .before .before .pre .1)) h))
 
 pub array-array-spec : {M : Type 1} → statement M
 array-array-spec =

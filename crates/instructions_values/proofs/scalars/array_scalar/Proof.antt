@@ -38,7 +38,7 @@ returns : tie.Need-returns
 returns c =
     let a = c .before .before .before .before .before .before .before .before .before .before .before .before .before .before .args in
     let v = held (a .seg .now) (Array (a .first)) in
-    rw (dyadic-shaped (a .next) (a .op) v (values.scalar (a .y)) (v .shape) (ranked _ _ (c .before .before .before .before .before .before .before .before .before .before .before .before .before .before .pre .0)) (scalar-second v (ranked _ _ (c .before .before .before .before .before .before .before .before .before .before .before .before .before .before .pre .0))), ← c .before .before .before .before .before .before .before .before .before .before .elements-of .ensures, ← c .before .before .before .before .before .before .before .dyadic .ensures, extent-second) (c .before .before .replace-by-elements .ensures)
+    rw (dyadic-shaped (a .next .0) (a .op) v (values.scalar (a .y)) (v .shape) (ranked _ _ (c .before .before .before .before .before .before .before .before .before .before .before .before .before .before .pre .0)) (scalar-second v (ranked _ _ (c .before .before .before .before .before .before .before .before .before .before .before .before .before .before .pre .0))), ← c .before .before .before .before .before .before .before .before .before .before .elements-of .ensures, ← c .before .before .before .before .before .before .before .dyadic .ensures, extent-second) (c .before .before .replace-by-elements .ensures)
 
 pub array-scalar-spec : {M : Type 1} → statement M
 array-scalar-spec =

@@ -42,7 +42,7 @@ same-length c = search needs
 returns : tie.Need-returns
 returns c =
     let a = c .before .before .before .before .before .before .before .before .before .before .before .before .before .args in
-    rw (c .before .before .before .before .before .before .before .before .before .a .given .1, c .before .before .before .before .before .before .b .given .1, dyadic-scalars (a .next) (a .op) (c .before .before .before .before .before .before .before .before .before .a .given .0 .0) (c .before .before .before .before .before .before .b .given .0 .0), ← c .before .before .before .dyadic .ensures) (c .before .before .replace-by-answer .ensures)
+    rw (c .before .before .before .before .before .before .before .before .before .a .given .1, c .before .before .before .before .before .before .b .given .1, dyadic-scalars (a .next .0) (a .op) (c .before .before .before .before .before .before .before .before .before .a .given .0 .0) (c .before .before .before .before .before .before .b .given .0 .0), ← c .before .before .before .dyadic .ensures) (c .before .before .replace-by-answer .ensures)
 
 same-length-2 : tie.Need-same-length-2
 same-length-2 c = search needs

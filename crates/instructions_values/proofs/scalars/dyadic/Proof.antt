@@ -1,103 +1,31 @@
-use native.Mathlib.Omega.{arith}
-use mathlib.Core.Path.{sym, _∙_}
+use mathlib.Core.Path.{_∙_}
 use Rattle.manual.specs.Scalars as plan
-use Rattle.manual.specs.Values as values
-use Rattle.instructions_values.proofs.Taking.{two-missing, two-first-other, two-second-other, two-values, readable}
+use Rattle.instructions_values.proofs.Taking.{two-stop, two-go}
 use borrow.Author.Needs.{needs}
 use Rattle.instructions_values.proofs.scalars.dyadic.Statement.{statement}
 use Rattle.instructions_values.proofs.scalars.dyadic.Tie as tie
 
-count-requires : tie.Need-count-requires
-count-requires c κs = search needs
-
-same-length : tie.Need-same-length
-same-length c = search needs
+combine-requires : tie.Need-combine-requires
+combine-requires c κs = let both = c .before .before .before .before .before .both-values .ensures .readable _ _ (c .before .before .before .a .given .1) in (both .0, both .1, search needs, search needs)
 
 returns : tie.Need-returns
 unfolding plan.dyadic
-returns c =
-    let a = c .before .before .before .before .before .args in
-    two-missing (a .seg .now) (a .next) (values.dyadic (a .op)) (omega arith)
-
-operand-at-requires : tie.Need-operand-at-requires
-operand-at-requires c κs = search needs
-
-value-of-requires : tie.Need-value-of-requires
-value-of-requires c κs = search needs
-
-enum-known-a : tie.Need-enum-known-a
-enum-known-a c = search needs
-
-enum-told : tie.Need-enum-told
-enum-told c = search needs
-
-same-length-2 : tie.Need-same-length-2
-same-length-2 c = search needs
+returns c = two-stop (c .before .before .before .both-values .ensures) (c .before .class .given .1) _
 
 returns-2 : tie.Need-returns-2
 unfolding plan.dyadic
-returns-2 c =
-    let a = c .before .before .before .before .before .before .before .before .before .before .args in
-    two-first-other (a .seg .now) (a .next) (values.dyadic (a .op)) (omega arith) (cc)
-
-operand-at-requires-2 : tie.Need-operand-at-requires-2
-operand-at-requires-2 c κs = search needs
-
-value-of-requires-2 : tie.Need-value-of-requires-2
-value-of-requires-2 c κs = search needs
-
-enum-known-b : tie.Need-enum-known-b
-enum-known-b c = search needs
-
-enum-told-2 : tie.Need-enum-told-2
-enum-told-2 c = search needs
-
-same-length-3 : tie.Need-same-length-3
-same-length-3 c = search needs
-
-returns-3 : tie.Need-returns-3
-unfolding plan.dyadic
-returns-3 c =
-    let a = c .before .before .before .before .before .before .before .before .before .before .before .before .before .before .before .before .args in
-    two-second-other (a .seg .now) (a .next) (values.dyadic (a .op)) (omega arith) (c .before .before .before .before .before .before .a .given .0 .0) (cc) (cc)
-
-combine-requires : tie.Need-combine-requires
-combine-requires c κs =
-    let s = c .before .before .before .before .before .before .before .before .before .before .before .before .before .before .before .before .before .before .before .args .seg .now in
-    (readable s (c .before .before .before .before .before .before .before .before .before .before .before .before .operand-at .result) _ (sym (c .before .before .before .before .before .before .before .before .before .before .before .value-of .ensures) ∙ c .before .before .before .before .before .before .before .before .before .a .given .1), readable s (c .before .before .before .before .before .before .operand-at2 .result) _ (sym (c .before .before .before .before .before .value-of2 .ensures) ∙ c .before .before .before .b .given .1), search needs, search needs)
-
-same-length-4 : tie.Need-same-length-4
-same-length-4 c = search needs
-
-same-length-5 : tie.Need-same-length-5
-same-length-5 c = search needs
-
-returns-4 : tie.Need-returns-4
-unfolding plan.dyadic
-returns-4 c =
-    let a = c .before .before .before .before .before .before .before .before .before .before .before .before .before .before .before .before .before .before .before .before .before .before .before .before .args in
-    (c .before .before .before .before .combine .ensures) ∙ two-values (a .seg .now) (a .next) (values.dyadic (a .op)) (omega arith) (c .before .before .before .before .before .before .before .before .before .before .before .before .before .before .a .given .0 .0) (cc) (c .before .before .before .before .before .before .before .before .b .given .0 .0) (cc)
+returns-2 c = (c .before .before .before .before .combine .ensures) ∙ two-go (c .before .before .before .before .before .before .before .before .before .before .both-values .ensures) (c .before .before .before .before .before .before .before .before .a .given .1) _
 
 pub dyadic-spec : {M : Type 1} → statement M
 dyadic-spec =
     tie.close
     (tie.spec
-    count-requires
-    same-length
-    returns
-    operand-at-requires
-    value-of-requires
-    enum-known-a
-    enum-told
-    same-length-2
-    returns-2
-    operand-at-requires-2
-    value-of-requires-2
-    enum-known-b
-    enum-told-2
-    same-length-3
-    returns-3
+    (λ c κs. search needs)
+    (λ c. search needs)
+    (λ c. search needs)
     combine-requires
-    same-length-4
-    same-length-5
-    returns-4)
+    (λ c. search needs)
+    returns
+    (λ c. search needs)
+    (λ c. search needs)
+    returns-2)

@@ -34,7 +34,7 @@ returns : tie.Need-returns
 returns c =
     let s = c .before .before .before .before .before .before .before .before .before .before .before .before .before .args .seg .now in
     let block = c .before .before .before .before .before .before .before .before .before .before .before .before .before .args .block in
-    rw (monadic-array (c .before .before .before .before .before .before .before .before .before .before .before .before .before .args .next) (c .before .before .before .before .before .before .before .before .before .before .before .before .before .args .op) (held s (Array block)) (ranked _ _ (c .before .before .before .before .before .before .before .before .before .before .before .before .before .pre .0)), ← c .before .before .before .before .before .before .before .before .before .elements-of .ensures, ← c .before .before .before .before .before .before .before .monadic .ensures) (c .before .before .replace-by-elements .ensures)
+    rw (monadic-array (c .before .before .before .before .before .before .before .before .before .before .before .before .before .args .next .0) (c .before .before .before .before .before .before .before .before .before .before .before .before .before .args .op) (held s (Array block)) (ranked _ _ (c .before .before .before .before .before .before .before .before .before .before .before .before .before .pre .0)), ← c .before .before .before .before .before .before .before .before .before .elements-of .ensures, ← c .before .before .before .before .before .before .before .monadic .ensures) (c .before .before .replace-by-elements .ensures)
 
 pub monadic-array-spec : {M : Type 1} → statement M
 monadic-array-spec =

@@ -38,7 +38,7 @@ returns : tie.Need-returns
 returns c =
     let a = c .before .before .before .before .before .before .before .before .before .before .before .before .before .before .args in
     let v = held (a .seg .now) (Array (a .second)) in
-    rw (dyadic-shaped (a .next) (a .op) (values.scalar (a .x)) v (v .shape) (ranked _ _ (c .before .before .before .before .before .before .before .before .before .before .before .before .before .before .pre .0)) (scalar-first v (ranked _ _ (c .before .before .before .before .before .before .before .before .before .before .before .before .before .before .pre .0))), ← c .before .before .before .before .before .before .before .before .before .before .elements-of .ensures, ← c .before .before .before .before .before .before .before .dyadic .ensures) (c .before .before .replace-by-elements .ensures)
+    rw (dyadic-shaped (a .next .0) (a .op) (values.scalar (a .x)) v (v .shape) (ranked _ _ (c .before .before .before .before .before .before .before .before .before .before .before .before .before .before .pre .0)) (scalar-first v (ranked _ _ (c .before .before .before .before .before .before .before .before .before .before .before .before .before .before .pre .0))), ← c .before .before .before .before .before .before .before .before .before .before .elements-of .ensures, ← c .before .before .before .before .before .before .before .dyadic .ensures) (c .before .before .replace-by-elements .ensures)
 
 pub scalar-array-spec : {M : Type 1} → statement M
 scalar-array-spec =

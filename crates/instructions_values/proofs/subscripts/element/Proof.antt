@@ -19,7 +19,7 @@ same-length c = search needs
 returns : tie.Need-returns
 returns c =
     let a = c .before .before .before .before .before .args in
-    rw (← indexed-unlike (iorg (flags (a .seg .now))) (a .next) (a .subscripts .now) (held (a .seg .now) (Array (a .block))) (rw (← c .before .lengths-of .ensures) (c .if1 .taken)))
+    rw (← indexed-unlike (iorg (flags (a .seg .now))) (a .next .0) (a .subscripts .now) (held (a .seg .now) (Array (a .block))) (rw (← c .before .lengths-of .ensures) (c .if1 .taken)))
 
 iorg-requires : tie.Need-iorg-requires
 iorg-requires c κs = search needs
@@ -60,7 +60,7 @@ same-length-2 c = search needs
 returns-2 : tie.Need-returns-2
 returns-2 c =
     let a = c .before .before .before .before .before .before .before .before .before .before .args in
-    rw (← indexed-trap (iorg (flags (a .seg .now))) (a .next) (a .subscripts .now) (held (a .seg .now) (Array (a .block))) (c .before .before .before .before .before .if1 .left ∙ ap length (c .before .before .before .before .before .before .lengths-of .ensures)) _ _ (rw (c .before .class .given .1, c .before .before .before .before .iorg .ensures, c .before .before .before .before .before .before .lengths-of .ensures) at (c .before .before .before .place .ensures)))
+    rw (← indexed-trap (iorg (flags (a .seg .now))) (a .next .0) (a .subscripts .now) (held (a .seg .now) (Array (a .block))) (c .before .before .before .before .before .if1 .left ∙ ap length (c .before .before .before .before .before .before .lengths-of .ensures)) _ _ (rw (c .before .class .given .1, c .before .before .before .before .iorg .ensures, c .before .before .before .before .before .before .lengths-of .ensures) at (c .before .before .before .place .ensures)))
 
 same-length-3 : tie.Need-same-length-3
 same-length-3 c = search needs
@@ -68,7 +68,7 @@ same-length-3 c = search needs
 returns-3 : tie.Need-returns-3
 returns-3 c =
     let a = c .before .before .before .before .before .before .before .before .before .before .before .before .before .before .before .before .before .before .before .before .before .args in
-    rw (← indexed-at (iorg (flags (a .seg .now))) (a .next) (a .subscripts .now) (held (a .seg .now) (Array (a .block))) (c .before .before .before .before .before .before .before .before .before .before .before .before .before .before .before .before .if1 .left ∙ ap length (c .before .before .before .before .before .before .before .before .before .before .before .before .before .before .before .before .before .lengths-of .ensures)) _ (rw (c .before .before .before .before .before .before .before .before .before .before .before .before .k .given .1, c .before .before .before .before .before .before .before .before .before .before .before .before .before .before .before .iorg .ensures, c .before .before .before .before .before .before .before .before .before .before .before .before .before .before .before .before .before .lengths-of .ensures) at (c .before .before .before .before .before .before .before .before .before .before .before .before .before .before .place .ensures))) (cc)
+    rw (← indexed-at (iorg (flags (a .seg .now))) (a .next .0) (a .subscripts .now) (held (a .seg .now) (Array (a .block))) (c .before .before .before .before .before .before .before .before .before .before .before .before .before .before .before .before .if1 .left ∙ ap length (c .before .before .before .before .before .before .before .before .before .before .before .before .before .before .before .before .before .lengths-of .ensures)) _ (rw (c .before .before .before .before .before .before .before .before .before .before .before .before .k .given .1, c .before .before .before .before .before .before .before .before .before .before .before .before .before .before .before .iorg .ensures, c .before .before .before .before .before .before .before .before .before .before .before .before .before .before .before .before .before .lengths-of .ensures) at (c .before .before .before .before .before .before .before .before .before .before .before .before .before .before .place .ensures))) (cc)
 
 pub element-spec : {M : Type 1} → statement M
 element-spec =
