@@ -9,7 +9,7 @@ use borrow.Rule.Slice.PartMut.{putMid}
 use Rattle.segment.proofs.Copies.{filled}
 
 -- a run written in two parts
-pub sets-append : (us vs s : List ℕ) (i e : ℕ) → i + length us ≡ e → sets s i (us ++ vs) ≡ sets (sets s i us) e vs
+sets-append : (us vs s : List ℕ) (i e : ℕ) → i + length us ≡ e → sets s i (us ++ vs) ≡ sets (sets s i us) e vs
 sets-append [] vs s i e ends = let same : i ≡ e = omega arith in rw same
 sets-append (u ∷ us) vs s i e ends = sets-append us vs (set s i u) (suc i) e (omega arith)
 

@@ -123,7 +123,7 @@ pub fn finish(seg: &mut [u32], b: SegmentAddress, w: u32)
 }
 
 // The cell of the lowest of n operands.
-pub fn bottom(seg: &[u32], n: u32) -> SegmentAddress
+fn bottom(seg: &[u32], n: u32) -> SegmentAddress
     ensures { λ r. ⌜ r .0 ≡ effect.bottomOf (now (seg .entry)) n ⌝ }
 {
     SegmentAddress::of(minus(top_cell(seg).number() + 1, n))
@@ -143,7 +143,7 @@ pub fn frame_cell(seg: &[u32]) -> SegmentAddress
 }
 
 // SBASE, LTOP and LBASE, which fit half a word each.
-pub fn base(seg: &[u32]) -> u16
+fn base(seg: &[u32]) -> u16
     ensures { λ r. ⌜ r ≡ fields.sbase (now (seg .entry)) ⌝ }
 {
     high(word(seg, 0))

@@ -2,20 +2,17 @@
 use Prim.Native.Nat.{ℕ, zero, suc, _+_, _*_, _%_, _^_, _≤_, _<_}
 use native.Mathlib.Nat.{mod-eq-of-lt}
 use native.Mathlib.Omega.{arith}
-use mathlib.Core.Path.{_≡_, refl, sym, ap, _∙_}
+use mathlib.Core.Path.{_≡_, sym, ap, _∙_}
 use mathlib.Core.List.{List, _++_}
 use lib.ListN.{getD, length, set, take}
 use lib.Seq.{take-at, length-take-le}
 use Rattle.procedure.specs.Bytes.{wordAt}
 use Rattle.manual.specs.Loads.{constantVector}
 use Rattle.manual.specs.Instructions.{wordsFrom}
+use Rattle.manual.proofs.Elements.{words-length}
 use Rattle.effects.specs.Seen.{seen}
 use Rattle.elements.proofs.Filling.{Filled, filled-on, filled-all}
 use Rattle.effects.specs.Carried.{carry}
-
-words-length : (n : ℕ) (code : List ℕ) (place : ℕ) → length (wordsFrom n code place) ≡ n
-words-length zero code place = refl
-words-length (suc n) code place = ap suc (words-length n code (place + 4))
 
 words-at : (n : ℕ) (code : List ℕ) (place i : ℕ) → i < n → getD (wordsFrom n code place) i 0 ≡ wordAt code (place + 4 * i)
 words-at zero code place i below = absurd (omega arith)
