@@ -2,25 +2,17 @@
 use std::time::Instant;
 
 extern "C" {
-    fn scalar_sums(a: *const u32, n: usize, b: *const u32, m: usize, out: *mut u32, k: usize) -> usize;
-    fn scalar_products(a: *const u32, n: usize, b: *const u32, m: usize, out: *mut u32, k: usize) -> usize;
-    fn scalar_quotients(a: *const u32, n: usize, b: *const u32, m: usize, out: *mut u32, k: usize) -> usize;
-    fn scalar_lesses(a: *const u32, n: usize, b: *const u32, m: usize, out: *mut u32, k: usize) -> usize;
+    fn scalar_dyadic(suboperation: u32, a: *const u32, n: usize, b: *const u32, m: usize, out: *mut u32, k: usize) -> usize;
 }
 
-macro_rules! proved {
-    ($name:ident, $foreign:ident) => {
-        fn $name(a: &[u32], b: &[u32], out: &mut [u32]) -> usize {
-            assert!(a.len() == b.len() && a.len() == out.len());
-            unsafe { $foreign(a.as_ptr(), a.len(), b.as_ptr(), b.len(), out.as_mut_ptr(), out.len()) }
-        }
-    };
-}
+const SUM: u32 = 8;
+const PRODUCT: u32 = 10;
+const QUOTIENT: u32 = 11;
+const LESS: u32 = 14;
 
-proved!(proved_sums, scalar_sums);
-proved!(proved_products, scalar_products);
-proved!(proved_quotients, scalar_quotients);
-proved!(proved_lesses, scalar_lesses);
+fn proved(suboperation: u32, a: &[u32], b: &[u32], out: &mut [u32]) -> usize {
+    unsafe { scalar_dyadic(suboperation, a.as_ptr(), a.len(), b.as_ptr(), b.len(), out.as_mut_ptr(), out.len()) }
+}
 
 mod plain {
     pub type Answer = Result<u32, (u8, u8)>;
@@ -158,38 +150,33 @@ mod plain {
     }
 }
 
-macro_rules! plain {
-    ($name:ident, $operator:path) => {
-        #[inline(never)]
-        fn $name(a: &[u32], b: &[u32], out: &mut [u32]) -> usize {
-            let mut traps = 0;
-            for ((a, b), out) in a.iter().zip(b).zip(out) {
-                match $operator(*a, *b) {
-                    Ok(w) => *out = w,
-                    Err(_) => traps += 1,
-                }
-            }
-            traps
+#[inline(never)]
+fn plainly(suboperation: u32, a: &[u32], b: &[u32], out: &mut [u32]) -> usize {
+    let mut traps = 0;
+    for ((a, b), out) in a.iter().zip(b).zip(out) {
+        let answer = match suboperation {
+            SUM => plain::sum(*a, *b),
+            PRODUCT => plain::product(*a, *b),
+            QUOTIENT => plain::quotient(*a, *b),
+            _ => plain::less(*a, *b),
+        };
+        match answer {
+            Ok(w) => *out = w,
+            Err(_) => traps += 1,
         }
-    };
+    }
+    traps
 }
 
-plain!(plain_sums, plain::sum);
-plain!(plain_products, plain::product);
-plain!(plain_quotients, plain::quotient);
-plain!(plain_lesses, plain::less);
-
-type Loop = fn(&[u32], &[u32], &mut [u32]) -> usize;
-
 /// The least time of an element, in nanoseconds, over many short runs of each, one after the other.
-fn race(proved: Loop, plain: Loop, a: &[u32], b: &[u32]) -> (f64, f64) {
+fn race(suboperation: u32, a: &[u32], b: &[u32]) -> (f64, f64) {
     let mut out = [vec![0; a.len()], vec![0; a.len()]];
     let mut best = [f64::MAX; 2];
     let mut traps = [0; 2];
     for _ in 0..400 {
-        for (k, run) in [proved, plain].into_iter().enumerate() {
+        for (k, run) in [proved, plainly].into_iter().enumerate() {
             let start = Instant::now();
-            traps[k] = run(a, b, &mut out[k]);
+            traps[k] = run(suboperation, a, b, &mut out[k]);
             best[k] = best[k].min(start.elapsed().as_nanos() as f64 / a.len() as f64);
         }
     }
@@ -210,20 +197,20 @@ fn main() {
     let factor = |r: u32, s: u32| if r % 2048 == 0 { 0 } else { r % 2048 | s & 0x8000_0000 };
     let float = |r: u32, s: u32| 0x4000_0000 | r & 0x803F_FFFF | (118 + s % 20) << 22;
     let mixed = |r: u32, s: u32| if s & 4 == 0 { r % 4_000_000 } else { 0x4000_0000 | r & 0x803F_FFFF | (140 + s / 8 % 8) << 22 };
-    let rows: [(&str, Loop, Loop, Vec<u32>, Vec<u32>, &str); 9] = [
-        ("SUM of integers", proved_sums, plain_sums, words(integer), words(integer), "1.5"),
-        ("PRODUCT of integers", proved_products, plain_products, words(factor), words(factor), ""),
-        ("LESS of integers", proved_lesses, plain_lesses, words(integer), words(integer), ""),
-        ("SUM of floats", proved_sums, plain_sums, words(float), words(float), "2.0"),
-        ("PRODUCT of floats", proved_products, plain_products, words(float), words(float), "2.0"),
-        ("QUOTIENT of floats", proved_quotients, plain_quotients, words(float), words(float), "2.0"),
-        ("QUOTIENT of integers", proved_quotients, plain_quotients, words(integer), words(integer), ""),
-        ("LESS of floats", proved_lesses, plain_lesses, words(float), words(float), ""),
-        ("SUM of mixed numbers", proved_sums, plain_sums, words(mixed), words(mixed), ""),
+    let rows: [(&str, u32, Vec<u32>, Vec<u32>, &str); 9] = [
+        ("SUM of integers", SUM, words(integer), words(integer), "1.5"),
+        ("PRODUCT of integers", PRODUCT, words(factor), words(factor), ""),
+        ("LESS of integers", LESS, words(integer), words(integer), ""),
+        ("SUM of floats", SUM, words(float), words(float), "2.0"),
+        ("PRODUCT of floats", PRODUCT, words(float), words(float), "2.0"),
+        ("QUOTIENT of floats", QUOTIENT, words(float), words(float), "2.0"),
+        ("QUOTIENT of integers", QUOTIENT, words(integer), words(integer), ""),
+        ("LESS of floats", LESS, words(float), words(float), ""),
+        ("SUM of mixed numbers", SUM, words(mixed), words(mixed), ""),
     ];
     println!("{:24} {:>10} {:>10} {:>8} {:>8}", "ns an element", "proved", "plain", "ratio", "target");
-    for (name, proved, plain, a, b, target) in rows {
-        let (x, y) = race(proved, plain, &a, &b);
+    for (name, suboperation, a, b, target) in rows {
+        let (x, y) = race(suboperation, &a, &b);
         println!("{name:24} {x:10.2} {y:10.2} {:8.2} {target:>8}", x / y);
     }
 }

@@ -1,57 +1,30 @@
-// Loops of scalar operators over lent words, for a program in another language to time (bench/scalar). Results go to `out`;
-// the answer is how many elements trapped, whose place in `out` is left as it was.
+// The scalar operators over lent words, for a program in another language to time (bench/scalar). Results go to `out`; the
+// answer is how many elements trapped, whose place in `out` is left as it was. Slices of other lengths than `a` are left alone.
 ghost use Prim.Native.Nat.{_≤_, _<_};
 ghost use mathlib.Core.Path.{_≡_};
 ghost use lib.ListN.{length};
+use crate::suboperation::dyadic_of;
+use operator::Dyadic;
 use scalar::Answer;
 
 #[no_mangle]
-pub extern "C" fn scalar_sums(a: &[u32], b: &[u32], out: &mut [u32]) -> usize
-    requires { ⌜ (length (now b) ≡ length (now a)) × (length (now out) ≡ length (now a)) ⌝ }
-{
-    let mut traps: usize = 0;
-    let mut i = 0;
-    while i < a.len() {
-        traps += put(out, i, scalar::sum(a[i], b[i]));
-        i += 1;
+pub extern "C" fn scalar_dyadic(suboperation: u32, a: &[u32], b: &[u32], out: &mut [u32]) -> usize {
+    if b.len() != a.len() {
+        return 0;
     }
-    traps
+    if out.len() != a.len() {
+        return 0;
+    }
+    each(dyadic_of(suboperation), a, b, out)
 }
 
-#[no_mangle]
-pub extern "C" fn scalar_products(a: &[u32], b: &[u32], out: &mut [u32]) -> usize
+fn each(operator: Dyadic, a: &[u32], b: &[u32], out: &mut [u32]) -> usize
     requires { ⌜ (length (now b) ≡ length (now a)) × (length (now out) ≡ length (now a)) ⌝ }
 {
     let mut traps: usize = 0;
     let mut i = 0;
     while i < a.len() {
-        traps += put(out, i, scalar::product(a[i], b[i]));
-        i += 1;
-    }
-    traps
-}
-
-#[no_mangle]
-pub extern "C" fn scalar_quotients(a: &[u32], b: &[u32], out: &mut [u32]) -> usize
-    requires { ⌜ (length (now b) ≡ length (now a)) × (length (now out) ≡ length (now a)) ⌝ }
-{
-    let mut traps: usize = 0;
-    let mut i = 0;
-    while i < a.len() {
-        traps += put(out, i, scalar::quotient(a[i], b[i]));
-        i += 1;
-    }
-    traps
-}
-
-#[no_mangle]
-pub extern "C" fn scalar_lesses(a: &[u32], b: &[u32], out: &mut [u32]) -> usize
-    requires { ⌜ (length (now b) ≡ length (now a)) × (length (now out) ≡ length (now a)) ⌝ }
-{
-    let mut traps: usize = 0;
-    let mut i = 0;
-    while i < a.len() {
-        traps += put(out, i, scalar::less(a[i], b[i]));
+        traps += put(out, i, scalar::dyadic(operator, a[i], b[i]));
         i += 1;
     }
     traps

@@ -8,13 +8,13 @@ use crate::arguments::takes;
 use crate::session::first_words;
 use crate::session::least;
 use crate::session::words_from;
-use operations::Answer;
-use operations::Looked;
-use operations::Run;
 use line_tool::explain::Last;
 use line_tool::list::Listed;
 use line_tool::list::numbers_at;
 use line_tool::number::Base;
+use operations::Answer;
+use operations::Looked;
+use operations::Run;
 use segment::word;
 
 pub fn lay_out(

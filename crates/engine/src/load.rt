@@ -6,13 +6,13 @@ ghost use Rattle.audit.specs.Calls as call;
 ghost use Rattle.audit.specs.Did.{Promised};
 use descriptor::Target;
 use descriptor::address::SegmentAddress;
+use effects_code::Done;
+use effects_code::storing::store_array;
+use effects_code::storing::store_share;
 use operation_parts::tests::is_global;
 use operation_parts::tests::is_value;
 use operation_parts::tests::refusal_of;
 use operations::Answer;
-use effects_code::Done;
-use effects_code::storing::store_array;
-use effects_code::storing::store_share;
 
 pub fn load(
     seg: &mut [u32],

@@ -3,10 +3,10 @@ ghost use mathlib.Core.Path.{_≡_};
 ghost use Rattle.operations.specs.Run.{ended, ran};
 ghost use Rattle.audit.specs.Calls as call;
 ghost use Rattle.audit.specs.Did.{Promised};
+use effects::Ran;
 use operation_parts::tests::refusal_of;
 use operations::Run;
 use segment::put;
-use effects::Ran;
 
 pub fn run(seg: &mut [u32], regular: &[u8], alternate: &[u8], budget: u32) -> Run
     ensures { λ r. ⌜ ended r (now (seg .exit)) ≡ ran (now (seg .entry)) (now (regular .entry)) (now (alternate .entry)) budget ⌝ }

@@ -4,4 +4,4 @@ pub mod Numerals
 pub mod Putting
 pub mod Listing
 pub mod Sameness
-pub mod Tables
+pub mod Entries

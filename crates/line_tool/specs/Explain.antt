@@ -16,7 +16,7 @@ abbrev pub lookup : ℕ → List (ℕ × String) → String → String
 lookup n [] none = none
 lookup n (entry ∷ table) none = cond (eqb n (entry .0)) (entry .1) (lookup n table none)
 
--- The statuses of a run and the refusals of every operation.
+-- The statuses of a run, and the refusals of every operation.
 abbrev pub statuses : List (ℕ × String)
 statuses =
     (0, "done")
@@ -31,12 +31,7 @@ statuses =
     ∷ (16, "a frame is wrong")
     ∷ (17, "a cell's kind or target is wrong")
     ∷ (18, "a count is zero or not the number of cells pointing to the array")
-    ∷ []
-
--- The refusals of lay out, load and look alone.
-abbrev pub laterStatuses : List (ℕ × String)
-laterStatuses =
-    (19, "globals above 4088, array words below 6, or the parts and the bottom frame exceed the words lent")
+    ∷ (19, "globals above 4088, array words below 6, or the parts and the bottom frame exceed the words lent")
     ∷ (20, "the function is absent or has arguments")
     ∷ (21, "the address is no global")
     ∷ (22, "the global is undefined")
@@ -44,13 +39,10 @@ laterStatuses =
     ∷ (24, "no free block is long enough")
     ∷ []
 
-unfoldable pub laterWords : ℕ → String
-laterWords n = lookup n laterStatuses "no such status"
-
 unfoldable pub statusWords : ℕ → String
-statusWords n = lookup n statuses (laterWords n)
+statusWords n = lookup n statuses "no such status"
 
--- Traps as word 3 has them, the class in the high byte and the number in the low one: storage, debugging and attention.
+-- Traps as word 3 has them, the class in the high byte and the number in the low one.
 abbrev pub traps : List (ℕ × String)
 traps =
     (0x0101, "storage overflow: the stack is full")
@@ -59,13 +51,7 @@ traps =
     ∷ (0x0202, "debug: a function was called in call-trace mode")
     ∷ (0x0203, "debug: a function was left in return-trace mode")
     ∷ (0x0204, "debug: a breakpoint")
-    ∷ (0x0400, "attention")
-    ∷ []
-
--- System errors.
-abbrev pub systemTraps : List (ℕ × String)
-systemTraps =
-    (0x0301, "system error: code, a jump or a function outside its bounds")
+    ∷ (0x0301, "system error: code, a jump or a function outside its bounds")
     ∷ (0x0302, "system error: a local outside its frame")
     ∷ (0x0303, "system error: an address that is no global")
     ∷ (0x0304, "system error: an operand is missing, or CALL's NARGS is not the header's")
@@ -78,12 +64,8 @@ systemTraps =
     ∷ (0x030b, "system error: undefined ETC suboperation or first byte")
     ∷ (0x030c, "system error: temporaries left on return")
     ∷ (0x030d, "system error: a return from the bottom frame")
-    ∷ []
-
--- Operands, values, subscripts and variables.
-abbrev pub valueTraps : List (ℕ × String)
-valueTraps =
-    (0x0500, "rank error")
+    ∷ (0x0400, "attention")
+    ∷ (0x0500, "rank error")
     ∷ (0x0600, "length error")
     ∷ (0x0700, "type error: a character where a number is wanted")
     ∷ (0x0801, "domain error: integer overflow")
@@ -96,14 +78,8 @@ valueTraps =
     ∷ (0x0a00, "value error: an undefined variable or result")
     ∷ []
 
-unfoldable pub valueWords : ℕ → String
-valueWords word = lookup word valueTraps "no such trap"
-
-unfoldable pub systemWords : ℕ → String
-systemWords word = lookup word systemTraps (valueWords word)
-
 unfoldable pub trapWords : ℕ → String
-trapWords word = lookup word traps (systemWords word)
+trapWords word = lookup word traps "no such trap"
 
 unfoldable pub statusText : ℕ → List ℕ
 statusText n = bytes "status " ++ decimal n ++ bytes ": " ++ bytes (statusWords n)
@@ -131,11 +107,11 @@ unfolding lastText statusText statusWords decimal
 a-frame = refl
 
 undefined-global : lastText (Status 22) ≡ bytes "status 22: the global is undefined"
-unfolding lastText statusText statusWords laterWords decimal
+unfolding lastText statusText statusWords decimal
 undefined-global = refl
 
 no-status : lastText (Status 1) ≡ bytes "status 1: no such status"
-unfolding lastText statusText statusWords laterWords decimal
+unfolding lastText statusText statusWords decimal
 no-status = refl
 
 full : lastText (Trap 1 2) ≡ bytes "trap (1,2): storage overflow: no free block is long enough"
@@ -143,14 +119,14 @@ unfolding lastText trapText trapWords decimal
 full = refl
 
 bottom : lastText (Trap 3 13) ≡ bytes "trap (3,13): system error: a return from the bottom frame"
-unfolding lastText trapText trapWords systemWords decimal
+unfolding lastText trapText trapWords decimal
 bottom = refl
 
 by-zero : lastText (Trap 8 4) ≡ bytes "trap (8,4): domain error: division by zero"
-unfolding lastText trapText trapWords systemWords valueWords decimal
+unfolding lastText trapText trapWords decimal
 by-zero = refl
 
 -- A rank error has no number but 0.
 no-trap : lastText (Trap 5 1) ≡ bytes "trap (5,1): no such trap"
-unfolding lastText trapText trapWords systemWords valueWords decimal
+unfolding lastText trapText trapWords decimal
 no-trap = refl

@@ -25,6 +25,22 @@ words F.PastEnd = "past the end of the segment"
 words F.NoBar = "no bar | where the lengths end"
 words F.LongLine = "the line is too long, it begins with"
 
+-- The place of a fault among the others.
+unfoldable pub lineOf : Fault → ℕ
+lineOf F.NoCommand = 0
+lineOf F.Missing = 1
+lineOf F.Extra = 2
+lineOf F.NotDecimal = 3
+lineOf F.TooLarge = 4
+lineOf F.NotHex = 5
+lineOf F.TooLong = 6
+lineOf F.Odd = 7
+lineOf F.TooManyBytes = 8
+lineOf F.TooManyWords = 9
+lineOf F.PastEnd = 10
+lineOf F.NoBar = 11
+lineOf F.LongLine = 12
+
 -- A token of an error: its first 40 bytes.
 unfoldable pub shown : List ℕ → List ℕ
 shown token = cond (leb (length token) 40) token (take 40 token ++ bytes "..")

@@ -8,4 +8,5 @@ pub mod Commands
 pub mod Hash
 pub mod Writing
 pub mod Faults
+pub mod Tables
 pub mod Explain

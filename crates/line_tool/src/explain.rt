@@ -3,6 +3,8 @@ ghost use mathlib.Core.Path.{_≡_};
 ghost use Rattle.line_tool.specs.Text.{bytes};
 ghost use Rattle.line_tool.specs.Explain as meaning;
 ghost use Rattle.line_tool.specs.Writing.{wrote, writes};
+use crate::tables::place_of;
+use crate::tables::put_line;
 use crate::writing::put;
 use crate::writing::put_decimal;
 
@@ -43,132 +45,124 @@ fn put_trap(out: &mut [u8], at: usize, class: u8, n: u8) -> usize
     put_trap_words(out, e, class as u16 * 0x100 + n as u16)
 }
 
+// The statuses in order, as their texts stand below.
+const STATUSES: [u16; 18] = [
+    0,
+    2,
+    3,
+    10,
+    11,
+    12,
+    13,
+    14,
+    15,
+    16,
+    17,
+    18,
+    19,
+    20,
+    21,
+    22,
+    23,
+    24,
+];
+
 fn put_status_words(out: &mut [u8], at: usize, n: u8) -> usize
     ensures { λ r. ⌜ wrote r (now (out .exit)) ≡ writes (now (out .entry)) at (bytes (meaning.statusWords n)) ⌝ }
 {
-    match n {
-        0 => put(out, at, b"done"),
-        2 => put(out, at, b"the number of instructions asked was done"),
-        3 => put(out, at, b"a trap"),
-        10 => put(out, at, b"the data segment is not 32 to 16384 words long"),
-        11 => put(
-            out,
-            at,
-            b"a procedure segment is not 4 to 32768 bytes of whole words",
-        ),
-        12 => put(out, at, b"a directory or a function's header is wrong"),
-        13 => put(
-            out,
-            at,
-            b"words 0-7: an unnamed bit set, BLOCKPTR below 8, under 3 array words, or SBASE or SBASE + LTOP past the end",
-        ),
-        14 => put(
-            out,
-            at,
-            b"blocks: the walk, a tag, a size, two free neighbours, a length or an element is wrong",
-        ),
-        15 => put(out, at, b"the ring of free blocks or ROVER is wrong"),
-        16 => put(out, at, b"a frame is wrong"),
-        17 => put(out, at, b"a cell's kind or target is wrong"),
-        18 => put(
-            out,
-            at,
-            b"a count is zero or not the number of cells pointing to the array",
-        ),
-        _ => put_later_words(out, at, n),
-    }
+    let texts = b"done
+the number of instructions asked was done
+a trap
+the data segment is not 32 to 16384 words long
+a procedure segment is not 4 to 32768 bytes of whole words
+a directory or a function's header is wrong
+words 0-7: an unnamed bit set, BLOCKPTR below 8, under 3 array words, or SBASE or SBASE + LTOP past the end
+blocks: the walk, a tag, a size, two free neighbours, a length or an element is wrong
+the ring of free blocks or ROVER is wrong
+a frame is wrong
+a cell's kind or target is wrong
+a count is zero or not the number of cells pointing to the array
+globals above 4088, array words below 6, or the parts and the bottom frame exceed the words lent
+the function is absent or has arguments
+the address is no global
+the global is undefined
+rank above 15, a length above 65535, a count that is not the lengths' product, or a word that is no scalar
+no free block is long enough
+no such status
+";
+    put_line(out, at, texts, place_of(n as u16, &STATUSES))
 }
 
-// The statuses of lay out, load and look.
-fn put_later_words(out: &mut [u8], at: usize, n: u8) -> usize
-    ensures { λ r. ⌜ wrote r (now (out .exit)) ≡ writes (now (out .entry)) at (bytes (meaning.laterWords n)) ⌝ }
-{
-    match n {
-        19 => put(
-            out,
-            at,
-            b"globals above 4088, array words below 6, or the parts and the bottom frame exceed the words lent",
-        ),
-        20 => put(out, at, b"the function is absent or has arguments"),
-        21 => put(out, at, b"the address is no global"),
-        22 => put(out, at, b"the global is undefined"),
-        23 => put(
-            out,
-            at,
-            b"rank above 15, a length above 65535, a count that is not the lengths' product, or a word that is no scalar",
-        ),
-        24 => put(out, at, b"no free block is long enough"),
-        _ => put(out, at, b"no such status"),
-    }
-}
+// The traps by word 3, the class in the high byte and the number in the low one.
+const TRAPS: [u16; 31] = [
+    0x0101,
+    0x0102,
+    0x0201,
+    0x0202,
+    0x0203,
+    0x0204,
+    0x0301,
+    0x0302,
+    0x0303,
+    0x0304,
+    0x0305,
+    0x0306,
+    0x0307,
+    0x0308,
+    0x0309,
+    0x030a,
+    0x030b,
+    0x030c,
+    0x030d,
+    0x0400,
+    0x0500,
+    0x0600,
+    0x0700,
+    0x0801,
+    0x0802,
+    0x0803,
+    0x0804,
+    0x0805,
+    0x0901,
+    0x0902,
+    0x0a00,
+];
 
-// The words of a trap by word 3, its class in the high byte and its number in the low one: the traps of storage, of debugging
-// and of attention.
 fn put_trap_words(out: &mut [u8], at: usize, word: u16) -> usize
     ensures { λ r. ⌜ wrote r (now (out .exit)) ≡ writes (now (out .entry)) at (bytes (meaning.trapWords word)) ⌝ }
 {
-    match word {
-        0x0101 => put(out, at, b"storage overflow: the stack is full"),
-        0x0102 => put(out, at, b"storage overflow: no free block is long enough"),
-        0x0201 => put(out, at, b"debug: an instruction was completed in step mode"),
-        0x0202 => put(out, at, b"debug: a function was called in call-trace mode"),
-        0x0203 => put(out, at, b"debug: a function was left in return-trace mode"),
-        0x0204 => put(out, at, b"debug: a breakpoint"),
-        0x0400 => put(out, at, b"attention"),
-        _ => put_system_words(out, at, word),
-    }
-}
-
-// The system errors.
-fn put_system_words(out: &mut [u8], at: usize, word: u16) -> usize
-    ensures { λ r. ⌜ wrote r (now (out .exit)) ≡ writes (now (out .entry)) at (bytes (meaning.systemWords word)) ⌝ }
-{
-    match word {
-        0x0301 => put(
-            out,
-            at,
-            b"system error: code, a jump or a function outside its bounds",
-        ),
-        0x0302 => put(out, at, b"system error: a local outside its frame"),
-        0x0303 => put(out, at, b"system error: an address that is no global"),
-        0x0304 => put(
-            out,
-            at,
-            b"system error: an operand is missing, or CALL's NARGS is not the header's",
-        ),
-        0x0305 => put(out, at, b"system error: a word not of the kind wanted"),
-        0x0306 => put(out, at, b"system error: double indirection"),
-        0x0307 => put(out, at, b"system error: a MEMREF address of no known form"),
-        0x0308 => put(out, at, b"system error: undefined MEMREF suboperation"),
-        0x0309 => put(out, at, b"system error: undefined GENSCALAR suboperation"),
-        0x030a => put(out, at, b"system error: OPWE is too large on a restart"),
-        0x030b => put(
-            out,
-            at,
-            b"system error: undefined ETC suboperation or first byte",
-        ),
-        0x030c => put(out, at, b"system error: temporaries left on return"),
-        0x030d => put(out, at, b"system error: a return from the bottom frame"),
-        _ => put_value_words(out, at, word),
-    }
-}
-
-// The traps of operands, values, subscripts and variables.
-fn put_value_words(out: &mut [u8], at: usize, word: u16) -> usize
-    ensures { λ r. ⌜ wrote r (now (out .exit)) ≡ writes (now (out .entry)) at (bytes (meaning.valueWords word)) ⌝ }
-{
-    match word {
-        0x0500 => put(out, at, b"rank error"),
-        0x0600 => put(out, at, b"length error"),
-        0x0700 => put(out, at, b"type error: a character where a number is wanted"),
-        0x0801 => put(out, at, b"domain error: integer overflow"),
-        0x0802 => put(out, at, b"domain error: floating-point exponent underflow"),
-        0x0803 => put(out, at, b"domain error: floating-point exponent overflow"),
-        0x0804 => put(out, at, b"domain error: division by zero"),
-        0x0805 => put(out, at, b"domain error: another value that does not serve"),
-        0x0901 => put(out, at, b"index error: the wrong number of subscripts"),
-        0x0902 => put(out, at, b"index error: a subscript is too large or small"),
-        0x0a00 => put(out, at, b"value error: an undefined variable or result"),
-        _ => put(out, at, b"no such trap"),
-    }
+    let texts = b"storage overflow: the stack is full
+storage overflow: no free block is long enough
+debug: an instruction was completed in step mode
+debug: a function was called in call-trace mode
+debug: a function was left in return-trace mode
+debug: a breakpoint
+system error: code, a jump or a function outside its bounds
+system error: a local outside its frame
+system error: an address that is no global
+system error: an operand is missing, or CALL's NARGS is not the header's
+system error: a word not of the kind wanted
+system error: double indirection
+system error: a MEMREF address of no known form
+system error: undefined MEMREF suboperation
+system error: undefined GENSCALAR suboperation
+system error: OPWE is too large on a restart
+system error: undefined ETC suboperation or first byte
+system error: temporaries left on return
+system error: a return from the bottom frame
+attention
+rank error
+length error
+type error: a character where a number is wanted
+domain error: integer overflow
+domain error: floating-point exponent underflow
+domain error: floating-point exponent overflow
+domain error: division by zero
+domain error: another value that does not serve
+index error: the wrong number of subscripts
+index error: a subscript is too large or small
+value error: an undefined variable or result
+no such trap
+";
+    put_line(out, at, texts, place_of(word, &TRAPS))
 }

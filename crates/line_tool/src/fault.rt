@@ -3,6 +3,7 @@ ghost use mathlib.Core.Path.{_≡_};
 ghost use Rattle.line_tool.specs.Text.{bytes};
 ghost use Rattle.line_tool.specs.Faults as meaning;
 ghost use Rattle.line_tool.specs.Writing.{wrote, writes};
+use crate::tables::put_line;
 use crate::writing::put;
 
 pub enum Fault {
@@ -24,20 +25,41 @@ pub enum Fault {
 pub fn put_fault(out: &mut [u8], at: usize, fault: Fault) -> usize
     ensures { λ r. ⌜ wrote r (now (out .exit)) ≡ writes (now (out .entry)) at (bytes (meaning.words fault)) ⌝ }
 {
+    let texts = b"no such command
+something is missing after
+more than the command takes
+not a decimal number
+a number above 4294967295
+not only digits 0 to 9 and a to f
+a word of more than 8 digits
+an odd number of digits, two are a byte
+more than 40000 bytes
+more than 40000 words
+past the end of the segment
+no bar | where the lengths end
+the line is too long, it begins with
+";
+    put_line(out, at, texts, line_of(fault))
+}
+
+// The line that says a fault.
+fn line_of(fault: Fault) -> usize
+    ensures { λ r. ⌜ r ≡ meaning.lineOf fault ⌝ }
+{
     match fault {
-        Fault::NoCommand => put(out, at, b"no such command"),
-        Fault::Missing => put(out, at, b"something is missing after"),
-        Fault::Extra => put(out, at, b"more than the command takes"),
-        Fault::NotDecimal => put(out, at, b"not a decimal number"),
-        Fault::TooLarge => put(out, at, b"a number above 4294967295"),
-        Fault::NotHex => put(out, at, b"not only digits 0 to 9 and a to f"),
-        Fault::TooLong => put(out, at, b"a word of more than 8 digits"),
-        Fault::Odd => put(out, at, b"an odd number of digits, two are a byte"),
-        Fault::TooManyBytes => put(out, at, b"more than 40000 bytes"),
-        Fault::TooManyWords => put(out, at, b"more than 40000 words"),
-        Fault::PastEnd => put(out, at, b"past the end of the segment"),
-        Fault::NoBar => put(out, at, b"no bar | where the lengths end"),
-        Fault::LongLine => put(out, at, b"the line is too long, it begins with"),
+        Fault::NoCommand => 0,
+        Fault::Missing => 1,
+        Fault::Extra => 2,
+        Fault::NotDecimal => 3,
+        Fault::TooLarge => 4,
+        Fault::NotHex => 5,
+        Fault::TooLong => 6,
+        Fault::Odd => 7,
+        Fault::TooManyBytes => 8,
+        Fault::TooManyWords => 9,
+        Fault::PastEnd => 10,
+        Fault::NoBar => 11,
+        Fault::LongLine => 12,
     }
 }
 
