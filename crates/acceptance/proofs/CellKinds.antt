@@ -13,7 +13,7 @@ use Rattle.descriptor.specs.Kinds.{isScalar}
 use Rattle.segment.specs.State.{sbase, blockptr}
 use Rattle.storage.specs.Heap.{count}
 use Rattle.acceptance_storage.proofs.Tests.{both, passes, either}
-use Rattle.acceptance.specs.Cells.{inList, isIndirect, isGlobal, direct, pointing, freeCell}
+use Rattle.acceptance.specs.Cells.{inList, isIndirect, namesGlobal, direct, pointing, freeCell}
 use Rattle.acceptance.specs.Structure.{VariableOf, Direct, NamesGlobal, NamesVariable, DirectOrIndirect}
 
 module _ (arrays : ℕ → ℕ) (w : ℕ) where
@@ -50,12 +50,12 @@ module _ (s regular other vs frames : List ℕ) (w : ℕ) where
   pub pointing-sound : ((a : ℕ) → 0 < count a vs → VariableOf s regular other frames a) → pointing s (inList vs) w ≡ true
       → NamesGlobal s w ⊎ NamesVariable s regular other frames w
   unfolding pointing
-  pointing-sound v h = go (isGlobal w) refl
+  pointing-sound v h = go (namesGlobal w) refl
     where
       ind : isIndirect w ≡ true
       ind = both (isIndirect w) _ h .0
 
-      go : (g : Bool) → isGlobal w ≡ g → NamesGlobal s w ⊎ NamesVariable s regular other frames w
+      go : (g : Bool) → namesGlobal w ≡ g → NamesGlobal s w ⊎ NamesVariable s regular other frames w
       go true e =
           let t = simp e at (both (isIndirect w) _ h .1) in
           let b = both (leb 8 (address w)) _ t in

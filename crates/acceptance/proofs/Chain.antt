@@ -14,54 +14,54 @@ use Rattle.procedure.specs.Directory.{headerOfFunction}
 use Rattle.acceptance_storage.specs.Tests.{_and_}
 use Rattle.descriptor.proofs.Truth.{by-le, by-eq}
 use Rattle.acceptance_storage.proofs.Tests.{both}
-use Rattle.acceptance.specs.Frames.{segmentOf, known, arguments, variables, framesFrom, framesTest, FrameAt}
+use Rattle.acceptance.specs.Frames.{frameSegment, known, arguments, variables, framesPass, framesTest, FrameAt}
 
 module _ (has : ℕ → Bool) (size : ℕ → ℕ) (s : List ℕ) (base : ℕ) where
-  pub frames-none : (n : ℕ) → n ≤ 0 → framesFrom n has size s base ≡ false
-  unfolding framesFrom
+  pub frames-none : (n : ℕ) → n ≤ 0 → framesPass n has size s base ≡ false
+  unfolding framesPass
   frames-none zero h = refl
   frames-none (suc n) h = absurd (omega arith)
 
-  pub frames-step : (n : ℕ) → 0 < n → framesFrom n has size s base
+  pub frames-step : (n : ℕ) → 0 < n → framesPass n has size s base
       ≡ has (codeWordAt s base)
       and cond (eqb (lastLbaseAt s base) base) (eqb (size (codeWordAt s base)) base)
-      (leb (lastLbaseAt s base + 2 + size (codeWordAt s base)) base and framesFrom (n - 1) has size s (lastLbaseAt s base))
-  unfolding framesFrom
+      (leb (lastLbaseAt s base + 2 + size (codeWordAt s base)) base and framesPass (n - 1) has size s (lastLbaseAt s base))
+  unfolding framesPass
   frames-step zero h = absurd (omega arith)
   frames-step (suc n) h = let e : suc n - 1 ≡ n = omega arith in rw e
 
 module _ (s regular other : List ℕ) (base n : ℕ) (pos : 0 < n) {last code args size : ℕ} (f : FrameAt s regular other base last code args size) where
-  step : framesFrom n (known regular other) (variables regular other) s base
+  step : framesPass n (known regular other) (variables regular other) s base
       ≡ known regular other code and cond (eqb last base) (eqb size base)
-      (leb (last + 2 + size) base and framesFrom (n - 1) (known regular other) (variables regular other) s last)
+      (leb (last + 2 + size) base and framesPass (n - 1) (known regular other) (variables regular other) s last)
   step = frames-step (known regular other) (variables regular other) s base n pos ∙ rw (f .code, f .variables, f .last)
 
-  pub absent : known regular other code ≡ false → framesFrom n (known regular other) (variables regular other) s base ≡ false
+  pub absent : known regular other code ≡ false → framesPass n (known regular other) (variables regular other) s base ≡ false
   absent h = step ∙ simp h
 
   module _ (h : known regular other code ≡ true) where
-    pub bottom : last ≡ base → framesFrom n (known regular other) (variables regular other) s base ≡ eqb size base
+    pub bottom : last ≡ base → framesPass n (known regular other) (variables regular other) s base ≡ eqb size base
     bottom z = step ∙ simp (h, eq-eqb last base z)
 
     module _ (z : last ≡ base → ⊥) where
-      pub low : base < last + 2 + size → framesFrom n (known regular other) (variables regular other) s base ≡ false
+      pub low : base < last + 2 + size → framesPass n (known regular other) (variables regular other) s base ≡ false
       low l = step ∙ simp (h, ne-eqb last base z, lt-leb (last + 2 + size) base l)
 
       pub further : last + 2 + size ≤ base
-          → framesFrom n (known regular other) (variables regular other) s base ≡ framesFrom (n - 1) (known regular other) (variables regular other) s last
+          → framesPass n (known regular other) (variables regular other) s base ≡ framesPass (n - 1) (known regular other) (variables regular other) s last
       further l = step ∙ simp (h, ne-eqb last base z, le-leb (last + 2 + size) base l)
 
 -- What is known of a frame once test 16 has passed.
 module _ (s regular other : List ℕ) (base n : ℕ) (pos : 0 < n) {last code args size : ℕ} (f : FrameAt s regular other base last code args size)
-    (t : framesFrom n (known regular other) (variables regular other) s base ≡ true) where
+    (t : framesPass n (known regular other) (variables regular other) s base ≡ true) where
   pub few-arguments : args ≤ size
   unfolding variables
   few-arguments = omega (arith, f .arguments, f .variables)
 
-  rest : cond (eqb last base) (eqb size base) (leb (last + 2 + size) base and framesFrom (n - 1) (known regular other) (variables regular other) s last) ≡ true
+  rest : cond (eqb last base) (eqb size base) (leb (last + 2 + size) base and framesPass (n - 1) (known regular other) (variables regular other) s last) ≡ true
   rest = both (known regular other code) _ (sym (step s regular other base n pos f) ∙ t) .1
 
-  pub above : last < base → (last + 2 + size ≤ base) × (framesFrom (n - 1) (known regular other) (variables regular other) s last ≡ true)
+  pub above : last < base → (last + 2 + size ≤ base) × (framesPass (n - 1) (known regular other) (variables regular other) s last ≡ true)
   above l =
       let b = both (leb (last + 2 + size) base) _ (simp (ne-eqb last base (λ e. omega (arith, e))) at rest) in (leb-true (last + 2 + size) base (b .0), b .1)
 
@@ -77,12 +77,12 @@ module _ (s regular other : List ℕ) where
   unfolding framesTest
   short h = simp (lt-leb (lbase s + 1) (ltop s) h)
 
-  pub long : lbase s + 1 ≤ ltop s → framesTest s regular other ≡ framesFrom (length s) (known regular other) (variables regular other) s (lbase s)
+  pub long : lbase s + 1 ≤ ltop s → framesTest s regular other ≡ framesPass (length s) (known regular other) (variables regular other) s (lbase s)
   unfolding framesTest
   long h = simp (le-leb (lbase s + 1) (ltop s) h)
 
 -- What the header of a frame's function says.
-module _ (regular other : List ℕ) {h : Header} (code : ℕ) {w : ℕ} (e : h ≡ headerOfFunction (segmentOf regular other code) (functionNumber code)) (k : code ≡ w) where
+module _ (regular other : List ℕ) {h : Header} (code : ℕ) {w : ℕ} (e : h ≡ headerOfFunction (frameSegment regular other code) (functionNumber code)) (k : code ≡ w) where
   pub header-arguments : h .nargs ≡ arguments regular other w
   unfolding arguments
   header-arguments = rw (e, k)

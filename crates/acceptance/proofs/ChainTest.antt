@@ -9,12 +9,12 @@ use borrow.Author.Tests.{leb-true, eqb-true, le-leb, eq-eqb, ne-eqb}
 use Rattle.segment.specs.Stack.{lastLbaseAt, codeWordAt}
 use Rattle.descriptor.proofs.Truth.{by-eq}
 use Rattle.acceptance_storage.proofs.Tests.{never, both}
-use Rattle.acceptance.specs.Frames.{known, variables, framesFrom}
+use Rattle.acceptance.specs.Frames.{known, variables, framesPass}
 use Rattle.acceptance.specs.Structure.{Chain}
 
-pub chain-sound : (n : ℕ) (s regular other : List ℕ) (base : ℕ) → framesFrom n (known regular other) (variables regular other) s base ≡ true
+pub chain-sound : (n : ℕ) (s regular other : List ℕ) (base : ℕ) → framesPass n (known regular other) (variables regular other) s base ≡ true
     → (older : List ℕ) × Chain s regular other base older
-unfolding framesFrom
+unfolding framesPass
 chain-sound zero s regular other base h = absurd (never h)
 chain-sound (suc n) s regular other base h =
     let a = both (known regular other (codeWordAt s base)) _ h in
@@ -25,8 +25,8 @@ chain-sound (suc n) s regular other base h =
     (lastLbaseAt s base ∷ r .0, (record { function = a .0; last = refl; start = leb-true _ _ (b .0) }, r .1)))
 
 pub chain-complete : (n : ℕ) (s regular other : List ℕ) (base : ℕ) (older : List ℕ) → base < n → Chain s regular other base older
-    → framesFrom n (known regular other) (variables regular other) s base ≡ true
-unfolding framesFrom
+    → framesPass n (known regular other) (variables regular other) s base ≡ true
+unfolding framesPass
 chain-complete zero s regular other base older l h = absurd (omega arith)
 chain-complete (suc n) s regular other base [] l h =
     simp (h .function, eq-eqb (lastLbaseAt s base) base (h .itself), eq-eqb (variables regular other (codeWordAt s base)) base (h .start))

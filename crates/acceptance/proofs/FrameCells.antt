@@ -15,7 +15,7 @@ use Rattle.segment.specs.Blocks.{part}
 use Rattle.segment.proofs.Parts.{part-take}
 use Rattle.storage.specs.Heap.{count}
 use Rattle.storage_theorems.proofs.Counts.{order}
-use Rattle.acceptance_storage.specs.Tests.{_and_, every, words}
+use Rattle.acceptance_storage.specs.Tests.{_and_, every, wordsWhere}
 use Rattle.acceptance_storage.proofs.Tests.{words-every}
 use Rattle.acceptance_storage.specs.Blocks.{arrayStarts}
 use Rattle.acceptance_storage.specs.Marks.{Tally}
@@ -36,21 +36,21 @@ taken-away before after l g = λ i. λ x. each x i
     each : (x : ℕ) → inTable after x ≡ lacking before l x
     each x = omega (arith, g .sum x)
 
--- A run of cells that the code lends is a part of the segment, and its test that of the part's words.
+-- A run of cells that the code lends is a part of the segment, and its test that of the part's wordsWhere.
 pub lent : (s : List ℕ) (from to at n : ℕ) → from ≡ at → to ≡ at + n → to ≤ length s → take (to - from) (drop from s) ≡ part s at n
 lent s from to at n e k l = rw (e, k, add-sub-cancel-left) (sym (part-take n s at (omega arith)))
 
 pub lent-length : (s : List ℕ) (from to : ℕ) → from ≤ to → to ≤ length s → length (take (to - from) (drop from s)) ≡ to - from
 lent-length s from to k l = simp (length-take, length-drop) (omega arith)
 
-run : (test : ℕ → Bool) (s : List ℕ) (at n : ℕ) {l : List ℕ} → l ≡ part s at n → {b : Bool} → every test l ≡ b → words n test s at ≡ b
+run : (test : ℕ → Bool) (s : List ℕ) (at n : ℕ) {l : List ℕ} → l ≡ part s at n → {b : Bool} → every test l ≡ b → wordsWhere n test s at ≡ b
 run test s at n p e = words-every n test s at ∙ rw p at e
 
 every-alike : (f g : ℕ → Bool) → ((w : ℕ) → f w ≡ g w) → (l : List ℕ) → every f l ≡ every g l
 every-alike f g e l = ap (λ (test : ℕ → Bool). every test l) (λ i. λ w. e w i)
 
-words-alike : (f g : ℕ → Bool) → ((w : ℕ) → f w ≡ g w) → (n : ℕ) (s : List ℕ) (at : ℕ) → words n f s at ≡ words n g s at
-words-alike f g e n s at = ap (λ (test : ℕ → Bool). words n test s at) (λ i. λ w. e w i)
+words-alike : (f g : ℕ → Bool) → ((w : ℕ) → f w ≡ g w) → (n : ℕ) (s : List ℕ) (at : ℕ) → wordsWhere n f s at ≡ wordsWhere n g s at
+words-alike f g e n s at = ap (λ (test : ℕ → Bool). wordsWhere n test s at) (λ i. λ w. e w i)
 
 -- The three runs of cells of one frame, as the code meets them.
 module _ (s t₀ m₀ : List ℕ) (args start base top : ℕ) {l₁ : List ℕ} (p₁ : l₁ ≡ part s (sbase s + base + 2) (top - (base + 2))) where
@@ -191,8 +191,8 @@ cells-alike a b same (suc n) args size s base top =
 
 -- All cells.
 module _ (s regular other arrays : List ℕ) (marked : Tally arrays (arrayStarts s)) where
-  globals : words (blockptr s - 8) (plainCell (inTable arrays)) s 8 ≡ words (blockptr s - 8) (plainCell (inList (arrayStarts s))) s 8
-  globals = ap (λ (h : ℕ → ℕ). words (blockptr s - 8) (plainCell h) s 8) (same-answers arrays (arrayStarts s) marked)
+  globals : wordsWhere (blockptr s - 8) (plainCell (inTable arrays)) s 8 ≡ wordsWhere (blockptr s - 8) (plainCell (inList (arrayStarts s))) s 8
+  globals = ap (λ (h : ℕ → ℕ). wordsWhere (blockptr s - 8) (plainCell h) s 8) (same-answers arrays (arrayStarts s) marked)
 
   module _ {l : List ℕ} (p : l ≡ part s 8 (blockptr s - 8)) where
     pub globals-fail : every (plainCell (inTable arrays)) l ≡ false → cellsTest s regular other ≡ false

@@ -9,12 +9,12 @@ use lib.ListN.{getD}
 use Rattle.segment.specs.State.{sbase, blockptr}
 use Rattle.segment.specs.Stack.{stackAt, lastLbaseAt, codeWordAt}
 use Rattle.storage.specs.Heap.{count}
-use Rattle.acceptance_storage.specs.Tests.{words}
+use Rattle.acceptance_storage.specs.Tests.{wordsWhere}
 use Rattle.descriptor.proofs.Truth.{by-le}
 use Rattle.acceptance_storage.proofs.Tests.{both, passes}
 use Rattle.acceptance.specs.Frames.{arguments, variables}
 use Rattle.acceptance.specs.Cells.{inList, range, plainCell, freeCell, variablesFrom, frameCells, cellsFrom}
-use Rattle.acceptance.specs.Structure.{Chain, startOf, localsOf, VariableOf, FrameCells, StackCells}
+use Rattle.acceptance.specs.Structure.{Chain, frameStart, localsOf, VariableOf, FrameCells, StackCells}
 use Rattle.acceptance.proofs.VariableMarks.{variables-bottom, variables-on}
 use Rattle.acceptance.proofs.FrameCells.{cells-at-bottom, cells-above}
 use Rattle.acceptance.proofs.Positions.{words-at, words-all, range-in, range-has}
@@ -24,22 +24,22 @@ use Rattle.acceptance.proofs.CellKinds.{direct-sound, direct-complete, 
 pub variable-sound : (older : List ℕ) (n : ℕ) (s regular other : List ℕ) (base : ℕ) → base < n → Chain s regular other base older
     → (a : ℕ) → 0 < count a (variablesFrom n (variables regular other) s base) → VariableOf s regular other (base ∷ older) a
 variable-sound [] n s regular other base l h a k =
-    let r = range-in (startOf s regular other base) (base - startOf s regular other base) a
-    (omega (arith, k, variables-bottom (variables regular other) s base {start = startOf s regular other base} {last = lastLbaseAt s base} refl refl n (omega arith) a (omega (arith, h .itself)))) in
+    let r = range-in (frameStart s regular other base) (base - frameStart s regular other base) a
+    (omega (arith, k, variables-bottom (variables regular other) s base {start = frameStart s regular other base} {last = lastLbaseAt s base} refl refl n (omega arith) a (omega (arith, h .itself)))) in
     inl (r .0, omega (arith, r .1))
 variable-sound (next ∷ older) n s regular other base l h a k =
-    by-le 1 (count a (range (startOf s regular other base) (base - startOf s regular other base)))
-    (λ m. let r = range-in (startOf s regular other base) (base - startOf s regular other base) a m in inl (r .0, omega (arith, r .1)))
+    by-le 1 (count a (range (frameStart s regular other base) (base - frameStart s regular other base)))
+    (λ m. let r = range-in (frameStart s regular other base) (base - frameStart s regular other base) a m in inl (r .0, omega (arith, r .1)))
     (λ m. inr (variable-sound older (n - 1) s regular other next (omega (arith, h .0 .start)) (h .1) a
-    (omega (arith, k, m, variables-on (variables regular other) s base {start = startOf s regular other base} {last = next} refl (sym (h .0 .last)) n (omega arith) a (omega (arith, h .0 .start))))))
+    (omega (arith, k, m, variables-on (variables regular other) s base {start = frameStart s regular other base} {last = next} refl (sym (h .0 .last)) n (omega arith) a (omega (arith, h .0 .start))))))
 
 pub variable-complete : (older : List ℕ) (n : ℕ) (s regular other : List ℕ) (base : ℕ) → base < n → Chain s regular other base older
     → (a : ℕ) → VariableOf s regular other (base ∷ older) a → (0 < count a (variablesFrom n (variables regular other) s base)) × (a < base)
 variable-complete [] n s regular other base l h a (inl k) = (
   omega (
     arith,
-    range-has (startOf s regular other base) (base - startOf s regular other base) a (k .0) (omega (arith, k .1)),
-    variables-bottom (variables regular other) s base {start = startOf s regular other base} {last = lastLbaseAt s base} refl refl n (omega arith) a (omega (arith, h .itself)),
+    range-has (frameStart s regular other base) (base - frameStart s regular other base) a (k .0) (omega (arith, k .1)),
+    variables-bottom (variables regular other) s base {start = frameStart s regular other base} {last = lastLbaseAt s base} refl refl n (omega arith) a (omega (arith, h .itself)),
   ),
   k .1,
 )
@@ -47,8 +47,8 @@ variable-complete [] n s regular other base l h a (inr k) = absurd k
 variable-complete (next ∷ older) n s regular other base l h a (inl k) = (
   omega (
     arith,
-    range-has (startOf s regular other base) (base - startOf s regular other base) a (k .0) (omega (arith, k .1)),
-    variables-on (variables regular other) s base {start = startOf s regular other base} {last = next} refl (sym (h .0 .last)) n (omega arith) a (omega (arith, h .0 .start)),
+    range-has (frameStart s regular other base) (base - frameStart s regular other base) a (k .0) (omega (arith, k .1)),
+    variables-on (variables regular other) s base {start = frameStart s regular other base} {last = next} refl (sym (h .0 .last)) n (omega arith) a (omega (arith, h .0 .start)),
   ),
   k .1,
 )
@@ -57,14 +57,14 @@ variable-complete (next ∷ older) n s regular other base l h a (inr k) =
       omega (
         arith,
         r .0,
-        variables-on (variables regular other) s base {start = startOf s regular other base} {last = next} refl (sym (h .0 .last)) n (omega arith) a (omega (arith, h .0 .start)),
+        variables-on (variables regular other) s base {start = frameStart s regular other base} {last = next} refl (sym (h .0 .last)) n (omega arith) a (omega (arith, h .0 .start)),
       ),
       omega (arith, r .1, h .0 .start),
     )
 
 abbrev tested : (ℕ → ℕ) → List ℕ → List ℕ → List ℕ → List ℕ → List ℕ → ℕ → ℕ → Bool
 tested arrays s regular other own under base top =
-    frameCells s arrays (inList own) (inList under) (arguments regular other (codeWordAt s base)) (startOf s regular other base) base top
+    frameCells s arrays (inList own) (inList under) (arguments regular other (codeWordAt s base)) (frameStart s regular other base) base top
 
 -- The cells of one frame, by the variables that its temporaries, and its arguments, may name.
 module _ (arrays : ℕ → ℕ) (s regular other own under : List ℕ) (base top : ℕ) (older : List ℕ) where
@@ -73,15 +73,15 @@ module _ (arrays : ℕ → ℕ) (s regular other own under : List ℕ) (base top
       → FrameCells (λ a. 1 ≤ arrays a) s regular other base top older
   unfolding frameCells
   frame-sound v u h =
-      let p = both (words (top - (base + 2)) (freeCell s arrays (inList own)) s (sbase s + base + 2)) _ h in
-      let q = both (words (arguments regular other (codeWordAt s base)) (freeCell s arrays (inList under)) s (sbase s + startOf s regular other base)) _ (p .1) in
+      let p = both (wordsWhere (top - (base + 2)) (freeCell s arrays (inList own)) s (sbase s + base + 2)) _ h in
+      let q = both (wordsWhere (arguments regular other (codeWordAt s base)) (freeCell s arrays (inList under)) s (sbase s + frameStart s regular other base)) _ (p .1) in
       record {
         temporaries = λ i l k. free-sound arrays s regular other own (base ∷ older) (stackAt s i) v
             (words-at (top - (base + 2)) (freeCell s arrays (inList own)) s (sbase s + base + 2) (p .0) (sbase s + i) (omega arith) (omega arith));
         arguments = λ i l k. free-sound arrays s regular other under older (stackAt s i) u
-            (words-at (arguments regular other (codeWordAt s base)) (freeCell s arrays (inList under)) s (sbase s + startOf s regular other base) (q .0) (sbase s + i) (omega arith) (omega arith));
+            (words-at (arguments regular other (codeWordAt s base)) (freeCell s arrays (inList under)) s (sbase s + frameStart s regular other base) (q .0) (sbase s + i) (omega arith) (omega arith));
         locals = λ i l k. direct-sound arrays (stackAt s i)
-            (words-at (base - localsOf s regular other base) (plainCell arrays) s (sbase s + startOf s regular other base + arguments regular other (codeWordAt s base)) (q .1) (sbase s + i) (omega arith) (omega arith));
+            (words-at (base - localsOf s regular other base) (plainCell arrays) s (sbase s + frameStart s regular other base + arguments regular other (codeWordAt s base)) (q .1) (sbase s + i) (omega arith) (omega arith));
       }
 
   pub frame-complete : blockptr s ≤ 2 ^ 16
@@ -94,10 +94,10 @@ module _ (arrays : ℕ → ℕ) (s regular other own under : List ℕ) (base top
       passes (words-all (top - (base + 2)) (freeCell s arrays (inList own)) s (sbase s + base + 2)
       (λ j l k. let e : sbase s + (j - sbase s) ≡ j = omega arith in
       free-complete arrays s regular other own (base ∷ older) (getD s j 0) small v (rw e at (h .temporaries (j - sbase s) (omega arith) (omega arith)))))
-      (passes (words-all (arguments regular other (codeWordAt s base)) (freeCell s arrays (inList under)) s (sbase s + startOf s regular other base)
+      (passes (words-all (arguments regular other (codeWordAt s base)) (freeCell s arrays (inList under)) s (sbase s + frameStart s regular other base)
       (λ j l k. let e : sbase s + (j - sbase s) ≡ j = omega arith in
       free-complete arrays s regular other under older (getD s j 0) small u (rw e at (h .arguments (j - sbase s) (omega arith) (omega arith)))))
-      (words-all (base - localsOf s regular other base) (plainCell arrays) s (sbase s + startOf s regular other base + arguments regular other (codeWordAt s base))
+      (words-all (base - localsOf s regular other base) (plainCell arrays) s (sbase s + frameStart s regular other base + arguments regular other (codeWordAt s base))
       (λ j l k. let e : sbase s + (j - sbase s) ≡ j = omega arith in
       direct-complete arrays (getD s j 0) (rw e at (h .locals (j - sbase s) (omega arith) (omega arith))))))
 
@@ -110,11 +110,11 @@ stack-sound [] n arrays s regular other base top l h t =
     frame-sound arrays s regular other (variablesFrom n (variables regular other) s base) [] base top []
     (variable-sound [] n s regular other base l h) (λ a k. absurd (omega arith)) (c .0)
 stack-sound (next ∷ older) n arrays s regular other base top l h t =
-    let c = both (tested arrays s regular other (variablesFrom n (variables regular other) s base) (variablesFrom (n - 1) (variables regular other) s next) base top) (cellsFrom (n - 1) (arguments regular other) (variables regular other) s arrays next (startOf s regular other base))
+    let c = both (tested arrays s regular other (variablesFrom n (variables regular other) s base) (variablesFrom (n - 1) (variables regular other) s next) base top) (cellsFrom (n - 1) (arguments regular other) (variables regular other) s arrays next (frameStart s regular other base))
     (sym (cells-above (arguments regular other) (variables regular other) s arrays base top n (omega arith) (sym (h .0 .last)) (omega (arith, h .0 .start))) ∙ t) in (
       frame-sound arrays s regular other (variablesFrom n (variables regular other) s base) (variablesFrom (n - 1) (variables regular other) s next) base top (next ∷ older)
           (variable-sound (next ∷ older) n s regular other base l h) (variable-sound older (n - 1) s regular other next (omega (arith, h .0 .start)) (h .1)) (c .0),
-      stack-sound older (n - 1) arrays s regular other next (startOf s regular other base) (omega (arith, h .0 .start)) (h .1) (c .1),
+      stack-sound older (n - 1) arrays s regular other next (frameStart s regular other base) (omega (arith, h .0 .start)) (h .1) (c .1),
     )
 
 pub stack-complete : (older : List ℕ) (n : ℕ) (arrays : ℕ → ℕ) (s regular other : List ℕ) (base top : ℕ) → base < n → base ≤ 2 ^ 16 → blockptr s ≤ 2 ^ 16
@@ -129,7 +129,7 @@ stack-complete (next ∷ older) n arrays s regular other base top l low small h 
     ∙ passes (frame-complete arrays s regular other (variablesFrom n (variables regular other) s base) (variablesFrom (n - 1) (variables regular other) s next) base top (next ∷ older) small
     (λ a k. let r = variable-complete (next ∷ older) n s regular other base l h a k in (r .0, omega (arith, r .1)))
     (λ a k. let r = variable-complete older (n - 1) s regular other next (omega (arith, h .0 .start)) (h .1) a k in (r .0, omega (arith, r .1, h .0 .start))) (t .0))
-    (stack-complete older (n - 1) arrays s regular other next (startOf s regular other base) (omega (arith, h .0 .start)) (omega (arith, h .0 .start)) small (h .1) (t .1))
+    (stack-complete older (n - 1) arrays s regular other next (frameStart s regular other base) (omega (arith, h .0 .start)) (omega (arith, h .0 .start)) small (h .1) (t .1))
 
 -- More addresses may be those of arrays.
 module _ {A B : ℕ → Type 0} (f : (a : ℕ) → A a → B a) where
@@ -142,4 +142,4 @@ module _ {A B : ℕ → Type 0} (f : (a : ℕ) → A a → B a) where
 
   pub stack-map : (older : List ℕ) (s regular other : List ℕ) (base top : ℕ) → StackCells A s regular other base top older → StackCells B s regular other base top older
   stack-map [] s regular other base top h = frame-map h
-  stack-map (next ∷ older) s regular other base top h = (frame-map (h .0), stack-map older s regular other next (startOf s regular other base) (h .1))
+  stack-map (next ∷ older) s regular other base top h = (frame-map (h .0), stack-map older s regular other next (frameStart s regular other base) (h .1))

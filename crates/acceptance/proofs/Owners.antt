@@ -19,7 +19,7 @@ use Rattle.segment.specs.Machine.{cellsOfFrames}
 use Rattle.segment.specs.View.{framesFrom, words, owners}
 use Rattle.descriptor.proofs.Truth.{by-le}
 use Rattle.acceptance_storage.proofs.Tests.{never}
-use Rattle.acceptance.specs.Structure.{Chain, startOf, localsOf, Direct, DirectOrIndirect, FrameCells, StackCells}
+use Rattle.acceptance.specs.Structure.{Chain, frameStart, localsOf, Direct, DirectOrIndirect, FrameCells, StackCells}
 use Rattle.acceptance.proofs.Tallies.{downward-count, cells-bottom, cells-on}
 use Rattle.acceptance.proofs.Positions.{downward-at}
 
@@ -46,7 +46,7 @@ first-frame A (next ∷ older) h = h .0
 module _ (A : ℕ → Type 0) (s regular other : List ℕ) (x : ℕ) (small : x < 2 ^ 16) where
   -- the variables of a frame, and its temporaries
   variables-name : (base top : ℕ) (older : List ℕ) → FrameCells A s regular other base top older
-      → (i : ℕ) → startOf s regular other base ≤ i → i < base → stackAt s i ≡ arrayWord x → A x
+      → (i : ℕ) → frameStart s regular other base ≤ i → i < base → stackAt s i ≡ arrayWord x → A x
   variables-name base top older h i l u e =
       by-le (localsOf s regular other base) i (λ m. direct-names A x small e (h .locals i m u)) (λ m. either-names A x small e (h .arguments i l m))
 
@@ -67,7 +67,7 @@ module _ (A : ℕ → Type 0) (s regular other : List ℕ) (x : ℕ) (small : x 
       variables-name base top [] t (r .0 - sbase s) (omega (arith, h .start)) (omega (arith, r .2)) (rw e (r .3))
   frames-name (next ∷ older) n base top l h t k =
       by-le 1 (count (arrayWord x) (downward s (sbase s + (lastLbaseAt s base + 2)) (base - (lastLbaseAt s base + 2)))) here
-      (λ m. frames-name older (n - 1) next (startOf s regular other base) (omega (arith, h .0 .start)) (h .1) (t .1) (rw (h .0 .last) at (rest m)))
+      (λ m. frames-name older (n - 1) next (frameStart s regular other base) (omega (arith, h .0 .start)) (h .1) (t .1) (rw (h .0 .last) at (rest m)))
     where
       all : count (arrayWord x) (cellsOfFrames (framesFrom n s base))
           ≡ count (arrayWord x) (downward s (sbase s + (lastLbaseAt s base + 2)) (base - (lastLbaseAt s base + 2)))
@@ -79,7 +79,7 @@ module _ (A : ℕ → Type 0) (s regular other : List ℕ) (x : ℕ) (small : x 
       here m =
           let r = downward-at (arrayWord x) s (sbase s + (lastLbaseAt s base + 2)) (base - (lastLbaseAt s base + 2)) m in
           let e : sbase s + (r .0 - sbase s) ≡ r .0 = omega (arith, r .1) in
-          by-le (startOf s regular other base) (r .0 - sbase s)
+          by-le (frameStart s regular other base) (r .0 - sbase s)
           (λ d. variables-name base top (next ∷ older) (t .0) (r .0 - sbase s) d (omega (arith, r .2)) (rw e (r .3)))
           (λ d. either-names A x small (rw e (r .3)) (first-frame A older (t .1) .temporaries (r .0 - sbase s) (omega (arith, r .1, h .0 .last)) d))
 

@@ -1,4 +1,4 @@
--- Where the words of a run stand: tests of words, cells from the highest down, and addresses of a range, each by position.
+-- Where the wordsWhere of a run stand: tests of wordsWhere, cells from the highest down, and addresses of a range, each by position.
 use Prim.Native.Nat.{ℕ, zero, suc, _+_, _<_, _≤_}
 use mathlib.Core.Path.{_≡_, refl, sym}
 use mathlib.Core.Bool.{Bool, true}
@@ -9,20 +9,20 @@ use lib.ListN.{getD}
 use Rattle.segment.specs.Stack.{downward}
 use Rattle.storage.specs.Heap.{hit, count}
 use Rattle.storage_theorems.proofs.Counts.{hit-cases}
-use Rattle.acceptance_storage.specs.Tests.{words}
+use Rattle.acceptance_storage.specs.Tests.{wordsWhere}
 use Rattle.descriptor.proofs.Truth.{by-le}
 use Rattle.acceptance_storage.proofs.Tests.{both, passes}
 use Rattle.acceptance.specs.Cells.{range}
 
-pub words-at : (n : ℕ) (test : ℕ → Bool) (s : List ℕ) (a : ℕ) → words n test s a ≡ true → (i : ℕ) → a ≤ i → i < a + n → test (getD s i 0) ≡ true
-unfolding words
+pub words-at : (n : ℕ) (test : ℕ → Bool) (s : List ℕ) (a : ℕ) → wordsWhere n test s a ≡ true → (i : ℕ) → a ≤ i → i < a + n → test (getD s i 0) ≡ true
+unfolding wordsWhere
 words-at zero test s a h i l u = absurd (omega arith)
 words-at (suc n) test s a h i l u =
-    let r = both (test (getD s a 0)) (words n test s (a + 1)) h in
+    let r = both (test (getD s a 0)) (wordsWhere n test s (a + 1)) h in
     by-le (a + 1) i (λ m. words-at n test s (a + 1) (r .1) i m (omega arith)) (λ m. let e : i ≡ a = omega arith in rw e (r .0))
 
-pub words-all : (n : ℕ) (test : ℕ → Bool) (s : List ℕ) (a : ℕ) → ((i : ℕ) → a ≤ i → i < a + n → test (getD s i 0) ≡ true) → words n test s a ≡ true
-unfolding words
+pub words-all : (n : ℕ) (test : ℕ → Bool) (s : List ℕ) (a : ℕ) → ((i : ℕ) → a ≤ i → i < a + n → test (getD s i 0) ≡ true) → wordsWhere n test s a ≡ true
+unfolding wordsWhere
 words-all zero test s a h = refl
 words-all (suc n) test s a h = passes (h a (omega arith) (omega arith)) (words-all n test s (a + 1) (λ i l u. h i (omega arith) (omega arith)))
 

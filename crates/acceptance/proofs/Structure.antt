@@ -14,7 +14,7 @@ use Rattle.procedure.specs.Refusal.{procedureRefusal}
 use Rattle.storage.specs.Heap.{Block, over, count}
 use Rattle.storage.specs.Owned.{ArrayIn}
 use Rattle.segment.specs.View.{owners}
-use Rattle.acceptance_storage.specs.Tests.{words}
+use Rattle.acceptance_storage.specs.Tests.{wordsWhere}
 use Rattle.acceptance_storage.specs.Head.{headTest}
 use Rattle.acceptance_storage.specs.Blocks.{arrayStarts, blocksTest}
 use Rattle.acceptance_storage.specs.Ring.{ringTest}
@@ -119,7 +119,7 @@ module _ (s regular other : List ℕ) where
       let k = both (leb (lbase s + 1) (ltop s)) _ (t .frames) in
       let top = leb-true (lbase s + 1) (ltop s) (k .0) in
       let c = chain-sound (length s) s regular other (lbase s) (k .1) in
-      let g = both (words (blockptr s - 8) (plainCell (inList (arrayStarts s))) s 8) _ (t .cells) in
+      let g = both (wordsWhere (blockptr s - 8) (plainCell (inList (arrayStarts s))) s 8) _ (t .cells) in
       put t (r .0) (r .1) (r .2) top (c .0) (c .1)
       (λ i l u. direct-sound (inList (arrayStarts s)) (getD s i 0) (words-at (blockptr s - 8) (plainCell (inList (arrayStarts s))) s 8 (g .0) i l (omega arith)))
       (stack-sound (c .0) (length s) (inList (arrayStarts s)) s regular other (lbase s) (ltop s + 1) (omega (arith, top, r .2 .head .top)) (c .1) (g .1))

@@ -1,4 +1,4 @@
--- Test 17, a cell's kind or target: "Indirect words stand only in arguments (target a global or a variable of an older frame)
+-- Test 17, a cell's kind or target: "Indirect wordsWhere stand only in arguments (target a global or a variable of an older frame)
 -- and temporaries (own frame too), and never target a cell holding another. Undefined may stand in any cell.", with decision 9
 -- of docs/DECISIONS.md. Assumes nothing.
 use Prim.Native.Nat.{ℕ, zero, suc, _+_, _-_, _/_, _%_, _^_}
@@ -11,7 +11,7 @@ use Rattle.descriptor.specs.Kinds.{isScalar}
 use Rattle.segment.specs.State.{sbase, ltop, lbase, blockptr}
 use Rattle.segment.specs.Stack.{lastLbaseAt, codeWordAt}
 use Rattle.storage.specs.Heap.{count}
-use Rattle.acceptance_storage.specs.Tests.{_and_, words}
+use Rattle.acceptance_storage.specs.Tests.{_and_, wordsWhere}
 use Rattle.acceptance_storage.specs.Blocks.{arrayStarts}
 use Rattle.acceptance.specs.Frames.{arguments, variables}
 
@@ -26,8 +26,8 @@ inList l x = count x l
 abbrev pub isIndirect : ℕ → Bool
 isIndirect w = eqb (w / 2 ^ 17) 0x180
 
-abbrev pub isGlobal : ℕ → Bool
-isGlobal w = eqb (w / 2 ^ 16 % 2) 1
+abbrev pub namesGlobal : ℕ → Bool
+namesGlobal w = eqb (w / 2 ^ 16 % 2) 1
 
 -- A scalar, undefined, or the word of an array, where `arrays` says how often an address is the start of one.
 unfoldable pub direct : (ℕ → ℕ) → ℕ → Bool
@@ -37,7 +37,7 @@ direct arrays w = cond (isScalar w) true (cond (eqb w undefinedWord) true (isArr
 unfoldable pub pointing : List ℕ → (ℕ → ℕ) → ℕ → Bool
 pointing s variable w =
     isIndirect w
-    and cond (isGlobal w)
+    and cond (namesGlobal w)
     (leb 8 (address w) and ltb (address w) (blockptr s) and not (isIndirect (getD s (address w) 0)))
     (leb 1 (variable (address w)) and not (isIndirect (getD s (sbase s + address w) 0)))
 
@@ -65,9 +65,9 @@ variablesFrom (suc fuel) size s base =
 -- arguments, which may name those of older frames, and its locals.
 unfoldable pub frameCells : List ℕ → (ℕ → ℕ) → (ℕ → ℕ) → (ℕ → ℕ) → ℕ → ℕ → ℕ → ℕ → Bool
 frameCells s arrays own older args start base top =
-    words (top - (base + 2)) (freeCell s arrays own) s (sbase s + base + 2)
-    and words args (freeCell s arrays older) s (sbase s + start)
-    and words (base - (start + args)) (plainCell arrays) s (sbase s + start + args)
+    wordsWhere (top - (base + 2)) (freeCell s arrays own) s (sbase s + base + 2)
+    and wordsWhere args (freeCell s arrays older) s (sbase s + start)
+    and wordsWhere (base - (start + args)) (plainCell arrays) s (sbase s + start + args)
 
 -- The cells of the frames from the one at `base` down.
 unfoldable pub cellsFrom : ℕ → (ℕ → ℕ) → (ℕ → ℕ) → List ℕ → (ℕ → ℕ) → ℕ → ℕ → Bool
@@ -83,5 +83,5 @@ cellsFrom (suc fuel) args size s arrays base top =
 
 unfoldable pub cellsTest : List ℕ → List ℕ → List ℕ → Bool
 cellsTest s regular other =
-    words (blockptr s - 8) (plainCell (inList (arrayStarts s))) s 8
+    wordsWhere (blockptr s - 8) (plainCell (inList (arrayStarts s))) s 8
     and cellsFrom (length s) (arguments regular other) (variables regular other) s (inList (arrayStarts s)) (lbase s) (ltop s + 1)

@@ -13,33 +13,33 @@ use Rattle.procedure.specs.Directory.{selected, hasFunction, nargsOf, nlocalsOf
 use Rattle.acceptance_storage.specs.Tests.{_and_}
 
 -- The procedure segment of the function that a frame's second word names.
-abbrev pub segmentOf : List ℕ → List ℕ → ℕ → List ℕ
-segmentOf regular other w = selected (eqb (alternate w) 1) regular other
+abbrev pub frameSegment : List ℕ → List ℕ → ℕ → List ℕ
+frameSegment regular other w = selected (eqb (alternate w) 1) regular other
 
 -- Bits 31–28 are zero and the function is in its directory.
 unfoldable pub known : List ℕ → List ℕ → ℕ → Bool
-known regular other w = ltb w (2 ^ 28) and hasFunction (segmentOf regular other w) (functionNumber w)
+known regular other w = ltb w (2 ^ 28) and hasFunction (frameSegment regular other w) (functionNumber w)
 
 -- Its arguments, and its arguments and locals.
 unfoldable pub arguments : List ℕ → List ℕ → ℕ → ℕ
-arguments regular other w = nargsOf (segmentOf regular other w) (functionNumber w)
+arguments regular other w = nargsOf (frameSegment regular other w) (functionNumber w)
 
 unfoldable pub variables : List ℕ → List ℕ → ℕ → ℕ
-variables regular other w = arguments regular other w + nlocalsOf (segmentOf regular other w) (functionNumber w)
+variables regular other w = arguments regular other w + nlocalsOf (frameSegment regular other w) (functionNumber w)
 
 -- The frames from the one at `base` down, where `has` says which functions there are and `size` how many variables each has.
 -- The bottom frame names itself and starts at 0; another starts at last LBASE + 2 or above.
-unfoldable pub framesFrom : ℕ → (ℕ → Bool) → (ℕ → ℕ) → List ℕ → ℕ → Bool
-framesFrom zero has size s base = false
-framesFrom (suc fuel) has size s base =
-    let older = framesFrom fuel has size s (lastLbaseAt s base) in
+unfoldable pub framesPass : ℕ → (ℕ → Bool) → (ℕ → ℕ) → List ℕ → ℕ → Bool
+framesPass zero has size s base = false
+framesPass (suc fuel) has size s base =
+    let older = framesPass fuel has size s (lastLbaseAt s base) in
     has (codeWordAt s base)
     and cond (eqb (lastLbaseAt s base) base) (eqb (size (codeWordAt s base)) base)
     (leb (lastLbaseAt s base + 2 + size (codeWordAt s base)) base and older)
 
 unfoldable pub framesTest : List ℕ → List ℕ → List ℕ → Bool
 framesTest s regular other =
-    leb (lbase s + 1) (ltop s) and framesFrom (length s) (known regular other) (variables regular other) s (lbase s)
+    leb (lbase s + 1) (ltop s) and framesPass (length s) (known regular other) (variables regular other) s (lbase s)
 
 -- What the code reads of the frame at `base`: its two words, and how many arguments and variables its function has.
 pub record FrameAt (s regular other : List ℕ) (base first second args size : ℕ) : Type 0 where

@@ -40,16 +40,16 @@ Chain s regular other base [] = Bottom s regular other base
 Chain s regular other base (next ∷ older) = Above s regular other base next × Chain s regular other next older
 
 -- Where a frame's arguments, and its locals, start.
-abbrev pub startOf : List ℕ → List ℕ → List ℕ → ℕ → ℕ
-startOf s regular other base = base - variables regular other (codeWordAt s base)
+abbrev pub frameStart : List ℕ → List ℕ → List ℕ → ℕ → ℕ
+frameStart s regular other base = base - variables regular other (codeWordAt s base)
 
 abbrev pub localsOf : List ℕ → List ℕ → List ℕ → ℕ → ℕ
-localsOf s regular other base = startOf s regular other base + arguments regular other (codeWordAt s base)
+localsOf s regular other base = frameStart s regular other base + arguments regular other (codeWordAt s base)
 
 -- A variable, argument or local, of one of these frames.
 abbrev pub VariableOf : List ℕ → List ℕ → List ℕ → List ℕ → ℕ → Type 0
 VariableOf s regular other [] a = ⊥
-VariableOf s regular other (base ∷ older) a = ((startOf s regular other base ≤ a) × (a < base)) ⊎ VariableOf s regular other older a
+VariableOf s regular other (base ∷ older) a = ((frameStart s regular other base ≤ a) × (a < base)) ⊎ VariableOf s regular other older a
 
 -- ---- cells
 
@@ -77,7 +77,7 @@ DirectOrIndirect Array s regular other frames w = Direct Array w ⊎ (NamesGloba
 -- The cells of the frame at `base`, over the older ones, with its temporaries below `top`.
 pub record FrameCells (Array : ℕ → Type 0) (s regular other : List ℕ) (base top : ℕ) (older : List ℕ) : Type 0 where
   pub temporaries : (i : ℕ) → base + 2 ≤ i → i < top → DirectOrIndirect Array s regular other (base ∷ older) (stackAt s i)
-  pub arguments : (i : ℕ) → startOf s regular other base ≤ i → i < localsOf s regular other base
+  pub arguments : (i : ℕ) → frameStart s regular other base ≤ i → i < localsOf s regular other base
       → DirectOrIndirect Array s regular other older (stackAt s i)
   pub locals : (i : ℕ) → localsOf s regular other base ≤ i → i < base → Direct Array (stackAt s i)
 
@@ -86,7 +86,7 @@ abbrev pub StackCells : (ℕ → Type 0) → List ℕ → List ℕ → List ℕ 
 StackCells Array s regular other base top [] = FrameCells Array s regular other base top []
 StackCells Array s regular other base top (next ∷ older) =
     FrameCells Array s regular other base top (next ∷ older)
-    × StackCells Array s regular other next (startOf s regular other base) older
+    × StackCells Array s regular other next (frameStart s regular other base) older
 
 -- ---- the whole segment
 

@@ -15,7 +15,7 @@ ghost use Rattle.acceptance_storage.specs.Tests.{every};
 ghost use Rattle.acceptance_storage.specs.Head.{Head};
 ghost use Rattle.acceptance_storage.specs.Blocks.{arrayStarts};
 ghost use Rattle.acceptance_storage.specs.Marks.{Tally};
-ghost use Rattle.acceptance.specs.Frames.{known, arguments, variables, framesFrom, framesTest};
+ghost use Rattle.acceptance.specs.Frames.{known, arguments, variables, framesPass, framesTest};
 ghost use Rattle.acceptance.specs.Cells.{inTable, isIndirect, direct, pointing, plainCell, freeCell, range, variablesFrom, frameCells, cellsFrom, cellsTest};
 ghost use Rattle.acceptance.specs.Tables.{Gains, lacking, meet, Met};
 use super::frames::frame_at;
@@ -64,7 +64,7 @@ fn cells_from(
     arrays: &mut [u16],
     marks: &mut [u16],
 ) -> bool
-    requires { ⌜ (from + 2 ≤ upto) × (state.sbase (now seg) + upto ≤ length (now seg)) × (length (now seg) ≤ 16384) × (framesFrom (length (now seg)) (known (now regular) (now alternate)) (variables (now regular) (now alternate)) (now seg) from ≡ true) × Tally (now marks) (variablesFrom (length (now seg)) (variables (now regular) (now alternate)) (now seg) from) × ((x : ℕ) → getD (now arrays) x 0 + upto < 65536) ⌝ }
+    requires { ⌜ (from + 2 ≤ upto) × (state.sbase (now seg) + upto ≤ length (now seg)) × (length (now seg) ≤ 16384) × (framesPass (length (now seg)) (known (now regular) (now alternate)) (variables (now regular) (now alternate)) (now seg) from ≡ true) × Tally (now marks) (variablesFrom (length (now seg)) (variables (now regular) (now alternate)) (now seg) from) × ((x : ℕ) → getD (now arrays) x 0 + upto < 65536) ⌝ }
     ensures { λ r. ⌜ r ≡ cellsFrom (length (now (seg .entry))) (arguments (now (regular .entry)) (now (alternate .entry))) (variables (now (regular .entry)) (now (alternate .entry))) (now (seg .entry)) (inTable (now (arrays .entry))) from upto ⌝ }
     ensures { λ r. ⌜ (r ≡ true → Met (now (arrays .entry)) (now (arrays .exit)) (part (now (seg .entry)) (state.sbase (now (seg .entry)) + from + 2) (upto - (from + 2)) ++ cellsOfFrames (view.framesFrom (suc from) (now (seg .entry)) from))) ⌝ }
 {

@@ -5,7 +5,7 @@ ghost use Prim.Native.Nat.{_+_, _<_};
 ghost use lib.ListN.{length};
 ghost use Rattle.segment.specs.Stack as stack;
 ghost use Rattle.procedure.specs.Directory.{headerOfFunction};
-ghost use Rattle.acceptance.specs.Frames.{segmentOf, known, variables, framesFrom, framesTest, FrameAt};
+ghost use Rattle.acceptance.specs.Frames.{frameSegment, known, variables, framesPass, framesTest, FrameAt};
 use descriptor::address::StackAddress;
 use procedure::directory::in_directory;
 use procedure::directory::start_of;
@@ -39,7 +39,7 @@ pub fn frames_test(seg: &[u32], regular: &[u8], alternate: &[u8]) -> bool
 
 // The frames from the one at `from` down.
 fn frames_from(seg: &[u32], regular: &[u8], alternate: &[u8], from: u32) -> bool
-    ensures { λ r. ⌜ r ≡ framesFrom (length (now (seg .entry))) (known (now (regular .entry)) (now (alternate .entry))) (variables (now (regular .entry)) (now (alternate .entry))) (now (seg .entry)) from ⌝ }
+    ensures { λ r. ⌜ r ≡ framesPass (length (now (seg .entry))) (known (now (regular .entry)) (now (alternate .entry))) (variables (now (regular .entry)) (now (alternate .entry))) (now (seg .entry)) from ⌝ }
 {
     let mut base = from;
     let mut left = seg.len();
@@ -93,7 +93,7 @@ fn in_its_directory(regular: &[u8], alternate: &[u8], code: u32) -> bool
 
 // The header of the function that the word names.
 fn header_of(regular: &[u8], alternate: &[u8], code: u32) -> Header
-    ensures { λ r. ⌜ r ≡ headerOfFunction (segmentOf (now (regular .entry)) (now (alternate .entry)) code) (stack.functionNumber code) ⌝ }
+    ensures { λ r. ⌜ r ≡ headerOfFunction (frameSegment (now (regular .entry)) (now (alternate .entry)) code) (stack.functionNumber code) ⌝ }
 {
     let number = (code / 0x1_0000 % 0x800) as u16;
     if code / 0x0800_0000 % 2 == 1 {

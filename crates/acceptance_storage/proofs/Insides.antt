@@ -18,7 +18,7 @@ use Rattle.segment.specs.Blocks.{sizeAt, rankAt, part, product, shapeAt, elemen
 use Rattle.segment.proofs.Parts.{part-take}
 use Rattle.storage.specs.Owned.{Inside}
 use Rattle.storage_theorems.proofs.Counts.{order}
-use Rattle.acceptance_storage.specs.Tests.{every, words}
+use Rattle.acceptance_storage.specs.Tests.{every, wordsWhere}
 use Rattle.acceptance_storage.specs.Blocks.{isLength, arrayTest}
 use Rattle.acceptance_storage.specs.Answer.{insideTest, tooMany, capped, elementCount}
 use Rattle.acceptance_storage.proofs.Tests.{both, passes, every-at, every-all, words-every, every-on, every-bad, every-end}
@@ -30,7 +30,7 @@ module _ (s : List ℕ) (a : ℕ) where
       let count : ℕ = product (part s (a + 2) (rankAt s a)) in
       let p = both (eqb (getD s (a + 1) 0 % 2 ^ 16) (rankAt s a)) _ h in
       let q = both (leb 1 (rankAt s a)) _ (p .1) in
-      let r = both (words (rankAt s a) isLength s (a + 2)) _ (q .1) in
+      let r = both (wordsWhere (rankAt s a) isLength s (a + 2)) _ (q .1) in
       let t = both (eqb (sizeAt s a) (2 + rankAt s a + count)) _ (r .1) in
       record {
         clear = eqb-true _ _ (p .0);

@@ -12,7 +12,7 @@ use Rattle.segment.specs.Blocks.{part}
 pub use Rattle.descriptor.proofs.Truth.{fails, by-le, by-eq}
 use Rattle.storage.specs.Heap.{count}
 use Rattle.storage_theorems.proofs.Counts.{hit-cases, hit-same}
-use Rattle.acceptance_storage.specs.Tests.{_and_, every, words}
+use Rattle.acceptance_storage.specs.Tests.{_and_, every, wordsWhere}
 
 pub never : false ≡ true → ⊥
 never q = let z : _≡_ {A = ℕ} 0 1 = cc in omega arith
@@ -43,8 +43,8 @@ pub every-all : (test : ℕ → Bool) (l : List ℕ) → ((x : ℕ) → 0 < coun
 every-all test [] h = refl
 every-all test (y ∷ l) h = passes (h y (omega (arith, hit-same y))) (every-all test l (λ x k. h x (omega arith)))
 
-pub words-every : (n : ℕ) (test : ℕ → Bool) (s : List ℕ) (i : ℕ) → words n test s i ≡ every test (part s i n)
-unfolding words
+pub words-every : (n : ℕ) (test : ℕ → Bool) (s : List ℕ) (i : ℕ) → wordsWhere n test s i ≡ every test (part s i n)
+unfolding wordsWhere
 words-every zero test s i = refl
 words-every (suc n) test s i = ap (λ (b : Bool). cond (test (getD s i 0)) b false) (words-every n test s (i + 1))
 

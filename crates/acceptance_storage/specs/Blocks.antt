@@ -10,11 +10,11 @@ use Rattle.descriptor.specs.Kinds.{isScalar}
 use Rattle.segment.specs.State.{blockptr}
 use Rattle.segment.specs.Blocks.{freeAt, sizeAt, slopAt, spanAt, rankAt, dummy, part, product}
 use Rattle.storage.specs.Heap.{prevFreeBit}
-use Rattle.acceptance_storage.specs.Tests.{_and_, every, words}
+use Rattle.acceptance_storage.specs.Tests.{_and_, every, wordsWhere}
 
 -- ---- the walk
 
--- The words that a proper free block at `a` covers, where `before` says that the block before it is free; 0 of any other.
+-- The wordsWhere that a proper free block at `a` covers, where `before` says that the block before it is free; 0 of any other.
 -- Word 0 is bit 31 and SIZE of at least 3, the last word is SIZE.
 unfoldable pub freeSpan : List ℕ → ℕ → Bool → ℕ
 freeSpan s a before =
@@ -71,9 +71,9 @@ arrayTest s a =
     let count = product (part s (a + 2) rank) in
     eqb (getD s (a + 1) 0 % 2 ^ 16) rank
     and leb 1 rank
-    and words rank isLength s (a + 2)
+    and wordsWhere rank isLength s (a + 2)
     and eqb (sizeAt s a) (2 + rank + count)
-    and words count isScalar s (a + 2 + rank)
+    and wordsWhere count isScalar s (a + 2 + rank)
 
 unfoldable pub blocksTest : List ℕ → Bool
 blocksTest s = walkTest s and eqb (getD s (dummy s + 2) 0) 0 and every (arrayTest s) (arrayStarts s)

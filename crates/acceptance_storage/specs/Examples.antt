@@ -6,13 +6,13 @@ use mathlib.Core.List.{List, [], _∷_}
 use lib.ListN.{set}
 use Rattle.descriptor.specs.Kinds.{isScalar, kindOf, integerKind, characterKind, arrayKind, indirectKind, undefinedKind, unsignedKind}
 use Rattle.storage.specs.Heap.{hit}
-use Rattle.acceptance_storage.specs.Tests.{words}
+use Rattle.acceptance_storage.specs.Tests.{wordsWhere}
 use Rattle.acceptance_storage.specs.Head.{headTest}
 use Rattle.acceptance_storage.specs.Blocks.{freeSpan, arraySpan, blockSpan, walkFrom, walkTest, startsFrom, freeStarts, arrayStarts, arrayTest, blocksTest}
 use Rattle.acceptance_storage.specs.Ring.{linked, roundFrom, ringTest}
 use Rattle.acceptance_storage.specs.Room.{longEnough}
 
--- No globals; a free block of 5 words at 8; at 13 the array 7 1.0 with one word of slop; the dummy at 19; the stack from 22.
+-- No globals; a free block of 5 wordsWhere at 8; at 13 the array 7 1.0 with one word of slop; the dummy at 19; the stack from 22.
 abbrev pub small : List ℕ
 small =
     0x00160001 ∷ 0x00000013 ∷ 0 ∷ 0 ∷ 8 ∷ 0 ∷ 0 ∷ 0
@@ -27,7 +27,7 @@ pub record Examples : Type 0 where
   pub ring : ringTest small ≡ true
   pub free : freeStarts small ≡ 8 ∷ []
   pub arrays : arrayStarts small ≡ 13 ∷ []
-  -- a request of 5 words can be served, of 6 not
+  -- a request of 5 wordsWhere can be served, of 6 not
   pub enough : longEnough small 5 ≡ true
   pub short : longEnough small 6 ≡ false
   -- a flag that has no name, BLOCKPTR below 8, LTOP past the end
@@ -49,7 +49,7 @@ pub record Examples : Type 0 where
   pub rover : ringTest (set small 1 13) ≡ false
 
 pub examples : Examples
-unfolding isScalar kindOf integerKind characterKind arrayKind indirectKind undefinedKind unsignedKind hit words headTest freeSpan arraySpan blockSpan walkFrom walkTest startsFrom freeStarts arrayStarts arrayTest blocksTest linked roundFrom ringTest longEnough
+unfolding isScalar kindOf integerKind characterKind arrayKind indirectKind undefinedKind unsignedKind hit wordsWhere headTest freeSpan arraySpan blockSpan walkFrom walkTest startsFrom freeStarts arrayStarts arrayTest blocksTest linked roundFrom ringTest longEnough
 examples = record {
   head = refl;
   blocks = refl;

@@ -9,7 +9,7 @@ use Rattle.scalar.specs.Reading.{wholeUnits, wholeOf}
 use Rattle.procedure.specs.Bytes.{wordAt}
 use Rattle.procedure.specs.Headers.{headerAt, codeOf}
 use Rattle.procedure.specs.Directory.{hasFunction, functionOf}
-use Rattle.procedure.specs.Refusal.{segmentLengthTest, entriesTest, headerTest, blockTest, blocksTest as functionsTest, contentsTest, procedureRefusal}
+use Rattle.procedure.specs.Refusal.{segmentLengthTest, entriesTest, headerTest, functionPasses, functionsPass as functionsTest, contentsTest, procedureRefusal}
 use Rattle.instruction.specs.Families.{familyIn, familyOf}
 use Rattle.instruction.specs.Reading.{fetchByte, fetchHalf, fetchWord}
 use Rattle.instruction.specs.Tables.{etcOf, memoryOf}
@@ -28,7 +28,7 @@ use Rattle.acceptance_storage.specs.Tests as tests
 use Rattle.acceptance_storage.specs.Head.{headTest}
 use Rattle.acceptance_storage.specs.Blocks.{freeSpan, blockSpan, walkFrom, walkTest, startsFrom, freeStarts, arrayStarts, blocksTest, arraySpan, arrayTest}
 use Rattle.acceptance_storage.specs.Ring.{linked, roundFrom, ringTest}
-use Rattle.acceptance.specs.Frames.{known, arguments, variables, framesFrom, framesTest}
+use Rattle.acceptance.specs.Frames.{known, arguments, variables, framesPass, framesTest}
 use Rattle.acceptance.specs.Cells.{direct, frameCells, cellsFrom, cellsTest}
 use Rattle.acceptance.specs.Counts.{countsTest, countTest}
 use Rattle.acceptance.specs.Refusal.{dataRefusal, refusal}
@@ -43,24 +43,24 @@ use Rattle.effects.specs.Step.{stepIn, stepOf}
 use Rattle.effects.specs.Run.{stepsFrom, runOf}
 use Rattle.fresh_segment.specs.LayOut.{functionTest, partsTest, layOutRefusal, freshStorage, freshFrame, freshHead, fresh, laidOut}
 use Rattle.operations.specs.Run.{ran}
-use Rattle.operations.specs.Load.{isGlobal, isValue, isFull, loadRefusal, loaded}
+use Rattle.operations.specs.Load.{isGlobal, isValue, lacksRoom, loadRefusal, loaded}
 use Rattle.operations.specs.Look.{looked}
 use Rattle.audit.specs.Table.{Table}
 use Rattle.audit.specs.Story.{Story}
 
 computed : Table × Story
 unfolding laidOut layOutRefusal functionTest partsTest fresh freshHead freshStorage freshFrame hasFunction headerAt wordAt
-    procedureRefusal segmentLengthTest contentsTest entriesTest functionsTest blockTest headerTest refusal dataRefusal
+    procedureRefusal segmentLengthTest contentsTest entriesTest functionsTest functionPasses headerTest refusal dataRefusal
     headTest blocksTest freeSpan blockSpan walkFrom walkTest startsFrom freeStarts arrayStarts linked roundFrom ringTest known
-    arguments variables framesFrom framesTest direct frameCells cellsFrom cellsTest countsTest tests.words view.words
+    arguments variables framesPass framesTest direct frameCells cellsFrom cellsTest countsTest tests.wordsWhere view.words
     view.framesFrom hit isScalar kindOf integerKind undefinedKind unsignedKind ran runOf stepsFrom stepOf stepIn functionOf
     planAt planOf loads.shortConstant loads.constantScalar scalars.indexGenerator scalars.dyadic values.dyadic values.conform
     values.pairwise values.indexGenerator values.upFrom units wholeUnits wholeOf codeOf familyIn familyOf fetchByte fetchHalf
     fetchWord etcOf shortConstantAt constantScalarAt etcAt familyAt instructionAt setLtop setRover setTrap
-    setPctr setNext setLast clearPrevFree unlink request.findFrom request.find request.split request.whole request.give
-    request.given request.requestAt request.request arrays.fill arrays.placeAt arrays.place arrays.drop finish replace read seen
+    setPctr setNext setLast clearPrevFree unlink request.findFrom request.find request.split request.givenWhole request.give
+    request.given request.requestAt request.request arrays.fill arrays.placeAt arrays.place arrays.dropWord finish replace read seen
     operatorOf plus sum ratioOf quotient size shapeAt elementsAt shapePart elementsPart arraySpan arrayTest memoryOf addressIn
-    addressAt loadAt memoryAt discard storeAt store unshare writeElement storeElement whole isGlobal isValue isFull loadRefusal
+    addressAt loadAt memoryAt discard storeAt store unshare writeElement storeElement whole isGlobal isValue lacksRoom loadRefusal
     loaded looked arrays.share arrays.raise arrays.lower memory.assignNoResult memory.assignIndexed memory.eat loads.load
     values.place arrayKind countTest within
 computed = (

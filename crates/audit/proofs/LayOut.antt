@@ -12,7 +12,7 @@ use Rattle.descriptor.specs.Fields.{undefinedWord}
 use Rattle.plan_theorems.specs.Fitting.{Words}
 use Rattle.plan_theorems.proofs.Lists.{all-replicate}
 use Rattle.plan_theorems.proofs.BoundedWords.{words-all, words-set, words-sets}
-use Rattle.fresh_segment.specs.LayOut.{Layout, startOf, baseOf, localsOf, freshHead, freshStorage, freshFrame, fresh, layOutRefusal, laidOut}
+use Rattle.fresh_segment.specs.LayOut.{Layout, storageStart, baseOf, localsOf, freshHead, freshStorage, freshFrame, fresh, layOutRefusal, laidOut}
 use Rattle.fresh_segment.proofs.Words.{Room}
 use Rattle.fresh_segment.proofs.Passed.{wordOf, passed, laid-out, word-made}
 use Rattle.fresh_segment.proofs.Fresh.{fresh-theorem}
@@ -63,13 +63,13 @@ module _ (s : List ℕ) (h : Words s) where
 fresh-words : (n locals word : ℕ) (l : Layout) → Room n locals l → word < 2 ^ 32 → Words (fresh n locals word l)
 unfolding fresh
 fresh-words n locals word l h w =
-    let s0 = freshHead (replicate n 0) (startOf l) (baseOf l) locals in
+    let s0 = freshHead (replicate n 0) (storageStart l) (baseOf l) locals in
     let s1 = sets s0 8 (replicate (l .globals) undefinedWord) in
-    let h0 : Words s0 = head-words (replicate n 0) (words-run n 0 (omega arith)) (startOf l) (baseOf l) locals
+    let h0 : Words s0 = head-words (replicate n 0) (words-run n 0 (omega arith)) (storageStart l) (baseOf l) locals
     (omega (arith, h .longest, h .stack)) (omega (arith, h .longest, h .stack)) (omega (arith, h .longest, h .stack)) in
     let h1 : Words s1 = words-sets s0 h0 8 (replicate (l .globals) undefinedWord) (words-run (l .globals) undefinedWord (omega arith)) in
-    let h2 : Words (freshStorage s1 (startOf l) (l .arrayWords)) = storage-words s1 h1 (startOf l) (l .arrayWords) (omega (arith, h .longest, h .stack)) in
-    frame-words (freshStorage s1 (startOf l) (l .arrayWords)) h2 (baseOf l) locals word (omega (arith, h .longest, h .stack)) w
+    let h2 : Words (freshStorage s1 (storageStart l) (l .arrayWords)) = storage-words s1 h1 (storageStart l) (l .arrayWords) (omega (arith, h .longest, h .stack)) in
+    frame-words (freshStorage s1 (storageStart l) (l .arrayWords)) h2 (baseOf l) locals word (omega (arith, h .longest, h .stack)) w
 
 -- ---- the call
 

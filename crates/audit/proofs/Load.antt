@@ -40,7 +40,7 @@ use Rattle.legality.proofs.Accepted.{legal-theorems}
 use Rattle.legality.proofs.Effects.{put-kept}
 use Rattle.step_theorems.proofs.Again.{sound-of, accepted-again}
 use Rattle.operations.specs.Answers as operations
-use Rattle.operations.specs.Load.{isGlobal, isValue, sourceOf, isFull, loadRefusal, loaded}
+use Rattle.operations.specs.Load.{isGlobal, isValue, sourceOf, lacksRoom, loadRefusal, loaded}
 use Rattle.audit.specs.Calls.{Procedures, answerOf, load, test, firstFailed, tests, hasRoom}
 use Rattle.audit.specs.Did.{Loaded, Did, isRefused, isLoaded}
 use Rattle.audit.specs.Lists.{LoadInVain}
@@ -156,7 +156,7 @@ module _ (s : List ℕ) (p : Procedures) (g : ℕ) (lengths ravel : List ℕ) wh
   load-done h = simp (eq-eqb number 0 h)
 
   -- what is left of the table where the segment is accepted, and the address and the value are good
-  number-left : judgement ≡ 0 → isGlobal s g ≡ true → isValue lengths ravel ≡ true → number ≡ cond (isFull s lengths ravel) 24 0
+  number-left : judgement ≡ 0 → isGlobal s g ≡ true → isValue lengths ravel ≡ true → number ≡ cond (lacksRoom s lengths ravel) 24 0
   unfolding loadRefusal
   number-left h k v = simp (eq-eqb judgement 0 h, k, v)
 
@@ -177,7 +177,7 @@ module _ (s : List ℕ) (p : Procedures) (g : ℕ) (lengths ravel : List ℕ) wh
       (λ e. absurd (e (simp (ne-eqb judgement 0 e) at h)))
 
   module _ (h : Loadable) where
-    number-is : number ≡ cond (isFull s lengths ravel) 24 0
+    number-is : number ≡ cond (lacksRoom s lengths ravel) 24 0
     number-is = number-left (structure .complete s (p .regular) (p .alternate) (h .start)) (h .global) (h .good)
 
     source : Gives s lengths ravel (sourceOf lengths ravel)
@@ -186,12 +186,12 @@ module _ (s : List ℕ) (p : Procedures) (g : ℕ) (lengths ravel : List ℕ) wh
     fits : Fits s effect
     fits = let b = global-within s g (h .global) in (in-view s target .1 (b .0, omega (arith, b, globals-length s)), source .available)
 
-    same-full : performing.isFull s effect ≡ isFull s lengths ravel
-    unfolding isFull
+    same-full : performing.isFull s effect ≡ lacksRoom s lengths ravel
+    unfolding lacksRoom
     same-full = rw (source .asks) (full-asked (ltb 0 (length lengths)) (need lengths ravel) (omega arith) s)
 
     -- test 24, by the words and by the free blocks
-    judged : isFull s lengths ravel ≡ not (hasRoom s lengths ravel)
+    judged : lacksRoom s lengths ravel ≡ not (hasRoom s lengths ravel)
     judged =
         sym same-full ∙ vain-full s (p .regular) (p .alternate) (h .start) (effect ∷ []) fits
         ∙ rw (source .asks) (vain-asked (length lengths) (need lengths ravel) (omega arith) s)
@@ -210,9 +210,9 @@ module _ (s : List ℕ) (p : Procedures) (g : ℕ) (lengths ravel : List ℕ) wh
   first-number =
       first-is ∙ by-eq judgement 0
       (λ h.
-      let l : isGlobal s g ≡ true → isValue lengths ravel ≡ true → isFull s lengths ravel ≡ not (hasRoom s lengths ravel)
+      let l : isGlobal s g ≡ true → isValue lengths ravel ≡ true → lacksRoom s lengths ravel ≡ not (hasRoom s lengths ravel)
       = λ k v. judged (record { start = structure .sound s (p .regular) (p .alternate) h; global = k; good = v }) in
-      simp (eq-eqb judgement 0 h) (same-ways (isGlobal s g) (isValue lengths ravel) (hasRoom s lengths ravel) (isFull s lengths ravel) l))
+      simp (eq-eqb judgement 0 h) (same-ways (isGlobal s g) (isValue lengths ravel) (hasRoom s lengths ravel) (lacksRoom s lengths ravel) l))
       (λ d. simp (ne-eqb judgement 0 d))
 
   -- 24 exactly where the load comes to a request, and no free block is long enough
@@ -241,7 +241,7 @@ module _ (s : List ℕ) (p : Procedures) (g : ℕ) (lengths ravel : List ℕ) wh
     sound = sound-of (able .start)
 
     has-room-left : performing.isFull s effect ≡ false
-    has-room-left = same-full able ∙ room-left (isFull s lengths ravel) (sym (number-is able) ∙ e)
+    has-room-left = same-full able ∙ room-left (lacksRoom s lengths ravel) (sym (number-is able) ∙ e)
 
     performed : Performed s effect
     performed = effects-theorems .performed s sound effect (fits able) has-room-left

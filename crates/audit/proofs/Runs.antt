@@ -35,7 +35,7 @@ use Rattle.audit.proofs.Accepts.{accepted-of, passes-of}
 use Rattle.audit.proofs.Steps.{outcomeFrom, Some, step-done, step-accepted, step-words}
 
 abbrev pub answerOf : Ran → Answer
-answerOf r = runAnswer (operations.answerOf r)
+answerOf r = runAnswer (operations.runAnswer r)
 
 -- What a segment must be for its steps to be the manual's.
 pub record Ready (s : List ℕ) (p : Procedures) : Type 0 where
@@ -58,7 +58,7 @@ module _ (p : Procedures) where
     accepted = step-accepted s p (r .lent) (r .accepted);
   }
 
-  record RanFrom (budget steps : ℕ) (s : List ℕ) (o : stepping.Outcome) : Type 0 where
+  record RanFrom (budget steps : ℕ) (s : List ℕ) (o : stepping.RunResult) : Type 0 where
     runs : Runs p budget steps s (answerOf (o .answer)) (o .words)
     ready : Ready (o .words) p
 

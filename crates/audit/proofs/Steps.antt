@@ -36,7 +36,7 @@ use Rattle.effects.specs.Carried.{outcomeOf, carry}
 use Rattle.effects.specs.declared.Stepped.{Stepped}
 use Rattle.effects.specs.declared.Stepped.the-variants as S
 use Rattle.effects.specs.Step as stepping
-use Rattle.effects.specs.Step.{Result, finished, due, settle, stepOf, currentHeader}
+use Rattle.effects.specs.Step.{StepResult, finished, due, settle, stepOf, currentHeader}
 use Rattle.step_theorems.specs.Planned.{planned, headerIn}
 use Rattle.step_theorems.proofs.Current.{current-function, step-is, header-seen, header-running}
 use Rattle.step_theorems.proofs.Planned.{Known, plan-known, plan-listed}
@@ -112,7 +112,7 @@ module _ (s : List ℕ) (p : Procedures) (lent : Lent s (p .regular) (p .alterna
   abbrev plan : Plan
   plan = planned s regular other
 
-  abbrev StepOf : Result → Type 0
+  abbrev StepOf : StepResult → Type 0
   StepOf r = Step p s (outcomeFrom (r .answer)) (r .words) × Some (r .answer)
 
   known : (es : List Effect) → plan ≡ gives es → Known s regular other es
@@ -126,7 +126,7 @@ module _ (s : List ℕ) (p : Procedures) (lent : Lent s (p .regular) (p .alterna
   trap-step : (class number : ℕ) → plan ≡ trap class number → stepOf regular other s ≡ stepping.trapped s class number
   trap-step class number e = step-of (trap class number) e
 
-  trap-small : (class number : ℕ) → class < 2 ^ 8 → number < 2 ^ 8 → stepping.trapped s class number ≡ stepping.after (S.Trapped class number) (set s 3 (trapOf class number))
+  trap-small : (class number : ℕ) → class < 2 ^ 8 → number < 2 ^ 8 → stepping.trapped s class number ≡ stepping.stepResult (S.Trapped class number) (set s 3 (trapOf class number))
   unfolding setTrap
   trap-small class number c n =
       let a : class % 2 ^ 8 ≡ class = omega arith in

@@ -30,7 +30,7 @@ use Rattle.acceptance.proofs.Structure.{structure}
 use Rattle.effects.specs.declared.Stepped.{Stepped}
 use Rattle.effects.specs.declared.Stepped.the-variants as stepped
 use Rattle.effects.specs.Step.{stepOf}
-use Rattle.effects.specs.Run.{Outcome, following, stepsFrom, runOf}
+use Rattle.effects.specs.Run.{RunResult, following, stepsFrom, runOf}
 use Rattle.operations.specs.declared.Looked.the-variants.{Scalar, Array, Refused}
 use Rattle.operations.specs.declared.Run.{Run}
 use Rattle.operations.specs.Answers.{stepsOf}
@@ -43,10 +43,10 @@ use Rattle.crms_export.proofs.Numbers.{part-length}
 
 -- ---- runs
 
-abbrev stepsIn : Outcome → ℕ
-stepsIn o = stepsOf (operations.answerOf (o .answer))
+abbrev stepsIn : RunResult → ℕ
+stepsIn o = stepsOf (operations.runAnswer (o .answer))
 
-followed : (steps more : ℕ) (answer : Stepped) (s : List ℕ) (next : List ℕ → Outcome) → ((t : List ℕ) → stepsIn (next t) ≤ steps + suc more)
+followed : (steps more : ℕ) (answer : Stepped) (s : List ℕ) (next : List ℕ → RunResult) → ((t : List ℕ) → stepsIn (next t) ≤ steps + suc more)
     → stepsIn (following steps answer s next) ≤ steps + suc more
 followed steps more stepped.Finished s next h = h s
 followed steps more (stepped.Traced class number) s next h = omega arith

@@ -13,7 +13,7 @@ use Rattle.segment.specs.State.{sbase, ltop, lbase, setLtop, setLbase, setIorg}
 use Rattle.segment.specs.Stack.{lastLbaseAt, setPctr}
 use Rattle.segment.specs.Blocks.{countAt, rankAt, shapeAt, elementsAt, need}
 use Rattle.storage.specs.Request.{requestAt}
-use Rattle.storage.specs.Arrays.{share, drop, drops}
+use Rattle.storage.specs.Arrays.{share, dropWord, dropWords}
 use Rattle.manual.specs.Effects.{Source, variable, operand, word, undefinedValue, reference, made, Effect, replaces, discards, swaps, stores, storesElement, enters, leaves, jumps, setsOrigin}
 use Rattle.effects.specs.Sources.{addressOf, heldAt, operandAt, wordOf, placed}
 
@@ -26,17 +26,17 @@ unfoldable pub finish : List ℕ → ℕ → ℕ → List ℕ
 finish s b w = set (setLtop s (b - sbase s)) b w
 
 unfoldable pub replace : List ℕ → ℕ → Source → List ℕ
-replace s n source = finish (drops n (placed s source) (bottomOf s n)) (bottomOf s n) (wordOf s source)
+replace s n source = finish (dropWords n (placed s source) (bottomOf s n)) (bottomOf s n) (wordOf s source)
 
 unfoldable pub discard : List ℕ → ℕ → List ℕ
-discard s n = setLtop (drops n s (bottomOf s n)) (ltop s - n)
+discard s n = setLtop (dropWords n s (bottomOf s n)) (ltop s - n)
 
 unfoldable pub swap : List ℕ → List ℕ
 swap s = set (set s (sbase s + ltop s) (operandAt s 1)) (sbase s + ltop s - 1) (operandAt s 0)
 
 -- A result goes into the cell at `i`: it is placed or its count is raised, it is stored, the old value is released.
 unfoldable pub storeAt : List ℕ → ℕ → Source → List ℕ
-storeAt s i source = drop (set (placed s source) i (wordOf s source)) (getD s i 0)
+storeAt s i source = dropWord (set (placed s source) i (wordOf s source)) (getD s i 0)
 
 unfoldable pub store : List ℕ → Target → Source → List ℕ
 store s t source = storeAt s (addressOf s t) source
@@ -68,16 +68,16 @@ enter s n f =
 
 -- The current frame goes with the n variables under its two words; its result takes the place of the lowest. LBASE has sixteen
 -- bits.
-abbrev pub startOf : List ℕ → ℕ → ℕ
-startOf s n = sbase s + lbase s - n
+abbrev pub leavingStart : List ℕ → ℕ → ℕ
+leavingStart s n = sbase s + lbase s - n
 
 unfoldable pub leaveWith : List ℕ → ℕ → List ℕ
 leaveWith s n =
     let w = getD s (sbase s + lbase s - 1) 0 in
-    set (setLbase (setLtop (drops n (share s w) (startOf s n)) (lbase s - n)) (lastLbaseAt s (lbase s) % 2 ^ 16)) (startOf s n) w
+    set (setLbase (setLtop (dropWords n (share s w) (leavingStart s n)) (lbase s - n)) (lastLbaseAt s (lbase s) % 2 ^ 16)) (leavingStart s n) w
 
 unfoldable pub leaveWithout : List ℕ → ℕ → List ℕ
-leaveWithout s n = setLbase (setLtop (drops n s (startOf s n)) (lbase s - n - 1)) (lastLbaseAt s (lbase s) % 2 ^ 16)
+leaveWithout s n = setLbase (setLtop (dropWords n s (leavingStart s n)) (lbase s - n - 1)) (lastLbaseAt s (lbase s) % 2 ^ 16)
 
 abbrev pub perform : List ℕ → Effect → List ℕ
 perform s (replaces n source) = replace s n source

@@ -7,27 +7,27 @@ use Rattle.effects.specs.declared.Stepped.{Stepped}
 use Rattle.effects.specs.declared.Stepped.the-variants.{Finished, Traced, Trapped}
 use Rattle.effects.specs.declared.Ran.{Ran}
 use Rattle.effects.specs.declared.Ran.the-variants as R
-use Rattle.effects.specs.Step.{Result, stepOf}
+use Rattle.effects.specs.Step.{StepResult, stepOf}
 
-pub record Outcome : Type 0 where
+pub record RunResult : Type 0 where
   pub answer : Ran
   pub words : List ℕ
 
-abbrev pub ended : Ran → List ℕ → Outcome
+abbrev pub ended : Ran → List ℕ → RunResult
 ended answer s = record { answer = answer; words = s }
 
 -- What follows a step that answered so, `steps` instructions having finished before it.
-abbrev pub following : ℕ → Stepped → List ℕ → (List ℕ → Outcome) → Outcome
+abbrev pub following : ℕ → Stepped → List ℕ → (List ℕ → RunResult) → RunResult
 following steps Finished s more = more s
 following steps (Traced class number) s more = ended (R.Trapped (steps + 1)) s
 following steps (Trapped class number) s more = ended (R.Trapped steps) s
 
-unfoldable pub stepsFrom : ℕ → ℕ → List ℕ → List ℕ → List ℕ → Outcome
+unfoldable pub stepsFrom : ℕ → ℕ → List ℕ → List ℕ → List ℕ → RunResult
 stepsFrom zero steps regular other s = ended (R.Done steps) s
 stepsFrom (suc budget) steps regular other s =
     let r = stepOf regular other s in
     following steps (r .answer) (r .words) (λ t. stepsFrom budget (steps + 1) regular other t)
 
 -- "A run sets word 3 to zero first."
-unfoldable pub runOf : List ℕ → List ℕ → List ℕ → ℕ → Outcome
+unfoldable pub runOf : List ℕ → List ℕ → List ℕ → ℕ → RunResult
 runOf regular other s budget = stepsFrom budget 0 regular other (set s 3 0)

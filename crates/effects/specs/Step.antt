@@ -1,5 +1,5 @@
 -- A step on words: fetch, plan, do, and then the step and trace traps. Document 01, "Meanings fixed here": fetch traps first;
--- (1,2) last; "(2,1) and (2,2) come after a finished, counted instruction; both due: (2,2). Call trace goes by FCNCTRC and the
+-- (1,2) last; "(2,1) and (2,2) come stepResult a finished, counted instruction; both due: (2,2). Call trace goes by FCNCTRC and the
 -- called header, return trace by FCNRTRC"; decision 16 for (2,3). Assumes nothing.
 use Prim.Native.Nat.{ℕ, _%_, _^_}
 use mathlib.Core.Bool.{Bool, true, false, cond, _&&_}
@@ -19,13 +19,13 @@ use Rattle.effects.specs.Carried.{Carried, carry}
 use Rattle.effects.specs.declared.Stepped.{Stepped}
 use Rattle.effects.specs.declared.Stepped.the-variants.{Finished, Traced, Trapped}
 
--- What a step answers, and the segment after it.
-pub record Result : Type 0 where
+-- What a step answers, and the segment stepResult it.
+pub record StepResult : Type 0 where
   pub answer : Stepped
   pub words : List ℕ
 
-abbrev pub after : Stepped → List ℕ → Result
-after answer s = record { answer = answer; words = s }
+abbrev pub stepResult : Stepped → List ℕ → StepResult
+stepResult answer s = record { answer = answer; words = s }
 
 -- ---- the current frame
 
@@ -39,7 +39,7 @@ numberOf s = functionNumber (codeWordAt s (lbase s))
 unfoldable pub currentHeader : List ℕ → List ℕ → List ℕ → Header
 currentHeader regular other s = headerOfFunction (selected (selectorOf s) regular other) (numberOf s)
 
--- ---- what is due after a finished instruction
+-- ---- what is due stepResult a finished instruction
 
 -- The number of the class 2 trap, 0 for none: a trace, where its flag and the header's bit are set, or else the step trap.
 abbrev pub dueIf : Bool → ℕ → List ℕ → ℕ
@@ -55,31 +55,31 @@ due regular other rtntrace (O.Trapped class number) s = 0
 -- ---- the step
 
 -- The instruction traps: everything but the trap word is unchanged. Class and number have eight bits each.
-abbrev pub trapped : List ℕ → ℕ → ℕ → Result
-trapped s class number = after (Trapped class number) (setTrap s (class % 2 ^ 8) (number % 2 ^ 8))
+abbrev pub trapped : List ℕ → ℕ → ℕ → StepResult
+trapped s class number = stepResult (Trapped class number) (setTrap s (class % 2 ^ 8) (number % 2 ^ 8))
 
--- It is done and counted; what is due comes after.
-abbrev pub finished : ℕ → List ℕ → Result
-finished due s = cond (eqb due 0) (after Finished s) (after (Traced 2 due) (setTrap s 2 due))
+-- It is done and counted; what is due comes stepResult.
+abbrev pub finished : ℕ → List ℕ → StepResult
+finished due s = cond (eqb due 0) (stepResult Finished s) (stepResult (Traced 2 due) (setTrap s 2 due))
 
-abbrev pub settled : List ℕ → List ℕ → Bool → Outcome → List ℕ → Result
+abbrev pub settled : List ℕ → List ℕ → Bool → Outcome → List ℕ → StepResult
 settled regular other rtntrace (O.Trapped class number) s = trapped s class number
 settled regular other rtntrace O.Finished s = finished (due regular other rtntrace O.Finished s) s
 settled regular other rtntrace O.Entered s = finished (due regular other rtntrace O.Entered s) s
 settled regular other rtntrace O.Left s = finished (due regular other rtntrace O.Left s) s
 
-abbrev pub settle : List ℕ → List ℕ → Bool → Carried → Result
+abbrev pub settle : List ℕ → List ℕ → Bool → Carried → StepResult
 settle regular other rtntrace c = settled regular other rtntrace (c .outcome) (c .words)
 
-unfoldable pub stepIn : Running → List ℕ → Result
+unfoldable pub stepIn : Running → List ℕ → StepResult
 stepIn f s =
     settle (f .regular) (f .alternate) (headerOf f .rtntrace)
     (carry s (planAt f (seen s) (pctr (codeWordAt s (lbase s)))))
 
 -- The function of the current frame; one outside its bounds is (3,1).
-abbrev pub stepFound : List ℕ → List ℕ → List ℕ → Bool → Function → Result
+abbrev pub stepFound : List ℕ → List ℕ → List ℕ → Bool → Function → StepResult
 stepFound regular other s selector (F.At block) = stepIn (record { regular = regular; alternate = other; selector = selector; block = block }) s
 stepFound regular other s selector F.Absent = trapped s 3 1
 
-unfoldable pub stepOf : List ℕ → List ℕ → List ℕ → Result
+unfoldable pub stepOf : List ℕ → List ℕ → List ℕ → StepResult
 stepOf regular other s = stepFound regular other s (selectorOf s) (functionOf (selected (selectorOf s) regular other) (numberOf s))

@@ -6,7 +6,7 @@ use mathlib.Core.Bool.{true, cond}
 use mathlib.Core.List.{List}
 use lib.ListN.{set}
 use Rattle.descriptor.specs.declared.Target.{Target}
-use Rattle.storage.specs.Arrays.{share, drop, drops}
+use Rattle.storage.specs.Arrays.{share, dropWord, dropWords}
 use Rattle.manual.specs.Effects.{Effect, storesElement}
 use Rattle.effects.specs.Sources.{addressOf, heldAt}
 use Rattle.effects.specs.Perform.{bottomOf, finish, blockOf, unshare, perform, isFull}
@@ -16,10 +16,10 @@ use Rattle.effects_code.specs.declared.Done.the-variants as D
 
 -- `w` is held by one cell more: the operand in the place of n others, or the variable in the place of its old word.
 unfoldable pub replaceShared : List ℕ → ℕ → ℕ → List ℕ
-replaceShared s n w = finish (drops n (share s w) (bottomOf s n)) (bottomOf s n) w
+replaceShared s n w = finish (dropWords n (share s w) (bottomOf s n)) (bottomOf s n) w
 
 unfoldable pub storeShared : List ℕ → Target → ℕ → List ℕ
-storeShared s t w = drop (set (share s w) (addressOf s t) w) (heldAt s t)
+storeShared s t w = dropWord (set (share s w) (addressOf s t) w) (heldAt s t)
 
 -- An effect that may ask for a block: the answer, and the words after it.
 unfoldable pub answer : List ℕ → Effect → Done

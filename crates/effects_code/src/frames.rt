@@ -86,14 +86,14 @@ fn leave_without(seg: &mut [u32], n: u32)
 
 // What the result variable of the current frame holds: the highest of those under its two words.
 pub fn result_word(seg: &[u32]) -> u32
-    ensures { λ r. ⌜ r ≡ getD (now (seg .entry)) (effect.startOf (now (seg .entry)) 1) 0 ⌝ }
+    ensures { λ r. ⌜ r ≡ getD (now (seg .entry)) (effect.leavingStart (now (seg .entry)) 1) 0 ⌝ }
 {
     word(seg, below(seg, 1).index())
 }
 
 // The cell of the lowest of the n variables under the current frame's two words.
 fn below(seg: &[u32], n: u32) -> SegmentAddress
-    ensures { λ r. ⌜ r .0 ≡ effect.startOf (now (seg .entry)) n ⌝ }
+    ensures { λ r. ⌜ r .0 ≡ effect.leavingStart (now (seg .entry)) n ⌝ }
 {
     SegmentAddress::of(minus(frame_cell(seg).number(), n))
 }

@@ -92,7 +92,7 @@ pub fn jump(seg: &mut [u32], place: CodeAddress)
 
 // The n cells from `start` up are dropped, the highest first.
 pub fn drop_from(seg: &mut [u32], start: SegmentAddress, n: u32)
-    ensures { λ _. ⌜ now (seg .exit) ≡ arrays.drops n (now (seg .entry)) (start .0) ⌝ }
+    ensures { λ _. ⌜ now (seg .exit) ≡ arrays.dropWords n (now (seg .entry)) (start .0) ⌝ }
 {
     let at = start.index();
     let mut left = n;
@@ -106,7 +106,7 @@ pub fn drop_from(seg: &mut [u32], start: SegmentAddress, n: u32)
 // The n cells from b up go, and the stack ends at b with `w`.
 fn take(seg: &mut [u32], b: SegmentAddress, n: u32, w: u32)
     requires { ⌜ b .0 < 2 ^ 17 - 1 ⌝ }
-    ensures { λ _. ⌜ now (seg .exit) ≡ effect.finish (arrays.drops n (now (seg .entry)) (b .0)) (b .0) w ⌝ }
+    ensures { λ _. ⌜ now (seg .exit) ≡ effect.finish (arrays.dropWords n (now (seg .entry)) (b .0)) (b .0) w ⌝ }
 {
     drop_from(seg, b, n);
     finish(seg, b, w);

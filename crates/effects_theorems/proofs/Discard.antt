@@ -10,9 +10,9 @@ use Rattle.descriptor.specs.Fields.{arrayWord}
 use Rattle.segment.specs.State.{sbase, ltop, lbase, blockptr, setLtop}
 use Rattle.segment.specs.Stack.{downward}
 use Rattle.segment.specs.Cells.{cell}
-use Rattle.storage.specs.Arrays.{drops}
+use Rattle.storage.specs.Arrays.{dropWords}
 use Rattle.storage.specs.Heap.{count}
-use Rattle.storage.specs.Owned.{Owned, Step}
+use Rattle.storage.specs.Owned.{Owned, OwnedStep}
 use Rattle.segment.specs.Machine.{mapMachine, allCells}
 use Rattle.segment.specs.View.{words, owners, view}
 use Rattle.manual.specs.Effects as manual
@@ -74,7 +74,7 @@ module _ (s : List ℕ) (g : Sound s) (n : ℕ) (some : n ≤ temporaries s) whe
   b = bottomOf s n
 
   abbrev s2 : List ℕ
-  s2 = drops n s b
+  s2 = dropWords n s b
 
   abbrev us : List ℕ
   us = allCells (manual.discard n (words s))
@@ -100,7 +100,7 @@ module _ (s : List ℕ) (g : Sound s) (n : ℕ) (some : n ≤ temporaries s) whe
   pub discard-above : sbase s ≤ b
   discard-above = omega (arith, low, some)
 
-  dropped : Step s (downward s b n ++ us) s2 us
+  dropped : OwnedStep s (downward s b n ++ us) s2 us
   dropped = drops-own n us b discard-own discard-above
 
   regs2 : Regs s s2

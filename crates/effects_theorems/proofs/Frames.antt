@@ -9,7 +9,7 @@ use borrow.Author.Tests.{le-leb, lt-leb}
 use Rattle.segment.specs.State.{sbase, ltop, lbase, blockptr, flags}
 use Rattle.segment.specs.Blocks.{part}
 use Rattle.segment.specs.Stack.{lastLbaseAt, codeWordAt, downward}
-use Rattle.storage.specs.Owned.{Kept}
+use Rattle.storage.specs.Owned.{CellsKept}
 use Rattle.segment.specs.Machine.{Frame, cellsOfFrames, depthOfFrames}
 use Rattle.segment.specs.View.{framesFrom, words}
 use Rattle.storage_theorems.proofs.Counts.{order}
@@ -113,7 +113,7 @@ words-left s s′ low base frame globals frames =
     )
 
 -- a step in array storage leaves the cells' words
-pub words-kept : (s s′ : List ℕ) → Kept s s′ → 8 ≤ blockptr s → blockptr s ≤ sbase s → words s′ ≡ words s
+pub words-kept : (s s′ : List ℕ) → CellsKept s s′ → 8 ≤ blockptr s → blockptr s ≤ sbase s → words s′ ≡ words s
 unfolding words
 words-kept s s′ h l k =
     let f : flags s′ ≡ flags s = h .rest 2 (omega arith) (inl (omega arith)) in

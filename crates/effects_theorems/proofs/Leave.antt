@@ -12,9 +12,9 @@ use Rattle.segment.specs.State.{sbase, ltop, lbase, rover, blockptr, setLtop, s
 use Rattle.segment.specs.Blocks.{part}
 use Rattle.segment.specs.Stack.{lastLbaseAt, codeWordAt, downward}
 use Rattle.segment.specs.Cells.{Cell, undefined, cell}
-use Rattle.storage.specs.Arrays.{share, drops}
+use Rattle.storage.specs.Arrays.{share, dropWords}
 use Rattle.storage.specs.Heap.{count}
-use Rattle.storage.specs.Owned.{Owned, Kept, Step}
+use Rattle.storage.specs.Owned.{Owned, CellsKept, OwnedStep}
 use Rattle.segment.specs.Machine.{Machine, mapMachine, cellsOfFrames, allCells}
 use Rattle.segment.specs.View.{framesFrom, words, owners, view}
 use Rattle.manual.specs.Effects as manual
@@ -25,7 +25,7 @@ use Rattle.storage_theorems.proofs.Cells.{part-same}
 use Rattle.storage_theorems.proofs.Owners.{reown}
 use Rattle.storage_theorems.proofs.Steps.{kept-on, step-none, downward-same, downward-split, drops-own}
 use Rattle.storage_theorems.proofs.Elsewhere.{own-elsewhere, cell-elsewhere}
-use Rattle.effects.specs.Perform.{startOf, leaveWith, leaveWithout}
+use Rattle.effects.specs.Perform.{leavingStart, leaveWith, leaveWithout}
 use Rattle.effects.specs.Sound.{Chain, bottom, upon, Sound}
 use Rattle.effects.specs.Fits.{CanLeave}
 use Rattle.effects_theorems.specs.Theorems.{StateKept}
@@ -69,7 +69,7 @@ module _ (s : List ℕ) (n last : ℕ) (is : lastLbaseAt s (lbase s) ≡ last) (
       ∙ rw (frames-fuel (lbase s) (suc last) s last (omega (arith, starts)) (omega arith))
 
   -- the cells that go are the highest of the frame
-  cells-split : manual.currentCells (words s .frames) ≡ downward s (startOf s n) n ++ drop n (manual.currentCells (words s .frames))
+  cells-split : manual.currentCells (words s .frames) ≡ downward s (leavingStart s n) n ++ drop n (manual.currentCells (words s .frames))
   cells-split =
       let k : lbase s - (last + 2) ≡ lbase s - (last + 2) - n + n = omega (arith, starts) in
       let p : sbase s + (last + 2) + (lbase s - (last + 2) - n) ≡ sbase s + lbase s - n = omega (arith, starts) in
@@ -111,7 +111,7 @@ left-count x top n m =
 
 -- the result's count is raised, the cells are dropped, and the older frame is the current one
 module _ (s : List ℕ) (g : Sound s) (n : ℕ) (empty : ltop s ≡ lbase s + 1) (starts : lastLbaseAt s (lbase s) + 2 + n ≤ lbase s)
-    (top r1 : List ℕ) (cs : List Cell) (first : Step s (owners s) r1 (top ++ owners s)) (shown : map (cell r1) top ≡ cs) where
+    (top r1 : List ℕ) (cs : List Cell) (first : OwnedStep s (owners s) r1 (top ++ owners s)) (shown : map (cell r1) top ≡ cs) where
   abbrev last : ℕ
   last = lastLbaseAt s (lbase s)
 
@@ -119,10 +119,10 @@ module _ (s : List ℕ) (g : Sound s) (n : ℕ) (empty : ltop s ≡ lbase s + 1)
   m = words s
 
   abbrev b : ℕ
-  b = startOf s n
+  b = leavingStart s n
 
   abbrev r2 : List ℕ
-  r2 = drops n r1 b
+  r2 = dropWords n r1 b
 
   abbrev us : List ℕ
   us = allCells (left top n m)
@@ -162,10 +162,10 @@ module _ (s : List ℕ) (g : Sound s) (n : ℕ) (empty : ltop s ≡ lbase s + 1)
   pub leave-above : sbase r1 ≤ b
   leave-above = omega (arith, kept-regs (first .kept) (low .low), starts)
 
-  second : Step r1 (downward r1 b n ++ us) r2 us
+  second : OwnedStep r1 (downward r1 b n ++ us) r2 us
   second = drops-own n us b leave-own leave-above
 
-  kept2 : Kept s r2
+  kept2 : CellsKept s r2
   kept2 = kept-on (low .low) (first .kept) (second .kept)
 
   left-regs : Regs s r2
@@ -321,11 +321,11 @@ module _ (s : List ℕ) (n last : ℕ) (starts : last + 2 + n ≤ lbase s) (low 
 
 -- RETURN of a function without a result
 module _ (s : List ℕ) (g : Sound s) (n : ℕ) (can : CanLeave s n false) where
-  pub without-first : Step s (owners s) s (owners s)
+  pub without-first : OwnedStep s (owners s) s (owners s)
   without-first = step-none (owners s) (λ x l. refl) (g .own)
 
   abbrev d0 : List ℕ
-  d0 = drops n s (startOf s n)
+  d0 = dropWords n s (leavingStart s n)
 
   regs0 : Regs s d0
   regs0 = left-regs s g n (can .empty) (can .cells) [] s [] without-first refl
@@ -394,7 +394,7 @@ module _ (s : List ℕ) (g : Sound s) (n : ℕ) (can : CanLeave s n true) where
   with-shown = rw (with-put .shown)
 
   abbrev d1 : List ℕ
-  d1 = drops n (share s w) (startOf s n)
+  d1 = dropWords n (share s w) (leavingStart s n)
 
   regs1 : Regs s d1
   regs1 = left-regs s g n (can .empty) (can .cells) (w ∷ []) (share s w) (c ∷ []) (with-put .step) with-shown
@@ -402,13 +402,13 @@ module _ (s : List ℕ) (g : Sound s) (n : ℕ) (can : CanLeave s n true) where
   abbrev f1 : List ℕ
   f1 = set
       (set (set d1 0 (sbase d1 * 2 ^ 16 + (lbase d1 - n))) 1 (lastLbaseAt s (lbase s) * 2 ^ 16 + rover (set d1 0 (sbase d1 * 2 ^ 16 + (lbase d1 - n)))))
-      (startOf s n) w
+      (leavingStart s n) w
 
   back1 : Back d1 f1 n (lastLbaseAt s (lbase s)) (w ∷ [])
   back1 =
       let low = bounds g in
       back-with d1 n (lastLbaseAt s (lbase s)) (omega (arith, regs1, can)) (omega (arith, regs1)) (omega (arith, regs1)) (omega (arith, regs1))
-      (omega (arith, regs1)) w (startOf s n) (omega (arith, regs1, can))
+      (omega (arith, regs1)) w (leavingStart s n) (omega (arith, regs1, can))
 
   with-is : leaveWith s n ≡ f1
   unfolding leaveWith setLtop setLbase

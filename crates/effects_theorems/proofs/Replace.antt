@@ -10,9 +10,9 @@ use Rattle.descriptor.specs.Fields.{arrayWord}
 use Rattle.segment.specs.State.{sbase, ltop, lbase, blockptr, setLtop}
 use Rattle.segment.specs.Stack.{downward}
 use Rattle.segment.specs.Cells.{Cell, cell}
-use Rattle.storage.specs.Arrays.{drops}
+use Rattle.storage.specs.Arrays.{dropWords}
 use Rattle.storage.specs.Heap.{count}
-use Rattle.storage.specs.Owned.{Owned, Kept, Step}
+use Rattle.storage.specs.Owned.{Owned, CellsKept, OwnedStep}
 use Rattle.segment.specs.Machine.{Machine, mapMachine, allCells}
 use Rattle.segment.specs.View.{words, owners, view}
 use Rattle.manual.specs.Effects as manual
@@ -108,7 +108,7 @@ module _ (s : List ℕ) (g : Sound s) (n w : ℕ) (c : Cell) (s1 : List ℕ) (fi
   b = bottomOf s n
 
   abbrev s2 : List ℕ
-  s2 = drops n s1 b
+  s2 = dropWords n s1 b
 
   abbrev vs : List ℕ
   vs = allCells (manual.replace n w m)
@@ -139,10 +139,10 @@ module _ (s : List ℕ) (g : Sound s) (n w : ℕ) (c : Cell) (s1 : List ℕ) (fi
   pub replace-above : sbase s1 ≤ b
   replace-above = omega (arith, kept-regs (first .step .kept) (low .low), low, can)
 
-  second : Step s1 (downward s1 b n ++ vs) s2 vs
+  second : OwnedStep s1 (downward s1 b n ++ vs) s2 vs
   second = drops-own n vs b replace-own replace-above
 
-  kept2 : Kept s s2
+  kept2 : CellsKept s s2
   kept2 = kept-on (low .low) (first .step .kept) (second .kept)
 
   regs : Regs s s2

@@ -7,7 +7,7 @@ use native.Mathlib.Omega.{arith}
 use lib.ListN.{getD, set, length, length-set, length-append}
 use lib.Seq.{getD-set-other}
 use Rattle.segment.specs.State.{sbase, ltop, lbase, blockptr}
-use Rattle.storage.specs.Owned.{Kept}
+use Rattle.storage.specs.Owned.{CellsKept}
 use Rattle.segment.specs.Machine.{cellsOfFrames, depth, Machine}
 use Rattle.segment.specs.View.{words, owners, view}
 use Rattle.segment.specs.Cells.{Cell}
@@ -72,7 +72,7 @@ pub record Regs (s s′ : List ℕ) : Type 0 where
   pub start : blockptr s′ ≡ blockptr s
   pub long : length s′ ≡ length s
 
-pub kept-regs : {s s′ : List ℕ} → Kept s s′ → 8 ≤ blockptr s → Regs s s′
+pub kept-regs : {s s′ : List ℕ} → CellsKept s s′ → 8 ≤ blockptr s → Regs s s′
 kept-regs k l = record {
   base = ap (λ (v : ℕ). v / 2 ^ 16) (k .first);
   top = ap (λ (v : ℕ). v % 2 ^ 16) (k .first);

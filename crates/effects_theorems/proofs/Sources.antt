@@ -10,7 +10,7 @@ use Rattle.descriptor.specs.Fields.{isArray, undefinedWord}
 use Rattle.segment.specs.Cells.{Cell, undefined, cell}
 use Rattle.storage.specs.Arrays.{placeAt, share}
 use Rattle.storage.specs.Heap.{count}
-use Rattle.storage.specs.Owned.{Owned, Step}
+use Rattle.storage.specs.Owned.{Owned, OwnedStep}
 use Rattle.segment.specs.View.{owners, view}
 use Rattle.manual.specs.Effects.{Source, variable, operand, word, undefinedValue, reference, made, meant}
 use Rattle.storage_theorems.proofs.Counts.{hit-same}
@@ -24,7 +24,7 @@ use Rattle.effects_theorems.proofs.Sound.{owners-few}
 use Rattle.effects_theorems.proofs.Variables.{variable-owner, look-view, operand-owner, operand-view}
 
 pub record Put (s ws s1 : List ℕ) (w : ℕ) (c : Cell) : Type 0 where
-  pub step : Step s ws s1 (w ∷ ws)
+  pub step : OwnedStep s ws s1 (w ∷ ws)
   pub shown : cell s1 w ≡ c
 
 pub put-shared : {s ws : List ℕ} (w : ℕ) (c : Cell) → Owned s ws → length ws < 65535 → 0 < count w ws → cell s w ≡ c → Put s ws (share s w) w c

@@ -7,7 +7,7 @@ use native.Mathlib.Omega.{arith}
 use lib.ListN.{getD, set, length, length-set}
 use lib.Seq.{getD-set-same, getD-set-other}
 use Rattle.segment.specs.State.{sbase, blockptr}
-use Rattle.storage.specs.Owned.{Kept}
+use Rattle.storage.specs.Owned.{CellsKept}
 use Rattle.effects_theorems.specs.Theorems.{StateKept}
 
 pub state-none : (s : List ℕ) → StateKept s s
@@ -16,7 +16,7 @@ state-none s = record { long = refl; base = refl; rest = λ i l u. refl }
 pub state-on : {s s1 s2 : List ℕ} → StateKept s s1 → StateKept s1 s2 → StateKept s s2
 state-on f g = record { long = g .long ∙ f .long; base = g .base ∙ f .base; rest = λ i l u. g .rest i l u ∙ f .rest i l u }
 
-pub state-step : {s s′ : List ℕ} → Kept s s′ → 8 ≤ blockptr s → StateKept s s′
+pub state-step : {s s′ : List ℕ} → CellsKept s s′ → 8 ≤ blockptr s → StateKept s s′
 state-step k h = record {
   long = k .long;
   base = ap (λ (v : ℕ). v / 2 ^ 16) (k .first);

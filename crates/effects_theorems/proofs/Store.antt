@@ -10,9 +10,9 @@ use Rattle.descriptor.specs.declared.Target.{Target}
 use Rattle.descriptor.specs.Fields.{arrayWord}
 use Rattle.segment.specs.State.{blockptr}
 use Rattle.segment.specs.Cells.{Cell, cell}
-use Rattle.storage.specs.Arrays.{drop}
+use Rattle.storage.specs.Arrays.{dropWord}
 use Rattle.storage.specs.Heap.{hit, count}
-use Rattle.storage.specs.Owned.{Owned, Kept, Step}
+use Rattle.storage.specs.Owned.{Owned, CellsKept, OwnedStep}
 use Rattle.segment.specs.Machine.{Machine, mapMachine, allCells}
 use Rattle.segment.specs.View.{words, owners, view}
 use Rattle.manual.specs.Effects.{put}
@@ -34,7 +34,7 @@ use Rattle.effects_theorems.proofs.Variables.{Place, variable-place, wo
 use Rattle.effects_theorems.proofs.Sources.{Put}
 
 -- the same store after a step in array storage
-kept-set : {s s1 : List ℕ} (i w : ℕ) → Kept s s1 → 8 ≤ i → i < length s → Kept (set s i w) (set s1 i w)
+kept-set : {s s1 : List ℕ} (i w : ℕ) → CellsKept s s1 → 8 ≤ i → i < length s → CellsKept (set s i w) (set s1 i w)
 kept-set {s} {s1} i w k l m =
     let n0 : 0 ≢ i = omega arith in
     let n1 : 1 ≢ i = omega arith in
@@ -69,7 +69,7 @@ module _ (s : List ℕ) (g : Sound s) (t : Target) (at : Addressable s t) (w : �
   s2 = set s1 i w
 
   abbrev s3 : List ℕ
-  s3 = drop s2 u
+  s3 = dropWord s2 u
 
   abbrev vs : List ℕ
   vs = allCells (put t w m)
@@ -95,7 +95,7 @@ module _ (s : List ℕ) (g : Sound s) (t : Target) (at : Addressable s t) (w : �
   own2 : Owned s2 (u ∷ vs)
   own2 = reown (u ∷ vs) (λ x l. counted (arrayWord x)) (own-elsewhere moved (first .step .own))
 
-  second : Step s2 (u ∷ vs) s3 vs
+  second : OwnedStep s2 (u ∷ vs) s3 vs
   second = drop-own u own2
 
   abbrev s0 : List ℕ
@@ -113,7 +113,7 @@ module _ (s : List ℕ) (g : Sound s) (t : Target) (at : Addressable s t) (w : �
     long = length-set s i w;
   }
 
-  kept3 : Kept s0 s3
+  kept3 : CellsKept s0 s3
   kept3 = kept-on (omega (arith, low, regs0)) (kept-set i w (first .step .kept) (spot .state) (spot .within)) (second .kept)
 
   regs3 : Regs s0 s3

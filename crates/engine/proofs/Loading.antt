@@ -17,7 +17,7 @@ use Rattle.manual.specs.Effects.{Effect, made, stores}
 use Rattle.effects.specs.Perform.{storeAt, store, isFull}
 use Rattle.acceptance_storage.proofs.Tests.{both, never}
 use Rattle.acceptance.specs.Refusal.{refusal}
-use Rattle.effects_theorems.proofs.Cells.{scalar-array}
+use Rattle.descriptor.proofs.Arrays.{scalar-array}
 use Rattle.effects_code.specs.declared.Done.the-variants as D
 use Rattle.effects_code.specs.Done.{storeShared, answer, attempt}
 use Rattle.effects_code.proofs.Placing.{full-by-need}
@@ -88,13 +88,13 @@ module _ (s regular other : List ℕ) (g : ℕ) (lengths ravel : List ℕ) where
       no-value none = refused 23 (λ e. omega (arith, e)) (simp (← accepted, global, none))
 
       module _ (value : isValue lengths ravel ≡ true) where
-        judged : (b : Bool) → meaning.isFull s lengths ravel ≡ b → loadRefusal s regular other g lengths ravel ≡ cond b 24 0
+        judged : (b : Bool) → meaning.lacksRoom s lengths ravel ≡ b → loadRefusal s regular other g lengths ravel ≡ cond b 24 0
         unfolding loadRefusal
         judged b full = simp (← accepted, global, value, full)
 
         module _ (a : SegmentAddress) (at : a .0 ≡ g) (after : List ℕ) where
           pub scalar-stored : length lengths ≡ 0 → after ≡ storeShared s (Global a) (first ravel) → Answers Done after
-          unfolding storeShared storeAt share meaning.isFull
+          unfolding storeShared storeAt share meaning.lacksRoom
           scalar-stored rank left =
               let same = done (judged false (simp rank)) in
               (same .0, left ∙ simp (scalar-array (first ravel) (one-scalar lengths ravel value rank .1), at) (simp (eq-eqb (length lengths) 0 rank) at (same .1)))
@@ -103,8 +103,8 @@ module _ (s regular other : List ℕ) (g : ℕ) (lengths ravel : List ℕ) where
           effect = stores (Global a) (made lengths ravel)
 
           module _ (rank : length lengths ≡ 0 → ⊥) (left : after ≡ attempt s effect) where
-            by-need : meaning.isFull s lengths ravel ≡ isFull s effect
-            unfolding meaning.isFull
+            by-need : meaning.lacksRoom s lengths ravel ≡ isFull s effect
+            unfolding meaning.lacksRoom
             by-need = simp (lt-ltb 0 (length lengths) (omega (arith, rank))) (sym (full-by-need s lengths ravel effect refl))
 
             pub full : D.Full ≡ answer s effect → Answers (Refused 24) after

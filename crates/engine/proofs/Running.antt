@@ -9,7 +9,7 @@ use Rattle.effects.specs.declared.Ran.{Ran}
 use Rattle.effects.specs.Run as machine
 use Rattle.operations.specs.declared.Run.{Run}
 use Rattle.operations.specs.declared.Run.the-variants.{Refused}
-use Rattle.operations.specs.Run.{Ended, ended, answerOf, accepted, ran}
+use Rattle.operations.specs.Run.{Ended, ended, runAnswer, accepted, ran}
 use Rattle.audit.specs.Calls as call
 use Rattle.audit.specs.Did.{Did, Promised}
 use Rattle.audit.proofs.Run.{run-did}
@@ -37,11 +37,11 @@ module _ (s regular alternate : List ℕ) (budget : ℕ) where
   unaccepted n same some = promised (Refused n) s (simp (← same, ne-eqb n 0 some))
 
   module _ (passed : 0 ≡ refusal s regular alternate) (after : List ℕ) where
-    has-run : (r : Ran) → machine.ended r after ≡ machine.stepsFrom budget 0 regular alternate (set s 3 0) → ended (answerOf r) after ≡ ran s regular alternate budget
+    has-run : (r : Ran) → machine.ended r after ≡ machine.stepsFrom budget 0 regular alternate (set s 3 0) → ended (runAnswer r) after ≡ ran s regular alternate budget
     unfolding ran machine.runOf
     has-run r same = simp (← passed) (ap accepted same)
 
     -- from the words with word 3 zero
     pub has-ended : (start : List ℕ) → start ≡ set s 3 0 → (r : Ran) → machine.ended r after ≡ machine.stepsFrom budget 0 regular alternate start
-        → Answers (answerOf r) after
-    has-ended start zero r same = promised (answerOf r) after (has-run r (rw zero at same))
+        → Answers (runAnswer r) after
+    has-ended start zero r same = promised (runAnswer r) after (has-run r (rw zero at same))

@@ -14,7 +14,7 @@ use Rattle.scalar.specs.declared.Answer.{Answer}
 use Rattle.scalar.specs.declared.Answer.the-variants.{Word}
 use Rattle.scalar.specs.Operators.{monadicOf, dyadicOf}
 use Rattle.segment.specs.State.{sbase, ltop, setLtop}
-use Rattle.storage.specs.Arrays.{drops}
+use Rattle.storage.specs.Arrays.{dropWords}
 use Rattle.storage.proofs.Counts.{drop-other}
 use Rattle.manual.specs.OrTrap.{gives}
 use Rattle.manual.specs.Effects.{word, replaces, jumps}
@@ -83,7 +83,7 @@ module _ (s : List ℕ) (two : 2 ≤ temporaries s) {x y : ℕ} (top : x ≡ ope
       low : bottomOf s 2 ≡ sbase s + ltop s - 1
       low = omega arith
 
-      kept : drops 2 s (bottomOf s 2) ≡ s
+      kept : dropWords 2 s (bottomOf s 2) ≡ s
       kept =
           dropped-two s (bottomOf s 2)
           (ap (λ (i : ℕ). isArray (getD s i 0)) high ∙ scalar-no-array (operandAt s 0) scalar-top)

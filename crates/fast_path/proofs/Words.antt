@@ -18,7 +18,7 @@ use Rattle.descriptor.proofs.Arrays.{array-kind}
 use Rattle.segment.specs.State.{sbase, ltop, setLtop}
 use Rattle.segment.specs.Blocks.{shapeAt, elementsAt}
 use Rattle.segment.specs.Cells.{Cell, undefined, value, invalid}
-use Rattle.storage.specs.Arrays.{drops}
+use Rattle.storage.specs.Arrays.{dropWords}
 use Rattle.storage.proofs.Counts.{drop-other}
 use Rattle.manual.specs.OrTrap.{OrTrap, gives}
 use Rattle.manual.specs.Seen.{Variable, at, followed, follow}
@@ -135,7 +135,7 @@ pub scalar-operand : (s : List ℕ) (i : ℕ) → i < temporaries s → isScalar
 scalar-operand s i there plain = rw (operand-seen s i there, scalar-read (operandAt s i) s plain)
 
 -- Operands that name no array go.
-pub dropped-two : (s : List ℕ) (b : ℕ) → isArray (getD s (b + 1) 0) ≡ false → isArray (getD s b 0) ≡ false → drops 2 s b ≡ s
+pub dropped-two : (s : List ℕ) (b : ℕ) → isArray (getD s (b + 1) 0) ≡ false → isArray (getD s b 0) ≡ false → dropWords 2 s b ≡ s
 dropped-two s b first second =
     let low : b + 0 ≡ b = omega arith in
     rw (drop-other s (getD s (b + 1) 0) first, low, drop-other s (getD s b 0) second)

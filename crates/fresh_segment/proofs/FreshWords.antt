@@ -9,7 +9,7 @@ use lib.Seq.{ext-getD}
 use Rattle.segment.specs.State.{sbase, ltop, lbase}
 use Rattle.segment.specs.Blocks.{dummy}
 use Rattle.descriptor.proofs.Truth.{by-le, by-eq}
-use Rattle.fresh_segment.specs.LayOut.{Layout, startOf, baseOf, localsOf}
+use Rattle.fresh_segment.specs.LayOut.{Layout, storageStart, baseOf, localsOf}
 use Rattle.fresh_segment.specs.FreshWords.{FreshWords, FreshSaid}
 use Rattle.fresh_segment.proofs.Words.{Room, Laid, laid}
 use Rattle.fresh_segment.proofs.Passed.{wordOf, passed, laid-out, word-made}
@@ -118,13 +118,13 @@ module _ {t u : List ℕ} {n locals word : ℕ} {l : Layout} (a : Laid t n local
       (λ d₁. by-eq i 4 (λ e. rw e (a .word4 ∙ sym (b .word4)))
       (λ d₄. a .zeros i (d, d₁, d₄) k ∙ sym (b .zeros i (d, d₁, d₄) k))))
 
-  same-free : (i : ℕ) → startOf l ≤ i → i < baseOf l - 3 → Same i
+  same-free : (i : ℕ) → storageStart l ≤ i → i < baseOf l - 3 → Same i
   same-free i k m =
-      by-eq i (startOf l) (λ e. rw e (a .first ∙ sym (b .first)))
-      (λ d. by-eq i (startOf l + 1) (λ e. rw e (a .links ∙ sym (b .links)))
+      by-eq i (storageStart l) (λ e. rw e (a .first ∙ sym (b .first)))
+      (λ d. by-eq i (storageStart l + 1) (λ e. rw e (a .links ∙ sym (b .links)))
       (λ d₁. by-eq i (baseOf l - 3 - 1) (λ e. rw e (a .end ∙ sym (b .end)))
       (λ d₂.
-      let p : startOf l + 2 ≤ i = past-two i (startOf l) k d d₁ in
+      let p : storageStart l + 2 ≤ i = past-two i (storageStart l) k d d₁ in
       let q : i + 1 < baseOf l - 3 = short-of i (baseOf l - 3) m d₂ in
       a .interior i p q ∙ sym (b .interior i p q))))
 
@@ -147,7 +147,7 @@ module _ {t u : List ℕ} {n locals word : ℕ} {l : Layout} (a : Laid t n local
       by-le 8 i
       (λ k. by-le (baseOf l) i (λ o. same-stack i o (omega (arith, m, a .long)))
       (λ o. by-le (baseOf l - 3) i (λ d. same-dummy i d o)
-      (λ d. by-le (startOf l) i (λ e. same-free i e d)
+      (λ d. by-le (storageStart l) i (λ e. same-free i e d)
       (λ e. a .globals i k e ∙ sym (b .globals i k e)))))
       (λ k. same-state i k)
 

@@ -7,7 +7,7 @@ use native.Mathlib.Omega.{arith}
 use Rattle.segment.specs.State.{sbase, ltop, lbase, rover}
 use Rattle.storage.specs.Heap.{Block, free, Walk, Links, Heap}
 use Rattle.acceptance_storage.specs.Head.{Head}
-use Rattle.fresh_segment.specs.LayOut.{Layout, startOf, baseOf}
+use Rattle.fresh_segment.specs.LayOut.{Layout, storageStart, baseOf}
 use Rattle.fresh_segment.proofs.Words.{Room, Laid}
 
 -- The halves of a word.
@@ -31,9 +31,9 @@ module _ {s : List ℕ} {n locals word : ℕ} {l : Layout} (h : Room n locals l)
   laid-ltop = low-half _ (baseOf l) _ (t .word0) (omega (arith, h .longest, h .stack))
 
   pub laid-lbase : lbase s ≡ locals
-  laid-lbase = high-half _ _ (startOf l) (t .word1) (omega (arith, h .longest, h .stack))
+  laid-lbase = high-half _ _ (storageStart l) (t .word1) (omega (arith, h .longest, h .stack))
 
-  pub laid-rover : rover s ≡ startOf l
+  pub laid-rover : rover s ≡ storageStart l
   laid-rover = low-half _ locals _ (t .word1) (omega (arith, h .longest, h .stack))
 
   pub laid-head : Head s
@@ -48,25 +48,25 @@ module _ {s : List ℕ} {n locals word : ℕ} {l : Layout} (h : Room n locals l)
     top = rw (laid-sbase, laid-ltop, t .long) (omega (arith, h .stack));
   }
 
-  after-free : startOf l + (l .arrayWords - 3) ≡ baseOf l - 3
+  after-free : storageStart l + (l .arrayWords - 3) ≡ baseOf l - 3
   after-free = omega (arith, h .storage)
 
-  laid-walk : Walk s (startOf l) false (blocksOf l)
+  laid-walk : Walk s (storageStart l) false (blocksOf l)
   laid-walk = (
     record { alone = refl; least = omega (arith, h .storage); first = t .first; end = rw after-free (t .end) },
     rw after-free (t .dummy),
   )
 
-  pub laid-links : Links s (startOf l) (ringOf l) (startOf l)
+  pub laid-links : Links s (storageStart l) (ringOf l) (storageStart l)
   laid-links = (
-    record { next = high-half _ _ (baseOf l - 3) (t .links) small; last = low-half _ (startOf l) _ (t .dummyLinks) start },
-    record { next = high-half _ _ (startOf l) (t .dummyLinks) start; last = low-half _ (baseOf l - 3) _ (t .links) small },
+    record { next = high-half _ _ (baseOf l - 3) (t .links) small; last = low-half _ (storageStart l) _ (t .dummyLinks) start },
+    record { next = high-half _ _ (storageStart l) (t .dummyLinks) start; last = low-half _ (baseOf l - 3) _ (t .links) small },
   )
     where
       small : baseOf l - 3 < 2 ^ 16
       small = omega (arith, h .longest, h .stack)
 
-      start : startOf l < 2 ^ 16
+      start : storageStart l < 2 ^ 16
       start = omega (arith, h .longest, h .stack)
 
   pub laid-heap : Heap s (blocksOf l) (ringOf l)

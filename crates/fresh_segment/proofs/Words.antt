@@ -7,7 +7,7 @@ use native.Mathlib.Omega.{arith}
 use lib.ListN.{getD, set, length, replicate, length-set, length-replicate, getD-replicate}
 use lib.Seq.{sets, length-sets, getD-set-same, getD-set-other, lt-length-set}
 use Rattle.descriptor.specs.Fields.{undefinedWord}
-use Rattle.fresh_segment.specs.LayOut.{Layout, startOf, baseOf, freshHead, freshStorage, freshFrame, fresh}
+use Rattle.fresh_segment.specs.LayOut.{Layout, storageStart, baseOf, freshHead, freshStorage, freshFrame, fresh}
 use Rattle.fresh_segment.proofs.Runs.{run-in, run-below, run-above}
 
 -- The state words.
@@ -147,16 +147,16 @@ pub record Room (n locals : ℕ) (l : Layout) : Type 0 where
 pub record Laid (s : List ℕ) (n locals word : ℕ) (l : Layout) : Type 0 where
   pub long : length s ≡ n
   pub word0 : getD s 0 0 ≡ baseOf l * 2 ^ 16 + (locals + 1)
-  pub word1 : getD s 1 0 ≡ locals * 2 ^ 16 + startOf l
-  pub word4 : getD s 4 0 ≡ startOf l
+  pub word1 : getD s 1 0 ≡ locals * 2 ^ 16 + storageStart l
+  pub word4 : getD s 4 0 ≡ storageStart l
   pub zeros : (i : ℕ) → (i ≢ 0) × (i ≢ 1) × (i ≢ 4) → i < 8 → getD s i 0 ≡ 0
-  pub globals : (i : ℕ) → 8 ≤ i → i < startOf l → getD s i 0 ≡ undefinedWord
-  pub first : getD s (startOf l) 0 ≡ 2 ^ 31 + (l .arrayWords - 3)
-  pub links : getD s (startOf l + 1) 0 ≡ (baseOf l - 3) * 2 ^ 16 + (baseOf l - 3)
-  pub interior : (i : ℕ) → startOf l + 2 ≤ i → i + 1 < baseOf l - 3 → getD s i 0 ≡ 0
+  pub globals : (i : ℕ) → 8 ≤ i → i < storageStart l → getD s i 0 ≡ undefinedWord
+  pub first : getD s (storageStart l) 0 ≡ 2 ^ 31 + (l .arrayWords - 3)
+  pub links : getD s (storageStart l + 1) 0 ≡ (baseOf l - 3) * 2 ^ 16 + (baseOf l - 3)
+  pub interior : (i : ℕ) → storageStart l + 2 ≤ i → i + 1 < baseOf l - 3 → getD s i 0 ≡ 0
   pub end : getD s (baseOf l - 3 - 1) 0 ≡ l .arrayWords - 3
   pub dummy : getD s (baseOf l - 3) 0 ≡ 2 ^ 30
-  pub dummyLinks : getD s (baseOf l - 3 + 1) 0 ≡ startOf l * 2 ^ 16 + startOf l
+  pub dummyLinks : getD s (baseOf l - 3 + 1) 0 ≡ storageStart l * 2 ^ 16 + storageStart l
   pub dummyEnd : getD s (baseOf l - 1) 0 ≡ 0
   pub variables : (i : ℕ) → baseOf l ≤ i → i < baseOf l + locals → getD s i 0 ≡ undefinedWord
   pub last : getD s (baseOf l + locals) 0 ≡ locals
@@ -168,30 +168,30 @@ module _ (n locals word : ℕ) (l : Layout) (h : Room n locals l) where
   blank = replicate n 0
 
   abbrev headed : List ℕ
-  headed = freshHead blank (startOf l) (baseOf l) locals
+  headed = freshHead blank (storageStart l) (baseOf l) locals
 
   abbrev defined : List ℕ
   defined = sets headed 8 (replicate (l .globals) undefinedWord)
 
   abbrev stored : List ℕ
-  stored = freshStorage defined (startOf l) (l .arrayWords)
+  stored = freshStorage defined (storageStart l) (l .arrayWords)
 
   blank-long : length blank ≡ n
   blank-long = length-replicate n 0
 
   headed-long : length headed ≡ n
-  headed-long = head-long blank (startOf l) (baseOf l) locals ∙ blank-long
+  headed-long = head-long blank (storageStart l) (baseOf l) locals ∙ blank-long
 
   defined-long : length defined ≡ n
   defined-long = length-sets headed 8 (replicate (l .globals) undefinedWord) ∙ headed-long
 
   stored-long : length stored ≡ n
-  stored-long = storage-long defined (startOf l) (l .arrayWords) ∙ defined-long
+  stored-long = storage-long defined (storageStart l) (l .arrayWords) ∙ defined-long
 
   in-frame : baseOf l + locals + 2 ≤ length stored
   in-frame = omega (arith, h .stack, stored-long)
 
-  in-storage : startOf l + l .arrayWords ≤ length defined
+  in-storage : storageStart l + l .arrayWords ≤ length defined
   in-storage = omega (arith, h .stack, defined-long)
 
   in-head : 8 ≤ length blank
@@ -201,21 +201,21 @@ module _ (n locals word : ℕ) (l : Layout) (h : Room n locals l) where
   unfolding fresh
   under-frame i u = frame-below stored (baseOf l) locals word in-frame i u
 
-  under-storage : (i : ℕ) → i < startOf l → getD (fresh n locals word l) i 0 ≡ getD defined i 0
+  under-storage : (i : ℕ) → i < storageStart l → getD (fresh n locals word l) i 0 ≡ getD defined i 0
   under-storage i u =
       under-frame i (omega arith)
-      ∙ storage-other defined (startOf l) (l .arrayWords) i (omega (arith, h .storage))
+      ∙ storage-other defined (storageStart l) (l .arrayWords) i (omega (arith, h .storage))
 
   under-globals : (i : ℕ) → i < 8 → getD (fresh n locals word l) i 0 ≡ getD headed i 0
   under-globals i u = under-storage i (omega arith) ∙ run-below (l .globals) headed 8 undefinedWord i u
 
   not-head : (i : ℕ) → (i ≢ 0) × (i ≢ 1) × (i ≢ 4) → i < n → getD headed i 0 ≡ 0
-  not-head i d u = head-other blank (startOf l) (baseOf l) locals i d ∙ getD-replicate n i 0 0 u
+  not-head i d u = head-other blank (storageStart l) (baseOf l) locals i d ∙ getD-replicate n i 0 0 u
 
   -- what neither storage's words nor the frame's are, above the globals
-  untouched : (i : ℕ) → startOf l + 2 ≤ i → (i ≢ baseOf l - 3 - 1) × (i ≢ baseOf l - 3) × (i ≢ baseOf l - 3 + 1) → i < n → getD stored i 0 ≡ 0
+  untouched : (i : ℕ) → storageStart l + 2 ≤ i → (i ≢ baseOf l - 3 - 1) × (i ≢ baseOf l - 3) × (i ≢ baseOf l - 3 + 1) → i < n → getD stored i 0 ≡ 0
   untouched i k d u =
-      storage-other defined (startOf l) (l .arrayWords) i (omega arith, omega arith, d .0, d .1, d .2)
+      storage-other defined (storageStart l) (l .arrayWords) i (omega arith, omega arith, d .0, d .1, d .2)
       ∙ run-above (l .globals) headed 8 undefinedWord i (omega arith)
       ∙ not-head i (omega arith) u
 
@@ -223,17 +223,17 @@ module _ (n locals word : ℕ) (l : Layout) (h : Room n locals l) where
   unfolding fresh
   laid = record {
     long = frame-long stored (baseOf l) locals word in-frame ∙ stored-long;
-    word0 = under-globals 0 (omega arith) ∙ head-word0 blank (startOf l) (baseOf l) locals in-head;
-    word1 = under-globals 1 (omega arith) ∙ head-word1 blank (startOf l) (baseOf l) locals in-head;
-    word4 = under-globals 4 (omega arith) ∙ head-word4 blank (startOf l) (baseOf l) locals in-head;
+    word0 = under-globals 0 (omega arith) ∙ head-word0 blank (storageStart l) (baseOf l) locals in-head;
+    word1 = under-globals 1 (omega arith) ∙ head-word1 blank (storageStart l) (baseOf l) locals in-head;
+    word4 = under-globals 4 (omega arith) ∙ head-word4 blank (storageStart l) (baseOf l) locals in-head;
     zeros = λ i d u. under-globals i u ∙ not-head i d (omega (arith, h .stack));
     globals = λ i k u. under-storage i u ∙ run-in (l .globals) headed 8 undefinedWord (omega (arith, h .stack, headed-long)) i k u;
-    first = under-frame (startOf l) (omega (arith, h .storage)) ∙ storage-first defined (startOf l) (l .arrayWords) (h .storage) in-storage;
-    links = under-frame (startOf l + 1) (omega (arith, h .storage)) ∙ storage-links defined (startOf l) (l .arrayWords) (h .storage) in-storage;
+    first = under-frame (storageStart l) (omega (arith, h .storage)) ∙ storage-first defined (storageStart l) (l .arrayWords) (h .storage) in-storage;
+    links = under-frame (storageStart l + 1) (omega (arith, h .storage)) ∙ storage-links defined (storageStart l) (l .arrayWords) (h .storage) in-storage;
     interior = λ i k u. under-frame i (omega arith) ∙ untouched i k (omega arith) (omega (arith, h .stack));
-    end = under-frame (baseOf l - 3 - 1) (omega (arith, h .storage)) ∙ storage-end defined (startOf l) (l .arrayWords) (h .storage) in-storage;
-    dummy = under-frame (baseOf l - 3) (omega (arith, h .storage)) ∙ storage-dummy defined (startOf l) (l .arrayWords) (h .storage) in-storage;
-    dummyLinks = under-frame (baseOf l - 3 + 1) (omega (arith, h .storage)) ∙ storage-dummy-links defined (startOf l) (l .arrayWords) (h .storage) in-storage;
+    end = under-frame (baseOf l - 3 - 1) (omega (arith, h .storage)) ∙ storage-end defined (storageStart l) (l .arrayWords) (h .storage) in-storage;
+    dummy = under-frame (baseOf l - 3) (omega (arith, h .storage)) ∙ storage-dummy defined (storageStart l) (l .arrayWords) (h .storage) in-storage;
+    dummyLinks = under-frame (baseOf l - 3 + 1) (omega (arith, h .storage)) ∙ storage-dummy-links defined (storageStart l) (l .arrayWords) (h .storage) in-storage;
     dummyEnd = under-frame (baseOf l - 1) (omega arith) ∙ untouched (baseOf l - 1) (omega (arith, h .storage)) (omega (arith, h .storage)) (omega (arith, h .stack));
     variables = λ i k u. frame-locals stored (baseOf l) locals word in-frame i k u;
     last = frame-last stored (baseOf l) locals word in-frame;

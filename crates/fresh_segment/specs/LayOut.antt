@@ -36,11 +36,11 @@ functionTest regular other l =
     and eqb (nargsOf (chosen regular other l) (l .function)) 0
 
 -- Where array storage starts, and the stack after it.
-abbrev pub startOf : Layout → ℕ
-startOf l = 8 + l .globals
+abbrev pub storageStart : Layout → ℕ
+storageStart l = 8 + l .globals
 
 abbrev pub baseOf : Layout → ℕ
-baseOf l = startOf l + l .arrayWords
+baseOf l = storageStart l + l .arrayWords
 
 -- Test 19.
 unfoldable pub partsTest : List ℕ → List ℕ → List ℕ → Layout → Bool
@@ -85,8 +85,8 @@ unfoldable pub fresh : ℕ → ℕ → ℕ → Layout → List ℕ
 fresh n locals word l =
     freshFrame
     (freshStorage
-    (sets (freshHead (replicate n 0) (startOf l) (baseOf l) locals) 8 (replicate (l .globals) undefinedWord))
-    (startOf l)
+    (sets (freshHead (replicate n 0) (storageStart l) (baseOf l) locals) 8 (replicate (l .globals) undefinedWord))
+    (storageStart l)
     (l .arrayWords))
     (baseOf l)
     locals

@@ -12,7 +12,7 @@ use Rattle.segment.specs.Stack.{alternate, functionNumber}
 use Rattle.segment.specs.Machine.{Machine}
 use Rattle.procedure.specs.Directory.{selected, hasFunction, nargsOf, nlocalsOf}
 use Rattle.manual.specs.Control.{frameWord}
-use Rattle.acceptance.specs.Frames.{segmentOf, known, arguments, variables}
+use Rattle.acceptance.specs.Frames.{frameSegment, known, arguments, variables}
 use Rattle.legality.proofs.Effects.{CanEnter}
 
 -- P and the number of the function.
@@ -33,7 +33,7 @@ module _ (number : ℕ) (small : number < 2 ^ 11) where
   word-alternate false = ne-eqb (alternate (wordOf false number)) 1 (omega arith)
 
   module _ (regular other : List ℕ) (P : Bool) where
-    word-segment : segmentOf regular other (wordOf P number) ≡ selected P regular other
+    word-segment : frameSegment regular other (wordOf P number) ≡ selected P regular other
     word-segment = ap (λ (p : Bool). selected p regular other) (word-alternate P)
 
     word-known : hasFunction (selected P regular other) number ≡ true → known regular other (wordOf P number) ≡ true

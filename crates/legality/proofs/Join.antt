@@ -15,7 +15,7 @@ use Rattle.storage.specs.Owned.{ArrayIn}
 use Rattle.segment.specs.Machine.{Frame, Machine, cellsOfFrames, depthOfFrames}
 use Rattle.segment.specs.View.{framesFrom, words, owners, view}
 use Rattle.acceptance.specs.Frames.{variables}
-use Rattle.acceptance.specs.Structure.{startOf, VariableOf, DirectOrIndirect, FrameCells, StackCells, Accepted}
+use Rattle.acceptance.specs.Structure.{frameStart, VariableOf, DirectOrIndirect, FrameCells, StackCells, Accepted}
 use Rattle.acceptance.specs.Structure as onWords
 use Rattle.effects.specs.Sound.{Chain}
 use Rattle.effects.specs.Sound as sound
@@ -126,7 +126,7 @@ module _ (s regular other : List ℕ) (h : Whole s regular other) where
         = λ i d u. named s (h .sound .own) (stackAt s i) (own (stackAt s i) (first-holds n s base next (k .0 .last) below i d u)) in (
           frame-cells A s regular other (view s) (next + 2) base (next ∷ older) (seenFrames n s next) (k .0 .start) names (allowed t (λ a v. within a (inr v)))
               (first g) top temporaries,
-          stack-cells older n next (startOf s regular other base) (omega arith) (k .1)
+          stack-cells older n next (frameStart s regular other base) (omega arith) (k .1)
               (older-ones (omega (arith, depth-is s regular other t)) g) (λ a v. within a (inr v))
               (λ w c. own w (older-hold n s base next (k .0 .last) below w c))
               (λ i d u. cell-word A s regular other (view s) (next + 2) base (next ∷ older) (seenFrames n s next) (k .0 .start) names (allowed t (λ a v. within a (inr v)))

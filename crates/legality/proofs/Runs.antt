@@ -21,7 +21,7 @@ use Rattle.manual.specs.Effects.{AddressableIn, look}
 use Rattle.effects.specs.Fits.{Addressable}
 use Rattle.effects.specs.Alike.{HasFrame}
 use Rattle.acceptance_storage.proofs.Tests.{never, both}
-use Rattle.acceptance.specs.Frames.{segmentOf, known, variables}
+use Rattle.acceptance.specs.Frames.{frameSegment, known, variables}
 use Rattle.acceptance.specs.Structure.{Chain, Accepted}
 use Rattle.legality.specs.Accepted.{currentVariables, currentResult}
 use Rattle.legality.proofs.Stacked.{current-room}
@@ -45,11 +45,11 @@ segment-accepted true regular other h = h .1
 segment-accepted false regular other h = h .0
 
 result-local : (regular other : List ℕ) (w : ℕ) → procedureRefusal regular other ≡ 0 → known regular other w ≡ true
-    → resultOf (segmentOf regular other w) (functionNumber w) ≡ true → 1 ≤ variables regular other w
+    → resultOf (frameSegment regular other w) (functionNumber w) ≡ true → 1 ≤ variables regular other w
 unfolding known variables
 result-local regular other w h k e =
     let p = segment-accepted (eqb (alternate w) 1) regular other (acceptance regular other .sound h) in
-    let n = in-directory (segmentOf regular other w) (functionNumber w) (both (ltb w (2 ^ 28)) (hasFunction (segmentOf regular other w) (functionNumber w)) k .1) in
+    let n = in-directory (frameSegment regular other w) (functionNumber w) (both (ltb w (2 ^ 28)) (hasFunction (frameSegment regular other w) (functionNumber w)) k .1) in
     omega (arith, p .functions (functionNumber w) (n .0) (n .1) .result-local e)
 
 pub function-known : (s regular other older : List ℕ) (base : ℕ) → Chain s regular other base older → known regular other (codeWordAt s base) ≡ true

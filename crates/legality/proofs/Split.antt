@@ -16,7 +16,7 @@ use Rattle.segment.specs.View.{words, view}
 use Rattle.acceptance_storage.proofs.Tests.{never, by-le}
 use Rattle.acceptance.specs.Frames.{known, variables}
 use Rattle.acceptance.specs.Cells.{isIndirect}
-use Rattle.acceptance.specs.Structure.{startOf, localsOf, VariableOf, DirectOrIndirect, FrameCells, StackCells, Accepted}
+use Rattle.acceptance.specs.Structure.{frameStart, localsOf, VariableOf, DirectOrIndirect, FrameCells, StackCells, Accepted}
 use Rattle.acceptance.specs.Structure as onWords
 use Rattle.effects.specs.Sound as sound
 use Rattle.legality.specs.Legal.{DirectCell, Allowed, LegalFrame, LegalFrames, bottom, Legal}
@@ -38,7 +38,7 @@ module _ (A : ℕ → Type 0) (s regular other : List ℕ) (near : blockptr s �
   no-pointer frames fits w (inr (inr v)) n = absurd (never (sym n ∙ eq-eqb (w / 2 ^ 17) 0x180 (omega (arith, v .word, fits (v .target) (v .variable)))))
 
   own-valid : (base top : ℕ) (older : List ℕ) → ((a : ℕ) → VariableOf s regular other older a → a < 2 ^ 16) → FrameCells A s regular other base top older
-      → (a : ℕ) → startOf s regular other base ≤ a → a < base → isIndirect (stackAt s a) ≡ false → onWords.Direct A (stackAt s a)
+      → (a : ℕ) → frameStart s regular other base ≤ a → a < base → isIndirect (stackAt s a) ≡ false → onWords.Direct A (stackAt s a)
   own-valid base top older fits c a l u n =
       by-le (localsOf s regular other base) a (λ m. c .locals a m u) (λ m. no-pointer older fits (stackAt s a) (c .arguments a l m) n)
 
@@ -47,7 +47,7 @@ module _ (A : ℕ → Type 0) (s regular other : List ℕ) (near : blockptr s �
   variables-valid [] base top fits c a (inl v) n = own-valid base top [] (λ b u. fits b (inr u)) c a (v .0) (v .1) n
   variables-valid [] base top fits c a (inr v) n = absurd v
   variables-valid (next ∷ older) base top fits c a (inl v) n = own-valid base top (next ∷ older) (λ b u. fits b (inr u)) (c .0) a (v .0) (v .1) n
-  variables-valid (next ∷ older) base top fits c a (inr v) n = variables-valid older next (startOf s regular other base) (λ b u. fits b (inr u)) (c .1) a v n
+  variables-valid (next ∷ older) base top fits c a (inr v) n = variables-valid older next (frameStart s regular other base) (λ b u. fits b (inr u)) (c .1) a v n
 
 first-frame : (A : ℕ → Type 0) (older : List ℕ) {s regular other : List ℕ} {base top : ℕ} → StackCells A s regular other base top older → FrameCells A s regular other base top older
 first-frame A [] h = h
@@ -60,10 +60,10 @@ module _ (A : ℕ → Type 0) (s regular other : List ℕ) (m : Machine Cell) (s
     (has : known regular other (codeWordAt s base) ≡ true) (room : start + variables regular other (codeWordAt s base) ≤ base)
     (allow : (w : ℕ) → DirectOrIndirect A s regular other frames w → Allowed regular other m l (cell s w))
     (c : FrameCells A s regular other base top frames)
-    (rest : (i : ℕ) → start ≤ i → i < startOf s regular other base → DirectOrIndirect A s regular other frames (stackAt s i)) where
+    (rest : (i : ℕ) → start ≤ i → i < frameStart s regular other base → DirectOrIndirect A s regular other frames (stackAt s i)) where
   each : (i : ℕ) → start ≤ i → i < base → DirectOrIndirect A s regular other frames (stackAt s i)
   each i k u =
-      by-le (startOf s regular other base) i
+      by-le (frameStart s regular other base) i
       (λ d. by-le (localsOf s regular other base) i (λ e. inl (c .locals i e u)) (λ e. c .arguments i d e)) (rest i k)
 
   legal-frame : LegalFrame regular other m (seenFrame s base start) l
@@ -115,7 +115,7 @@ module _ (s regular other : List ℕ) (h : Accepted s regular other) where
       (upon-on
       (legal-frame A s regular other (view s) (next + 2) base top (next ∷ older) (seenFrames n s next) (k .0 .function) (k .0 .start) (allow t (λ a v. within a (inr v))) (c .0)
       (first-frame A older (c .1) .temporaries))
-      (legal-frames older n next (startOf s regular other base) (omega (arith, k .0 .start)) (k .1) (c .1) (λ a v. within a (inr v))))
+      (legal-frames older n next (frameStart s regular other base) (omega (arith, k .0 .start)) (k .1) (c .1) (λ a v. within a (inr v))))
 
   legal : Legal regular other (view s)
   unfolding view words

@@ -12,7 +12,7 @@ use Rattle.procedure.specs.Directory.{resultOf}
 use Rattle.procedure.specs.Refusal.{procedureRefusal}
 use Rattle.segment.specs.View.{view}
 use Rattle.acceptance_storage.specs.Head.{Head}
-use Rattle.acceptance.specs.Frames.{segmentOf, variables}
+use Rattle.acceptance.specs.Frames.{frameSegment, variables}
 use Rattle.acceptance.specs.Structure.{Accepted}
 use Rattle.effects.specs.Sound.{Sound}
 use Rattle.effects.specs.Alike.{HasFrame}
@@ -32,7 +32,7 @@ abbrev pub currentVariables : List ℕ → List ℕ → List ℕ → ℕ
 currentVariables s regular other = variables regular other (codeWordAt s (lbase s))
 
 abbrev pub currentResult : List ℕ → List ℕ → List ℕ → Bool
-currentResult s regular other = resultOf (segmentOf regular other (codeWordAt s (lbase s))) (functionNumber (codeWordAt s (lbase s)))
+currentResult s regular other = resultOf (frameSegment regular other (codeWordAt s (lbase s))) (functionNumber (codeWordAt s (lbase s)))
 
 pub record LegalTheorems : Type 0 where
   pub split : (s regular other : List ℕ) → Accepted s regular other → Whole s regular other

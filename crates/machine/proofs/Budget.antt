@@ -1,4 +1,4 @@
--- What is left of a run, before and after one step or one stretch of it.
+-- What is left of a run, before and stepResult one step or one stretch of it.
 use Prim.Native.Nat.{ℕ, suc, _+_, _-_, _/_, _%_, _^_, _<_, _≤_}
 use native.Mathlib.Omega.{arith}
 use mathlib.Core.Path.{_≡_, refl}
@@ -8,12 +8,12 @@ use Rattle.effects.specs.declared.Stepped.{Stepped}
 use Rattle.effects.specs.declared.Stepped.the-variants as answers
 use Rattle.effects.specs.declared.Ran.{Ran}
 use Rattle.effects.specs.declared.Ran.the-variants.{Done, Trapped}
-use Rattle.effects.specs.Step.{after, trapped, stepOf}
-use Rattle.effects.specs.Run.{Outcome, ended, stepsFrom}
+use Rattle.effects.specs.Step.{stepResult, trapped, stepOf}
+use Rattle.effects.specs.Run.{RunResult, ended, stepsFrom}
 use Rattle.machine.specs.Stretches.{resumed, Advanced}
 
 -- a stretch by what it answers
-module _ (regular alternate : List ℕ) (budget n : ℕ) (t : List ℕ) {r : Ran} {o : Outcome} where
+module _ (regular alternate : List ℕ) (budget n : ℕ) (t : List ℕ) {r : Ran} {o : RunResult} where
   pub goes-on : r ≡ Done n → resumed r budget regular alternate t ≡ o → stepsFrom (budget - n) n regular alternate t ≡ o
   goes-on is told = rw is at told
 
@@ -37,7 +37,7 @@ module _ (regular alternate : List ℕ) (budget n : ℕ) (s : List ℕ) where
       rw none
 
   -- by what the next step answers
-  module _ (r : Stepped) (t : List ℕ) (more : n < budget) (is : after r t ≡ stepOf regular alternate s) where
+  module _ (r : Stepped) (t : List ℕ) (more : n < budget) (is : stepResult r t ≡ stepOf regular alternate s) where
     one : budget - n ≡ suc (budget - (n + 1))
     one = omega arith
 

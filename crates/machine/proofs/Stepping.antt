@@ -16,7 +16,7 @@ use Rattle.manual.specs.Instructions.{Running, running, headerOf, planAt}
 use Rattle.effects.specs.declared.Outcome.{Outcome}
 use Rattle.effects.specs.Carried.{CarriesOut}
 use Rattle.effects.specs.declared.Stepped.the-variants.{Finished, Traced, Trapped}
-use Rattle.effects.specs.Step.{after, selectorOf, numberOf, trapped, finished, settled, settle, stepIn, stepFound, stepOf}
+use Rattle.effects.specs.Step.{stepResult, selectorOf, numberOf, trapped, finished, settled, settle, stepIn, stepFound, stepOf}
 
 -- a class and a number of eight bits are themselves
 eight-bits : (n : ℕ) → n < 256 → n % 2 ^ 8 ≡ n
@@ -48,16 +48,16 @@ module _ (w number : ℕ) where
     number-of false is = omega arith
 
 module _ (s : List ℕ) where
-  pub trap-set : (class number : ℕ) → class < 256 → number < 256 → after (Trapped class number) (setTrap s class number) ≡ trapped s class number
+  pub trap-set : (class number : ℕ) → class < 256 → number < 256 → stepResult (Trapped class number) (setTrap s class number) ≡ trapped s class number
   trap-set class number c n = rw (eight-bits class c, eight-bits number n)
 
-  pub trace-set : (number : ℕ) → 0 < number → after (Traced 2 number) (setTrap s 2 number) ≡ finished number s
+  pub trace-set : (number : ℕ) → 0 < number → stepResult (Traced 2 number) (setTrap s 2 number) ≡ finished number s
   trace-set number some = rw (ne-eqb number 0 (omega arith))
 
   pub step-set : eqb (stepFlag (flags s)) 1 ≡ true → finished 1 s ≡ finished (stepFlag (flags s)) s
   step-set set = ap (λ (n : ℕ). finished n s) (sym (eqb-true (stepFlag (flags s)) 1 set))
 
-  pub step-clear : eqb (stepFlag (flags s)) 1 ≡ false → after Finished s ≡ finished (stepFlag (flags s)) s
+  pub step-clear : eqb (stepFlag (flags s)) 1 ≡ false → stepResult Finished s ≡ finished (stepFlag (flags s)) s
   step-clear clear = ap (λ (n : ℕ). finished n s) (sym (flag-clear (flags s) (eqb-false (stepFlag (flags s)) 1 clear)))
 
   -- the instruction at PCTR, done as its plan says
@@ -66,7 +66,7 @@ module _ (s : List ℕ) where
     unfolding stepIn
     step-done done = ap (settle (f .regular) (f .alternate) (headerOf f .rtntrace)) (rw counted at done)
 
-    -- after what has changed no word
+    -- stepResult what has changed no word
     pub step-kept : (u : List ℕ) {r : Outcome} {t : List ℕ} → u ≡ s → CarriesOut u r t (λ sees. planAt f sees place) → settled (f .regular) (f .alternate) (headerOf f .rtntrace) r t ≡ stepIn f s
     step-kept u kept done = step-done (rw kept at done)
 

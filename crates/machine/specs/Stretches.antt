@@ -9,7 +9,7 @@ use Rattle.manual.specs.Instructions.{Running, segmentOf}
 use Rattle.effects.specs.declared.Ran.{Ran}
 use Rattle.effects.specs.declared.Ran.the-variants.{Done, Trapped}
 use Rattle.effects.specs.Step.{selectorOf, numberOf}
-use Rattle.effects.specs.Run.{Outcome, ended, stepsFrom}
+use Rattle.effects.specs.Run.{RunResult, ended, stepsFrom}
 
 -- The current frame is of the function `f`, which has that number in its directory.
 pub record Current (f : Running) (number : ℕ) (s : List ℕ) : Type 0 where
@@ -18,7 +18,7 @@ pub record Current (f : Running) (number : ℕ) (s : List ℕ) : Type 0 where
   pub numbers : numberOf s ≡ number
 
 -- What the whole run comes to, of `budget` instructions, when a stretch of it has answered so.
-abbrev pub resumed : Ran → ℕ → List ℕ → List ℕ → List ℕ → Outcome
+abbrev pub resumed : Ran → ℕ → List ℕ → List ℕ → List ℕ → RunResult
 resumed (Done n) budget regular alternate s = stepsFrom (budget - n) n regular alternate s
 resumed (Trapped n) budget regular alternate s = ended (Trapped n) s
 

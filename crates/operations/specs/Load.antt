@@ -30,13 +30,13 @@ abbrev pub sourceOf : List ℕ → List ℕ → Source
 sourceOf lengths ravel = cond (eqb (length lengths) 0) (word (first ravel)) (made lengths ravel)
 
 -- Test 24: a scalar needs no storage.
-unfoldable pub isFull : List ℕ → List ℕ → List ℕ → Bool
-isFull s lengths ravel = ltb 0 (length lengths) and noneFor s (need lengths ravel)
+unfoldable pub lacksRoom : List ℕ → List ℕ → List ℕ → Bool
+lacksRoom s lengths ravel = ltb 0 (length lengths) and noneFor s (need lengths ravel)
 
 unfoldable pub loadRefusal : List ℕ → List ℕ → List ℕ → ℕ → List ℕ → List ℕ → ℕ
 loadRefusal s regular other g lengths ravel =
     cond (eqb (refusal s regular other) 0)
-    (cond (isGlobal s g) (cond (isValue lengths ravel) (cond (isFull s lengths ravel) 24 0) 23) 21)
+    (cond (isGlobal s g) (cond (isValue lengths ravel) (cond (lacksRoom s lengths ravel) 24 0) 23) 21)
     (refusal s regular other)
 
 -- The segment after a load.

@@ -7,7 +7,7 @@ use lib.Dec.{eqb}
 use Rattle.acceptance.specs.Refusal.{refusal}
 use Rattle.effects.specs.declared.Ran.{Ran}
 use Rattle.effects.specs.declared.Ran.the-variants as machine
-use Rattle.effects.specs.Run.{Outcome, runOf}
+use Rattle.effects.specs.Run.{RunResult, runOf}
 use Rattle.operations.specs.declared.Run.{Run}
 use Rattle.operations.specs.declared.Run.the-variants.{Done, Trapped, Refused}
 
@@ -18,12 +18,12 @@ pub record Ended : Type 0 where
 abbrev pub ended : Run → List ℕ → Ended
 ended answer s = record { answer = answer; words = s }
 
-abbrev pub answerOf : Ran → Run
-answerOf (machine.Done steps) = Done steps
-answerOf (machine.Trapped steps) = Trapped steps
+abbrev pub runAnswer : Ran → Run
+runAnswer (machine.Done steps) = Done steps
+runAnswer (machine.Trapped steps) = Trapped steps
 
-abbrev pub accepted : Outcome → Ended
-accepted o = ended (answerOf (o .answer)) (o .words)
+abbrev pub accepted : RunResult → Ended
+accepted o = ended (runAnswer (o .answer)) (o .words)
 
 unfoldable pub ran : List ℕ → List ℕ → List ℕ → ℕ → Ended
 ran s regular other budget =

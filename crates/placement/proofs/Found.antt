@@ -8,7 +8,7 @@ use lib.ListN.{getD, length}
 use borrow.Author.Tests.{le-leb}
 use Rattle.segment.specs.State.{rover, blockptr, setRover}
 use Rattle.segment.specs.Blocks.{sizeAt, nextAt}
-use Rattle.storage.specs.Request.{find, split, whole, give, given, request, requestAt}
+use Rattle.storage.specs.Request.{find, split, givenWhole, give, given, request, requestAt}
 use Rattle.storage.specs.Heap.{Block, over, frees, hit, count, Links, Heap, free}
 use Rattle.storage_theorems.proofs.Ways.{given-split, given-whole, give-split, give-whole, requestAt-none, request-some, requestAt-some}
 use Rattle.storage_theorems.proofs.Walks.{over-le}
@@ -125,7 +125,7 @@ module _ {s : List ℕ} {t : List ℕ} (xs : List Block) (n : ℕ) (ys : List Bl
 
   -- all
   module _ (fits : size ≤ n) (small : n < size + 3) where
-    whole-is : request s size ≡ setRover (whole s f (n - size) size) (nextAt s f)
+    whole-is : request s size ≡ setRover (givenWhole s f (n - size) size) (nextAt s f)
     whole-is = words-is ∙ give-whole s f size (omega (arith, long)) ∙ rw long
 
     whole-at : requestAt s size ≡ f

@@ -10,7 +10,7 @@ use Rattle.descriptor.specs.declared.Target.{Target}
 use Rattle.segment.specs.State.{sbase, ltop, lbase, blockptr, setLtop, setLbase}
 use Rattle.segment.specs.Cells.{undefined}
 use Rattle.segment.specs.Stack.{lastLbaseAt, downward}
-use Rattle.storage.specs.Arrays.{share, drop, drops}
+use Rattle.storage.specs.Arrays.{share, dropWord, dropWords}
 use Rattle.storage.specs.Owned.{Owned}
 use Rattle.segment.specs.View.{view}
 use Rattle.manual.specs.Effects as manual
@@ -18,7 +18,7 @@ use Rattle.manual.specs.Effects.{Source, variable, replaces, discards, stores, 
 use Rattle.storage_theorems.proofs.Walks.{over-le}
 use Rattle.storage_theorems.proofs.Steps.{downward-same, drop-own}
 use Rattle.effects.specs.Sources.{addressOf, wordOf, placed}
-use Rattle.effects.specs.Perform.{bottomOf, startOf, finish, blockOf, replace, discard, store, storeAt, storeElement, leaveWith, leaveWithout, perform, isFull}
+use Rattle.effects.specs.Perform.{bottomOf, leavingStart, finish, blockOf, replace, discard, store, storeAt, storeElement, leaveWith, leaveWithout, perform, isFull}
 use Rattle.effects.specs.Seen.{temporaries}
 use Rattle.effects.specs.Sound.{Sound}
 use Rattle.effects.specs.Fits.{Fits}
@@ -30,15 +30,15 @@ use Rattle.effects_theorems.proofs.Discard.{discard-own, discard-above}
 use Rattle.effects_theorems.proofs.Leave.{leave-cells, leave-own, leave-above, without-first, with-put, with-shown}
 use Rattle.placement.specs.Placement.{dropEach, operandsFrom, resultOf, replacedInOrder, storedInOrder, elementStoredInOrder, discardedInOrder, leftInOrder, leftWithoutInOrder}
 
--- a drop leaves the stack as it is
-pub drops-each : (n : ℕ) {s : List ℕ} (ws : List ℕ) (a : ℕ) → Owned s (downward s a n ++ ws) → sbase s ≤ a → drops n s a ≡ dropEach s (downward s a n)
+-- a dropWord leaves the stack as it is
+pub drops-each : (n : ℕ) {s : List ℕ} (ws : List ℕ) (a : ℕ) → Owned s (downward s a n ++ ws) → sbase s ≤ a → dropWords n s a ≡ dropEach s (downward s a n)
 drops-each zero ws a o l = refl
 drops-each (suc n) {s} ws a o l =
     let f = drop-own (getD s (a + n) 0) o in
-    let b : sbase (drop s (getD s (a + n) 0)) ≡ sbase s = ap (λ (v : ℕ). v / 2 ^ 16) (f .kept .first) in
-    let e : downward (drop s (getD s (a + n) 0)) a n ≡ downward s a n = downward-same s _ a n
+    let b : sbase (dropWord s (getD s (a + n) 0)) ≡ sbase s = ap (λ (v : ℕ). v / 2 ^ 16) (f .kept .first) in
+    let e : downward (dropWord s (getD s (a + n) 0)) a n ≡ downward s a n = downward-same s _ a n
     (λ i h u. f .kept .rest i (omega (arith, o .heap .low, o .heap .top, over-le (blockptr s) (o .blocks))) (inr (omega arith))) in
-    drops-each n ws a (rw e (f .own)) (omega arith) ∙ ap (dropEach (drop s (getD s (a + n) 0))) e
+    drops-each n ws a (rw e (f .own)) (omega arith) ∙ ap (dropEach (dropWord s (getD s (a + n) 0))) e
 
 -- operands from the first on stand from the top down
 pub operands-down : (s : List ℕ) (n i : ℕ) → i + n ≤ sbase s + ltop s + 1 → downward s (sbase s + ltop s + 1 - (i + n)) n ≡ operandsFrom s i n
@@ -59,7 +59,7 @@ module _ (s : List ℕ) (g : Sound s) (n : ℕ) where
   replaced source h f =
       let p = put-source s g source (h .1) (source-found s source f) in
       let c = manual.meant source (view s) in
-      let d : drops n (placed s source) (bottomOf s n) ≡ dropEach (placed s source) (operandsFrom s 0 n) = drops-each n _ _
+      let d : dropWords n (placed s source) (bottomOf s n) ≡ dropEach (placed s source) (operandsFrom s 0 n) = drops-each n _ _
       (replace-own s g n (wordOf s source) c (placed s source) p (h .0))
       (replace-above s g n (wordOf s source) c (placed s source) p (h .0))
       ∙ ap (dropEach (placed s source)) (replace-cells s g n (wordOf s source) c (placed s source) p (h .0) ∙ operands (h .0 .taken)) in
@@ -83,11 +83,11 @@ module _ (s : List ℕ) (g : Sound s) (n : ℕ) where
       let c = getD (manual.currentCells (view s .frames)) 0 undefined in
       let k = with-put s g n h .step in
       let v = with-shown s g n h in
-      let d : drops n (share s w) (startOf s n) ≡ dropEach (share s w) (downward s (startOf s n) n) = drops-each n _ _
+      let d : dropWords n (share s w) (leavingStart s n) ≡ dropEach (share s w) (downward s (leavingStart s n) n) = drops-each n _ _
       (leave-own s g n (h .empty) (h .cells) (w ∷ []) (share s w) (c ∷ []) k v)
       (leave-above s g n (h .empty) (h .cells) (w ∷ []) (share s w) (c ∷ []) k v)
       ∙ ap (dropEach (share s w)) (leave-cells s g n (h .empty) (h .cells) (w ∷ []) (share s w) (c ∷ []) k v) in
-      ap (λ (l : List ℕ). set (setLbase (setLtop l (lbase s - n)) (lastLbaseAt s (lbase s) % 2 ^ 16)) (startOf s n) (resultOf s)) d
+      ap (λ (l : List ℕ). set (setLbase (setLtop l (lbase s - n)) (lastLbaseAt s (lbase s) % 2 ^ 16)) (leavingStart s n) (resultOf s)) d
 
 pub storedElement : (s : List ℕ) → Sound s → (t : Target) (place w n : ℕ) → Fits s (storesElement t place w n)
     → isFull s (storesElement t place w n) ≡ false → perform s (storesElement t place w n) ≡ elementStoredInOrder s t place w n

@@ -17,12 +17,12 @@ use Rattle.segment.specs.Blocks.{freeAt, slopAt, sizeAt, spanAt, nextAt, dummy}
 use Rattle.segment.specs.Stack.{lastLbaseAt, downward}
 use Rattle.storage.specs.Request.{request, requestAt}
 use Rattle.storage.specs.Release.{release}
-use Rattle.storage.specs.Arrays.{share, drop, drops}
+use Rattle.storage.specs.Arrays.{share, dropWord, dropWords}
 use Rattle.storage.specs.Heap.{Block, frees, count, Links, Heap}
 use Rattle.storage.specs.Owned.{ArrayIn, Owned}
 use Rattle.manual.specs.Effects.{Source, variable, replaces, discards, stores, storesElement, leaves}
 use Rattle.effects.specs.Sources.{addressOf, heldAt, operandAt, wordOf, placed}
-use Rattle.effects.specs.Perform.{bottomOf, startOf, finish, unshare, writeElement, perform, isFull}
+use Rattle.effects.specs.Perform.{bottomOf, leavingStart, finish, unshare, writeElement, perform, isFull}
 use Rattle.effects.specs.Sound.{Sound}
 use Rattle.effects.specs.Fits.{Fits}
 
@@ -115,7 +115,7 @@ pub data Released (s : List ℕ) (blocks : List Block) (x : ℕ) (members : List
 -- The words are dropped one after the other, the first of the list first.
 abbrev pub dropEach : List ℕ → List ℕ → List ℕ
 dropEach s [] = s
-dropEach s (w ∷ ws) = dropEach (drop s w) ws
+dropEach s (w ∷ ws) = dropEach (dropWord s w) ws
 
 -- `n` operands from the i-th on. The first, the 0th, is the top of the stack.
 abbrev pub operandsFrom : List ℕ → ℕ → ℕ → List ℕ
@@ -128,7 +128,7 @@ replacedInOrder s n source = finish (dropEach (placed s source) (operandsFrom s 
 
 -- A variable's new value is placed and stored before the old one, the word that stood there, is dropped.
 abbrev pub storedInOrder : List ℕ → Target → Source → List ℕ
-storedInOrder s t source = drop (set (placed s source) (addressOf s t) (wordOf s source)) (heldAt s t)
+storedInOrder s t source = dropWord (set (placed s source) (addressOf s t) (wordOf s source)) (heldAt s t)
 
 -- ASSIGN_INDEXED: a shared array is copied, the element is written, and then the variable's value takes the place of the operands.
 abbrev pub elementStoredInOrder : List ℕ → Target → ℕ → ℕ → ℕ → List ℕ
@@ -145,13 +145,13 @@ resultOf s = getD s (sbase s + lbase s - 1) 0
 abbrev pub leftInOrder : List ℕ → ℕ → List ℕ
 leftInOrder s n =
     set
-    (setLbase (setLtop (dropEach (share s (resultOf s)) (downward s (startOf s n) n)) (lbase s - n)) (lastLbaseAt s (lbase s) % 2 ^ 16))
-    (startOf s n)
+    (setLbase (setLtop (dropEach (share s (resultOf s)) (downward s (leavingStart s n) n)) (lbase s - n)) (lastLbaseAt s (lbase s) % 2 ^ 16))
+    (leavingStart s n)
     (resultOf s)
 
 abbrev pub leftWithoutInOrder : List ℕ → ℕ → List ℕ
 leftWithoutInOrder s n =
-    setLbase (setLtop (dropEach s (downward s (startOf s n) n)) (lbase s - n - 1)) (lastLbaseAt s (lbase s) % 2 ^ 16)
+    setLbase (setLtop (dropEach s (downward s (leavingStart s n) n)) (lbase s - n - 1)) (lastLbaseAt s (lbase s) % 2 ^ 16)
 
 -- ---- the theorem
 
@@ -172,8 +172,8 @@ pub record Placement : Type 0 where
   pub released : (s : List ℕ) (blocks : List Block) (ring : List ℕ) (x size : ℕ) → Heap s blocks ring → ArrayIn (blockptr s) blocks x size
       → (members : List ℕ) → RingFrom s (dummy s) (dummy s ∷ members) → Released s blocks x members
   -- Cells of the stack are dropped from the highest down, each by the word that stood in it before any was dropped.
-  pub downwards : (s owners : List ℕ) (n a : ℕ) → Owned s (downward s a n ++ owners) → sbase s ≤ a → drops n s a ≡ dropEach s (downward s a n)
-  -- So an effect places or shares its result, and then drops.
+  pub downwards : (s owners : List ℕ) (n a : ℕ) → Owned s (downward s a n ++ owners) → sbase s ≤ a → dropWords n s a ≡ dropEach s (downward s a n)
+  -- So an effect places or shares its result, and then dropWords.
   pub replaced : (s : List ℕ) → Sound s → (n : ℕ) (source : Source) → Fits s (replaces n source) → isFull s (replaces n source) ≡ false
       → perform s (replaces n source) ≡ replacedInOrder s n source
   pub stored : (s : List ℕ) (t : Target) (source : Source) → perform s (stores t source) ≡ storedInOrder s t source

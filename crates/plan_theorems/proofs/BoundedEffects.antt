@@ -16,11 +16,11 @@ use Rattle.segment.specs.State.{sbase, ltop, lbase, setLtop}
 use Rattle.segment.specs.Stack.{lastLbaseAt}
 use Rattle.segment.specs.Blocks.{rankAt, countAt, product, shapeAt, elementsAt, need}
 use Rattle.storage.specs.Request.{requestAt}
-use Rattle.storage.specs.Arrays.{placeAt, drops}
+use Rattle.storage.specs.Arrays.{placeAt, dropWords}
 use Rattle.manual.specs.Effects.{Source, variable, operand, word, undefinedValue, reference, made, Effect, replaces, discards, swaps, stores, storesElement, enters, leaves, jumps, setsOrigin}
 use Rattle.manual.proofs.Tests.{none-holds}
 use Rattle.effects.specs.Sources.{addressOf, heldAt, operandAt, wordOf, placed}
-use Rattle.effects.specs.Perform.{bottomOf, blockOf, startOf, finish, replace, discard, swap, storeAt, store, unshare, writeElement, storeElement, enter, leaveWith, leaveWithout, perform, performs, sourceNeed, noneFor, isFull, firstFull}
+use Rattle.effects.specs.Perform.{bottomOf, blockOf, leavingStart, finish, replace, discard, swap, storeAt, store, unshare, writeElement, storeElement, enter, leaveWith, leaveWithout, perform, performs, sourceNeed, noneFor, isFull, firstFull}
 use Rattle.effects.specs.Sound.{Sound}
 use Rattle.effects.specs.Fits.{Available, Fits}
 use Rattle.effects.specs.Requests.{AllFit, OneRequest}
@@ -146,10 +146,10 @@ module _ {s : List ℕ} (h : Short s) where
   unfolding leaveWith leaveWithout
   short-leave n true =
       let w = getD s (sbase s + lbase s - 1) 0 in
-      let t = short-ltop (short-drops n (short-share h w) (startOf s n)) (lbase s - n) (omega (arith, h .at 1)) in
-      short-set (short-lbase t (lastLbaseAt s (lbase s) % 2 ^ 16) (omega arith)) (startOf s n) w (h .at (sbase s + lbase s - 1))
+      let t = short-ltop (short-drops n (short-share h w) (leavingStart s n)) (lbase s - n) (omega (arith, h .at 1)) in
+      short-set (short-lbase t (lastLbaseAt s (lbase s) % 2 ^ 16) (omega arith)) (leavingStart s n) w (h .at (sbase s + lbase s - 1))
   short-leave n false =
-      short-lbase (short-ltop (short-drops n h (startOf s n)) (lbase s - n - 1) (omega (arith, h .at 1))) (lastLbaseAt s (lbase s) % 2 ^ 16) (omega arith)
+      short-lbase (short-ltop (short-drops n h (leavingStart s n)) (lbase s - n - 1) (omega (arith, h .at 1))) (lastLbaseAt s (lbase s) % 2 ^ 16) (omega arith)
 
 effect-short : (s : List ℕ) → Sound s → Short s → (e : Effect) → Fits s e → isFull s e ≡ false → Small e → Short (perform s e)
 unfolding store storeElement writeElement

@@ -10,8 +10,8 @@ use Rattle.segment.specs.State.{rover}
 use Rattle.segment.specs.Blocks.{sizeAt, spanAt, nextAt, lastAt, dummy, countAt, freeAt, prevFreeAt, need}
 use Rattle.storage.specs.Ring.{setNext, setLast, clearPrevFree, setPrevFree, markFree, unlink, hook, insert, relink, moveRover}
 use Rattle.storage.specs.Release.{joinBoth, joinBefore, joinAfter, joinNone, release}
-use Rattle.storage.specs.Request.{findFrom, find, split, whole, give, given, requestAt, request}
-use Rattle.storage.specs.Arrays.{fill, placeAt, place, raise, lower, share, drop, drops}
+use Rattle.storage.specs.Request.{findFrom, find, split, givenWhole, give, given, requestAt, request}
+use Rattle.storage.specs.Arrays.{fill, placeAt, place, raise, lower, share, dropWord, dropWords}
 use Rattle.plan_theorems.specs.Fitting.{Words}
 use Rattle.plan_theorems.proofs.BoundedWords.{words-sets, Short, short-set, either, short-rover}
 
@@ -95,8 +95,8 @@ module _ {s : List ℕ} (h : Short s) where
   short-split f rest size k l =
       short-clear (short-set (short-set (short-set h f (2 ^ 31 + rest) (omega arith)) (f + rest - 1) rest (omega arith)) (f + rest) (2 ^ 30 + size) (omega arith)) (f + rest + size)
 
-  short-whole : (f slop size : ℕ) → slop < 2 ^ 16 → size < 2 ^ 16 → Short (whole s f slop size)
-  unfolding whole
+  short-whole : (f slop size : ℕ) → slop < 2 ^ 16 → size < 2 ^ 16 → Short (givenWhole s f slop size)
+  unfolding givenWhole
   short-whole f slop size k l = short-clear (short-set (short-unlink f) f (slop * 2 ^ 16 + size) (omega arith)) (f + size + slop)
 
   short-give : (f size : ℕ) → size < 2 ^ 16 → Short (give s f size)
@@ -151,11 +151,11 @@ module _ {s : List ℕ} (h : Short s) where
   unfolding share
   short-share w = either (isArray w) (short-raise (address w)) h
 
-  pub short-drop : (w : ℕ) → Short (drop s w)
-  unfolding drop
+  pub short-drop : (w : ℕ) → Short (dropWord s w)
+  unfolding dropWord
   short-drop w = either (isArray w) (short-lower (address w) (omega arith)) h
 
-pub short-drops : (n : ℕ) {s : List ℕ} → Short s → (a : ℕ) → Short (drops n s a)
+pub short-drops : (n : ℕ) {s : List ℕ} → Short s → (a : ℕ) → Short (dropWords n s a)
 short-drops zero h a = h
 short-drops (suc n) {s} h a = short-drops n (short-drop h (getD s (a + n) 0)) a
 

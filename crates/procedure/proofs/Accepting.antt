@@ -8,7 +8,7 @@ use lib.Dec.{eqb}
 use borrow.Author.Tests.{leb-true, eqb-true, eqb-false, le-leb, eq-eqb}
 use Rattle.descriptor.proofs.Truth.{both}
 use Rattle.procedure.specs.Directory.{entries, nlocalsOf, resultOf}
-use Rattle.procedure.specs.Refusal.{segmentLengthTest, entriesTest, resultHasLocal, headerTest, blockTest, blocksTest, contentsTest, procedureRefusal}
+use Rattle.procedure.specs.Refusal.{segmentLengthTest, entriesTest, resultHasLocal, headerTest, functionPasses, functionsPass, contentsTest, procedureRefusal}
 use Rattle.procedure.specs.Accepted.{FunctionFits, Accepted, Acceptance}
 
 -- RESULT needs a local.
@@ -21,8 +21,8 @@ local-had true nlocals h = le-leb 1 nlocals (h refl)
 local-had false nlocals h = refl
 
 module _ (p : List ℕ) (k : ℕ) where
-  function-fits : blockTest p k ≡ true → FunctionFits p k
-  unfolding blockTest headerTest
+  function-fits : functionPasses p k ≡ true → FunctionFits p k
+  unfolding functionPasses headerTest
   function-fits e =
       let h = both _ _ e in
       let place = both _ _ (h .0) in
@@ -40,8 +40,8 @@ module _ (p : List ℕ) (k : ℕ) where
         block-length = eqb-true _ _ (word .0);
       }
 
-  fits-function : FunctionFits p k → blockTest p k ≡ true
-  unfolding blockTest headerTest
+  fits-function : FunctionFits p k → functionPasses p k ≡ true
+  unfolding functionPasses headerTest
   fits-function f =
       simp (
         le-leb _ _ (f .after-directory),
@@ -53,20 +53,20 @@ module _ (p : List ℕ) (k : ℕ) where
         le-leb _ _ (f .variables),
       )
 
-functions-fit : (p : List ℕ) (n k : ℕ) → blocksTest n p k ≡ true → (j : ℕ) → k ≤ j → j < k + n → FunctionFits p j
-unfolding blocksTest
+functions-fit : (p : List ℕ) (n k : ℕ) → functionsPass n p k ≡ true → (j : ℕ) → k ≤ j → j < k + n → FunctionFits p j
+unfolding functionsPass
 functions-fit p zero k e j l h = absurd (omega arith)
 functions-fit p (suc n) k e j l h = on (functions-fit p n (k + 1) (others .1)) (eqb j k) refl
   where
-    others : (blockTest p k ≡ true) × (blocksTest n p (k + 1) ≡ true)
-    others = both (blockTest p k) (blocksTest n p (k + 1)) e
+    others : (functionPasses p k ≡ true) × (functionsPass n p (k + 1) ≡ true)
+    others = both (functionPasses p k) (functionsPass n p (k + 1)) e
 
     on : ((i : ℕ) → k + 1 ≤ i → i < k + 1 + n → FunctionFits p i) → (t : Bool) → eqb j k ≡ t → FunctionFits p j
     on later true i = subst (λ (m : ℕ). FunctionFits p m) (sym (eqb-true j k i)) (function-fits p k (others .0))
     on later false i = let ne : j ≡ k → ⊥ = eqb-false j k i in later j (omega arith) (omega arith)
 
-fit-functions : (p : List ℕ) (n k : ℕ) → ((j : ℕ) → k ≤ j → j < k + n → FunctionFits p j) → blocksTest n p k ≡ true
-unfolding blocksTest
+fit-functions : (p : List ℕ) (n k : ℕ) → ((j : ℕ) → k ≤ j → j < k + n → FunctionFits p j) → functionsPass n p k ≡ true
+unfolding functionsPass
 fit-functions p zero k f = refl
 fit-functions p (suc n) k f =
     rw (fits-function p k (f k (omega arith) (omega arith)))

@@ -16,7 +16,7 @@ use Rattle.procedure.specs.declared.refusal.FunctionFault.the-variants a
 use Rattle.procedure.specs.Bytes.{wordAt}
 use Rattle.procedure.specs.Headers.{unnamedBits}
 use Rattle.procedure.specs.Directory.{startOf, lengthOf, entries, headerOfFunction, nargsOf, nlocalsOf, resultOf}
-use Rattle.procedure.specs.Refusal.{entriesTest, blockLength, resultHasLocal, headerTest, blockTest, blocksTest, contentsTest}
+use Rattle.procedure.specs.Refusal.{entriesTest, blockLength, resultHasLocal, headerTest, functionPasses, functionsPass, contentsTest}
 use Rattle.procedure.specs.Faults.{unless, headerFault, functionFault, functionsFault, contentsFault, orElse, refuses}
 
 -- One test after another: a fault where one fails.
@@ -38,8 +38,8 @@ told k true true false b a l v = refl
 told k true false n b a l v = refl
 told k false e n b a l v = refl
 
-function-told : (p : List ℕ) (k : ℕ) → refuses (functionFault p k) ≡ not (blockTest p k)
-unfolding functionFault headerFault blockTest headerTest
+function-told : (p : List ℕ) (k : ℕ) → refuses (functionFault p k) ≡ not (functionPasses p k)
+unfolding functionFault headerFault functionPasses headerTest
 function-told p k =
     told k
     (leb (entries p) (startOf p k))
@@ -63,16 +63,16 @@ first-told f others t u e h = or-else f ∙ rw (e, h) (de-morgan t)
     de-morgan true = refl
     de-morgan false = refl
 
-functions-told : (p : List ℕ) (n k : ℕ) → refuses (functionsFault n p k) ≡ not (blocksTest n p k)
-unfolding functionsFault blocksTest
+functions-told : (p : List ℕ) (n k : ℕ) → refuses (functionsFault n p k) ≡ not (functionsPass n p k)
+unfolding functionsFault functionsPass
 functions-told p zero k = refl
-functions-told p (suc n) k = first-told (functionFault p k) (functionsFault n p (k + 1)) (blockTest p k) (blocksTest n p (k + 1)) (function-told p k) (functions-told p n (k + 1))
+functions-told p (suc n) k = first-told (functionFault p k) (functionsFault n p (k + 1)) (functionPasses p k) (functionsPass n p (k + 1)) (function-told p k) (functions-told p n (k + 1))
 
 pub contents-told : (p : List ℕ) → refuses (contentsFault p) ≡ not (contentsTest p)
 unfolding contentsFault contentsTest
 contents-told p = directory (entriesTest p)
   where
-    directory : (t : Bool) → refuses (unless t F.Entries (functionsFault (entries p - 1) p 1)) ≡ not (t && blocksTest (entries p - 1) p 1)
+    directory : (t : Bool) → refuses (unless t F.Entries (functionsFault (entries p - 1) p 1)) ≡ not (t && functionsPass (entries p - 1) p 1)
     directory true = functions-told p (entries p - 1) 1
     directory false = refl
 

@@ -9,7 +9,7 @@ use Rattle.procedure.specs.declared.header.Line.the-variants as L
 use Rattle.procedure.specs.Bytes.{halfAt, wordAt}
 use Rattle.procedure.specs.Headers.{headerAt, blockAt, lineOf}
 use Rattle.procedure.specs.Directory.{hasFunction, inDirectory, nargsOf, resultOf}
-use Rattle.procedure.specs.Refusal.{segmentLengthTest, entriesTest, headerTest, blockTest, blocksTest, contentsTest, procedureRefusal}
+use Rattle.procedure.specs.Refusal.{segmentLengthTest, entriesTest, headerTest, functionPasses, functionsPass, contentsTest, procedureRefusal}
 
 -- Two entries; function 1 at word 2, 4 words long: RESULT, one argument, one line, one local, one word of code; line 1 at byte 8.
 abbrev sample : List ℕ
@@ -23,7 +23,7 @@ sample =
     ∷ []
 
 accepted : procedureRefusal sample sample ≡ 0
-unfolding procedureRefusal segmentLengthTest contentsTest entriesTest blocksTest blockTest headerTest headerAt wordAt
+unfolding procedureRefusal segmentLengthTest contentsTest entriesTest functionsPass functionPasses headerTest headerAt wordAt
 accepted = refl
 
 present : inDirectory true [] sample 1 ≡ true
@@ -52,9 +52,9 @@ unfolding procedureRefusal segmentLengthTest
 cut = refl
 
 no-local : procedureRefusal sample (set sample 13 0x00) ≡ 12
-unfolding procedureRefusal segmentLengthTest contentsTest entriesTest blocksTest blockTest headerTest headerAt wordAt
+unfolding procedureRefusal segmentLengthTest contentsTest entriesTest functionsPass functionPasses headerTest headerAt wordAt
 no-local = refl
 
 in-directory : procedureRefusal (set sample 5 0x01) sample ≡ 12
-unfolding procedureRefusal segmentLengthTest contentsTest entriesTest blocksTest blockTest headerTest headerAt wordAt
+unfolding procedureRefusal segmentLengthTest contentsTest entriesTest functionsPass functionPasses headerTest headerAt wordAt
 in-directory = refl

@@ -38,17 +38,17 @@ headerTest p k =
     && leb (nargsOf p k + nlocalsOf p k) 4096
 
 -- It lies in the segment after the directory.
-unfoldable pub blockTest : List ℕ → ℕ → Bool
-blockTest p k = leb (entries p) (startOf p k) && leb (4 * (startOf p k + lengthOf p k)) (length p) && headerTest p k
+unfoldable pub functionPasses : List ℕ → ℕ → Bool
+functionPasses p k = leb (entries p) (startOf p k) && leb (4 * (startOf p k + lengthOf p k)) (length p) && headerTest p k
 
 -- The n functions from number k on.
-unfoldable pub blocksTest : ℕ → List ℕ → ℕ → Bool
-blocksTest zero p k = true
-blocksTest (suc n) p k = let others = blocksTest n p (k + 1) in blockTest p k && others
+unfoldable pub functionsPass : ℕ → List ℕ → ℕ → Bool
+functionsPass zero p k = true
+functionsPass (suc n) p k = let others = functionsPass n p (k + 1) in functionPasses p k && others
 
 -- Test 12: the directory and every header.
 unfoldable pub contentsTest : List ℕ → Bool
-contentsTest p = entriesTest p && blocksTest (entries p - 1) p 1
+contentsTest p = entriesTest p && functionsPass (entries p - 1) p 1
 
 -- 11 covers both segments' lengths before 12 covers either's contents.
 unfoldable pub procedureRefusal : List ℕ → List ℕ → ℕ

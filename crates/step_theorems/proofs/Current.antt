@@ -20,7 +20,7 @@ use Rattle.segment.specs.Cells.{Cell, cell}
 use Rattle.segment.specs.Machine.{Frame, mapFrames}
 use Rattle.segment.specs.View.{frameAt, framesFrom, words, view}
 use Rattle.acceptance_storage.proofs.Tests.{both}
-use Rattle.acceptance.specs.Frames.{segmentOf, known, arguments, variables}
+use Rattle.acceptance.specs.Frames.{frameSegment, known, arguments, variables}
 use Rattle.acceptance.specs.Structure.{Accepted}
 use Rattle.manual.specs.OrTrap.{gives}
 use Rattle.manual.specs.Effects.{Effect}
@@ -71,15 +71,15 @@ unfolding currentHeader
 header-seen regular other s = rw (current s .frames, same-selector s, same-function s)
 
 found : (regular other : List ℕ) (w : ℕ) → known regular other w ≡ true
-    → functionOf (segmentOf regular other w) (functionNumber w)
-    ≡ F.At (blockAt (segmentOf regular other w) (startOf (segmentOf regular other w) (functionNumber w)))
+    → functionOf (frameSegment regular other w) (functionNumber w)
+    ≡ F.At (blockAt (frameSegment regular other w) (startOf (frameSegment regular other w) (functionNumber w)))
 unfolding functionOf known
-found regular other w h = rw (both (ltb w (2 ^ 28)) (hasFunction (segmentOf regular other w) (functionNumber w)) h .1)
+found regular other w h = rw (both (ltb w (2 ^ 28)) (hasFunction (frameSegment regular other w) (functionNumber w)) h .1)
 
 -- The function of the current frame.
 abbrev pub current-function : List ℕ → List ℕ → List ℕ → Running
 current-function s regular other =
-    let p = segmentOf regular other (codeWordAt s (lbase s)) in
+    let p = frameSegment regular other (codeWordAt s (lbase s)) in
     running regular other (selectorOf s) (blockAt p (startOf p (numberOf s)))
 
 pub header-running : (s regular other : List ℕ) → headerIn regular other (view s) ≡ headerOf (current-function s regular other)
@@ -97,7 +97,7 @@ module _ (s regular other : List ℕ) (h : Accepted s regular other) where
   abbrev f : Running
   f = current-function s regular other
 
-  function-there : functionOf (segmentOf regular other (codeWordAt s (lbase s))) (numberOf s) ≡ F.At (f .block)
+  function-there : functionOf (frameSegment regular other (codeWordAt s (lbase s))) (numberOf s) ≡ F.At (f .block)
   function-there = found regular other (codeWordAt s (lbase s)) (function-known s regular other (h .older) (lbase s) (h .chain))
 
   pub runs : HasFrame s (variablesOf (headerOf f)) (headerOf f .result)

@@ -1,4 +1,4 @@
--- What comes after an instruction that is done: a step or trace trap, or none.
+-- What comes stepResult an instruction that is done: a step or trace trap, or none.
 use Prim.Native.Nat.{ℕ, _^_, _<_, _≤_}
 use mathlib.Core.Path.{_≡_, refl}
 use mathlib.Core.Bool.{Bool, true, false}
@@ -14,7 +14,7 @@ use Rattle.effects.specs.declared.Outcome.{Outcome}
 use Rattle.effects.specs.declared.Outcome.the-variants as O
 use Rattle.effects.specs.Carried.{outcomeOf}
 use Rattle.effects.specs.declared.Stepped.the-variants.{Finished, Traced}
-use Rattle.effects.specs.Step.{Result, after, due, finished, settled}
+use Rattle.effects.specs.Step.{StepResult, stepResult, due, finished, settled}
 
 -- ---- effects never come to a trap
 
@@ -40,7 +40,7 @@ module _ (regular other : List ℕ) (rtntrace : Bool) (t : List ℕ) (es : List 
 -- ---- the result
 
 module _ (d : ℕ) (t : List ℕ) where
-  pub finished-by : (P : Result → Type 0) → (d ≡ 0 → P (after Finished t)) → (d ≢ 0 → P (after (Traced 2 d) (setTrap t 2 d))) → P (finished d t)
+  pub finished-by : (P : StepResult → Type 0) → (d ≡ 0 → P (stepResult Finished t)) → (d ≢ 0 → P (stepResult (Traced 2 d) (setTrap t 2 d))) → P (finished d t)
   finished-by P f g = go (eqb d 0) refl
     where
       go : (b : Bool) → eqb d 0 ≡ b → P (finished d t)

@@ -9,7 +9,7 @@ use borrow.Author.Tests.{eq-eqb, ne-eqb}
 use Rattle.descriptor.specs.Fields.{isArray, address}
 use Rattle.segment.specs.Blocks.{countAt}
 use Rattle.storage.specs.Release.{release}
-use Rattle.storage.specs.Arrays.{raise, lower, share, drop, drops}
+use Rattle.storage.specs.Arrays.{raise, lower, share, dropWord, dropWords}
 
 module _ (s : List ℕ) (w : ℕ) where
   pub share-array : isArray w ≡ true → share s w ≡ raise s (address w)
@@ -20,12 +20,12 @@ module _ (s : List ℕ) (w : ℕ) where
   unfolding share
   share-other other = simp other
 
-  pub drop-array : isArray w ≡ true → drop s w ≡ lower s (address w)
-  unfolding drop
+  pub drop-array : isArray w ≡ true → dropWord s w ≡ lower s (address w)
+  unfolding dropWord
   drop-array array = simp array
 
-  pub drop-other : isArray w ≡ false → drop s w ≡ s
-  unfolding drop
+  pub drop-other : isArray w ≡ false → dropWord s w ≡ s
+  unfolding dropWord
   drop-other other = simp other
 
 module _ (s : List ℕ) (a : ℕ) where
@@ -37,10 +37,10 @@ module _ (s : List ℕ) (a : ℕ) where
   unfolding lower
   lower-further further = simp (ne-eqb _ _ further)
 
-pub drops-on : (n : ℕ) (s : List ℕ) (a : ℕ) → 0 < n → drops n s a ≡ drops (n - 1) (drop s (getD s (a + (n - 1)) 0)) a
+pub drops-on : (n : ℕ) (s : List ℕ) (a : ℕ) → 0 < n → dropWords n s a ≡ dropWords (n - 1) (dropWord s (getD s (a + (n - 1)) 0)) a
 drops-on zero s a more = absurd (omega arith)
 drops-on (suc n) s a more = let e : suc n - 1 ≡ n = omega arith in rw e
 
-pub drops-none : (n : ℕ) (s : List ℕ) (a : ℕ) → n ≤ 0 → drops n s a ≡ s
+pub drops-none : (n : ℕ) (s : List ℕ) (a : ℕ) → n ≤ 0 → dropWords n s a ≡ s
 drops-none zero s a none = refl
 drops-none (suc n) s a none = absurd (omega arith)

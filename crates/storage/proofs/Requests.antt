@@ -10,7 +10,7 @@ use Rattle.descriptor.specs.declared.address.SegmentAddress.{SegmentAddress}
 use Rattle.segment.specs.State.{setRover}
 use Rattle.segment.specs.Blocks.{sizeAt, nextAt}
 use Rattle.storage.specs.declared.request.Found.the-variants.{At, Full}
-use Rattle.storage.specs.Request.{findFrom, find, split, whole, give, given, request, requestAt}
+use Rattle.storage.specs.Request.{findFrom, find, split, givenWhole, give, given, request, requestAt}
 use Rattle.storage.specs.Found.{found}
 
 -- a turn of the search
@@ -66,7 +66,7 @@ module _ (s : List ℕ) (f size : ℕ) where
   unfolding give
   give-split room = simp (le-leb _ _ room)
 
-  pub give-whole : sizeAt s f < size + 3 → give s f size ≡ setRover (whole s f (sizeAt s f - size) size) (nextAt s f)
+  pub give-whole : sizeAt s f < size + 3 → give s f size ≡ setRover (givenWhole s f (sizeAt s f - size) size) (nextAt s f)
   unfolding give
   give-whole tight = simp (lt-leb _ _ tight)
 

@@ -36,10 +36,10 @@ lower s a = cond (eqb (countAt s a) 1) (release s a) (set s (a + 1) (getD s (a +
 unfoldable pub share : List ℕ → ℕ → List ℕ
 share s w = cond (isArray w) (raise s (address w)) s
 
-unfoldable pub drop : List ℕ → ℕ → List ℕ
-drop s w = cond (isArray w) (lower s (address w)) s
+unfoldable pub dropWord : List ℕ → ℕ → List ℕ
+dropWord s w = cond (isArray w) (lower s (address w)) s
 
 -- The cells from `a + n - 1` down to `a` are dropped.
-abbrev pub drops : ℕ → List ℕ → ℕ → List ℕ
-drops zero s a = s
-drops (suc n) s a = drops n (drop s (getD s (a + n) 0)) a
+abbrev pub dropWords : ℕ → List ℕ → ℕ → List ℕ
+dropWords zero s a = s
+dropWords (suc n) s a = dropWords n (dropWord s (getD s (a + n) 0)) a

@@ -9,9 +9,9 @@ use Rattle.descriptor.specs.Fields.{arrayWord, undefinedWord}
 use Rattle.segment.specs.State.{rover, setRover, sbase, blockptr}
 use Rattle.segment.specs.Blocks.{shapeAt, elementsAt, countAt}
 use Rattle.storage.specs.Ring.{setNext, setLast, clearPrevFree, setPrevFree, markFree, unlink, hook, insert}
-use Rattle.storage.specs.Request.{findFrom, find, split, whole, give, given, requestAt, request}
+use Rattle.storage.specs.Request.{findFrom, find, split, givenWhole, give, given, requestAt, request}
 use Rattle.storage.specs.Release.{joinBefore, joinNone, release}
-use Rattle.storage.specs.Arrays.{fill, placeAt, place, raise, lower, share, drop}
+use Rattle.storage.specs.Arrays.{fill, placeAt, place, raise, lower, share, dropWord}
 use Rattle.storage.specs.Heap.{Heap, free}
 
 -- M1: 64 words, 4 globals, 24 array words, one local. The state words and the globals; array storage; the bottom frame.
@@ -57,12 +57,12 @@ m2 = (refl, refl, refl, refl, refl, refl, refl)
 
 -- Shared, it is counted twice; dropped once, it is as before; dropped again, it joins the free block before it. The last
 -- word that the free block had meanwhile, its links and the words of the array keep what they held.
-pub m2-dropped : (countAt (share placed 0x02000019) 25 ≡ 2) × (drop (share placed 0x02000019) 0x02000019 ≡ placed)
-    × (getD (drop placed 0x02000019) 12 0 ≡ 0x80000015) × (getD (drop placed 0x02000019) 13 0 ≡ 0x00210021)
-    × (getD (drop placed 0x02000019) 24 0 ≡ 13) × (getD (drop placed 0x02000019) 25 0 ≡ 0x40000008)
-    × (getD (drop placed 0x02000019) 32 0 ≡ 21) × (getD (drop placed 0x02000019) 33 0 ≡ 0x40000000)
-    × (rover (drop placed 0x02000019) ≡ 33)
-unfolding placeAt place requestAt request find findFrom give given split clearPrevFree setRover fill share raise drop lower release joinBefore setPrevFree markFree
+pub m2-dropped : (countAt (share placed 0x02000019) 25 ≡ 2) × (dropWord (share placed 0x02000019) 0x02000019 ≡ placed)
+    × (getD (dropWord placed 0x02000019) 12 0 ≡ 0x80000015) × (getD (dropWord placed 0x02000019) 13 0 ≡ 0x00210021)
+    × (getD (dropWord placed 0x02000019) 24 0 ≡ 13) × (getD (dropWord placed 0x02000019) 25 0 ≡ 0x40000008)
+    × (getD (dropWord placed 0x02000019) 32 0 ≡ 21) × (getD (dropWord placed 0x02000019) 33 0 ≡ 0x40000000)
+    × (rover (dropWord placed 0x02000019) ≡ 33)
+unfolding placeAt place requestAt request find findFrom give given split clearPrevFree setRover fill share raise dropWord lower release joinBefore setPrevFree markFree
 m2-dropped = (refl, refl, refl, refl, refl, refl, refl, refl, refl)
 
 -- M3: a need of 18 from 21 splits: 3 words stay free.
@@ -76,7 +76,7 @@ pub m4 : (requestAt fresh 19 ≡ 12) × (getD (request fresh 19) 12 0 ≡ 0x0002
     × (getD (request fresh 19) 34 0 ≡ 0x00210021) × (rover (request fresh 19) ≡ 33)
     × (getD (release (request fresh 19) 12) 12 0 ≡ 0x80000015) × (getD (release (request fresh 19) 12) 13 0 ≡ 0x00210021)
     × (getD (release (request fresh 19) 12) 33 0 ≡ 0x40000000) × (getD (release (request fresh 19) 12) 34 0 ≡ 0x000C000C)
-unfolding requestAt request find findFrom give given whole unlink setNext setLast clearPrevFree setRover release joinNone insert hook markFree setPrevFree
+unfolding requestAt request find findFrom give given givenWhole unlink setNext setLast clearPrevFree setRover release joinNone insert hook markFree setPrevFree
 m4 = (refl, refl, refl, refl, refl, refl, refl, refl, refl)
 
 -- 22 words are not to be had, nor is any need above 65,535.

@@ -44,14 +44,14 @@ pub record Proper (shape elements : List ℕ) : Type 0 where
   pub scalars : (w : ℕ) → 0 < count w elements → isScalar w ≡ true
 
 -- What a step in array storage leaves: every word outside it, but for ROVER.
-pub record Kept (s after : List ℕ) : Type 0 where
+pub record CellsKept (s after : List ℕ) : Type 0 where
   pub long : length after ≡ length s
   pub first : getD after 0 0 ≡ getD s 0 0
   pub base : getD after 1 0 / 2 ^ 16 ≡ getD s 1 0 / 2 ^ 16
   pub rest : (i : ℕ) → 1 < i → (i < blockptr s) ⊎ (sbase s ≤ i) → getD after i 0 ≡ getD s i 0
 
 -- A step in array storage, from the owners `before` to the owners `owners`: what both own is seen alike.
-pub record Step (s before after owners : List ℕ) : Type 0 where
+pub record OwnedStep (s before after owners : List ℕ) : Type 0 where
   pub own : Owned after owners
-  pub kept : Kept s after
+  pub kept : CellsKept s after
   pub same : (w : ℕ) → 0 < count w before → 0 < count w owners → cell after w ≡ cell s w

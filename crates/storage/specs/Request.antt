@@ -28,15 +28,15 @@ split s f rest size =
     (f + rest + size)
 
 -- All is given, `slop` words over: the block at `f` leaves the ring.
-unfoldable pub whole : List ℕ → ℕ → ℕ → ℕ → List ℕ
-whole s f slop size = clearPrevFree (set (unlink s f) f (slop * 2 ^ 16 + size)) (f + size + slop)
+unfoldable pub givenWhole : List ℕ → ℕ → ℕ → ℕ → List ℕ
+givenWhole s f slop size = clearPrevFree (set (unlink s f) f (slop * 2 ^ 16 + size)) (f + size + slop)
 
 -- The free block at `f` serves the request: what is left, and where the block given starts.
 unfoldable pub give : List ℕ → ℕ → ℕ → List ℕ
 give s f size =
     cond (leb (size + 3) (sizeAt s f))
     (setRover (split s f (sizeAt s f - size) size) (nextAt s f))
-    (setRover (whole s f (sizeAt s f - size) size) (nextAt s f))
+    (setRover (givenWhole s f (sizeAt s f - size) size) (nextAt s f))
 
 unfoldable pub given : List ℕ → ℕ → ℕ → ℕ
 given s f size = cond (leb (size + 3) (sizeAt s f)) (f + (sizeAt s f - size)) f

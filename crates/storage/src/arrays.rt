@@ -54,7 +54,7 @@ pub fn share(seg: &mut [u32], w: u32)
 
 // One cell less holds the word w: an array that no cell points to is released.
 pub fn drop_word(seg: &mut [u32], w: u32)
-    ensures { λ _. ⌜ now (seg .exit) ≡ arrays.drop (now (seg .entry)) w ⌝ }
+    ensures { λ _. ⌜ now (seg .exit) ≡ arrays.dropWord (now (seg .entry)) w ⌝ }
 {
     if is_array(w) {
         lower(seg, low(w));
@@ -63,7 +63,7 @@ pub fn drop_word(seg: &mut [u32], w: u32)
 
 // The n cells of the stack from `from` up are dropped, the highest first.
 pub fn drop_cells(seg: &mut [u32], from: StackAddress, n: u32)
-    ensures { λ _. ⌜ now (seg .exit) ≡ arrays.drops n (now (seg .entry)) (sbase (now (seg .entry)) + from .0) ⌝ }
+    ensures { λ _. ⌜ now (seg .exit) ≡ arrays.dropWords n (now (seg .entry)) (sbase (now (seg .entry)) + from .0) ⌝ }
 {
     let start = from.index(segment::state::sbase(seg));
     let mut left = n;

@@ -87,7 +87,7 @@ fn split(seg: &mut [u32], f: SegmentAddress, rest: u16, size: u16)
 // The free block at f leaves the ring and is given whole, with `slop` words over.
 fn whole(seg: &mut [u32], f: SegmentAddress, slop: u16, size: u16)
     requires { ⌜ f .0 < 2 ^ 16 ⌝ }
-    ensures { λ _. ⌜ now (seg .exit) ≡ requests.whole (now (seg .entry)) (f .0) slop size ⌝ }
+    ensures { λ _. ⌜ now (seg .exit) ≡ requests.givenWhole (now (seg .entry)) (f .0) slop size ⌝ }
 {
     unlink(seg, f);
     put(seg, f.index(), slop as u32 * 0x1_0000 + size as u32);

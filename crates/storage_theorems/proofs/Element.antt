@@ -13,7 +13,7 @@ use Rattle.segment.specs.State.{sbase, blockptr}
 use Rattle.segment.specs.Blocks.{countAt, rankAt, part, product, shapeAt, elementsAt}
 use Rattle.storage.specs.Heap.{count}
 use Rattle.segment.specs.Cells.{cell, value}
-use Rattle.storage.specs.Owned.{ArrayIn, Inside, Owned, Kept}
+use Rattle.storage.specs.Owned.{ArrayIn, Inside, Owned, CellsKept}
 use Rattle.storage_theorems.specs.Words.{Inner}
 use Rattle.storage_theorems.proofs.Counts.{hit-cases}
 use Rattle.storage_theorems.proofs.Arrays.{array-inner, array-apart}
@@ -121,7 +121,7 @@ module _ {s ws : List ℕ} (o : Owned s ws) (x z : ℕ) (u : ArrayIn (blockptr s
           (λ e. inside-same s s′ y n (o .inside y n h) (ap (λ (m : ℕ). m % 2 ^ 16) (second y n h)) (λ j l m. apart y n h (e .0) j (omega arith) m))
           (hit-cases y x)
 
-  kept-x : Kept s s′
+  kept-x : CellsKept s s′
   kept-x = record {
     long = length-set s i v;
     first = other 0 (omega (arith, room));

@@ -10,7 +10,7 @@ use Rattle.segment.specs.State.{blockptr}
 use Rattle.segment.specs.Blocks.{countAt, shapeAt, elementsAt}
 use Rattle.storage.specs.Release.{release}
 use Rattle.storage.specs.Heap.{Block, count}
-use Rattle.storage.specs.Owned.{ArrayIn, Inside, Owned, Kept, Step}
+use Rattle.storage.specs.Owned.{ArrayIn, Inside, Owned, CellsKept, OwnedStep}
 use Rattle.storage_theorems.specs.Words.{Leaves}
 use Rattle.storage_theorems.specs.Release.{Release}
 use Rattle.storage_theorems.proofs.Counts.{hit-cases}
@@ -34,7 +34,7 @@ module _ {s ws : List ℕ} (o : Owned s ws) (s′ : List ℕ) (bs : List Block) 
   pub leaves-inside : Inside s′ x z
   leaves-inside = inside-same s s′ x z (o .inside x z u) (ap (λ (m : ℕ). m % 2 ^ 16) leaves-second) (λ i l m. leaves-word i (omega arith) m)
 
-pub leaves-kept : {s s′ : List ℕ} {bs : List Block} → Leaves s s′ bs → 8 ≤ blockptr s → Kept s s′
+pub leaves-kept : {s s′ : List ℕ} {bs : List Block} → Leaves s s′ bs → 8 ≤ blockptr s → CellsKept s s′
 leaves-kept k l = record {
   long = k .long;
   first = k .quiet 0 (omega arith) (inl (omega arith));
@@ -79,7 +79,7 @@ module _ {s ws : List ℕ} (x z : ℕ) (o : Owned s (arrayWord x ∷ ws)) (u : A
       now-inside : (y v : ℕ) → ArrayIn (blockptr s) (out .blocks) y v → Inside (release s x) y v
       now-inside y v k = leaves-inside o (release s x) (out .blocks) (out .leaves) y v (out .others y v .0 k .0) k
 
-  pub gone : Step s (arrayWord x ∷ ws) (release s x) ws
+  pub gone : OwnedStep s (arrayWord x ∷ ws) (release s x) ws
   gone = record {
     own = gone-own;
     kept = leaves-kept (out .leaves) (o .heap .low);

@@ -10,7 +10,7 @@ use borrow.Author.Tests.{eq-eqb, ne-eqb}
 use Rattle.descriptor.specs.Fields.{isArray, address, arrayWord}
 use Rattle.segment.specs.State.{blockptr}
 use Rattle.segment.specs.Blocks.{countAt}
-use Rattle.storage.specs.Arrays.{raise, lower, share, drop}
+use Rattle.storage.specs.Arrays.{raise, lower, share, dropWord}
 use Rattle.storage.specs.Heap.{count}
 use Rattle.storage.specs.Owned.{ArrayIn, Owned}
 use Rattle.storage_theorems.proofs.Counts.{count-le, hit-same}
@@ -41,7 +41,7 @@ module _ {s ws : List ℕ} (w : ℕ) where
       raised e (inr k) = let z : _≡_ {A = ℕ} 0 1 = ap (λ (b : Bool). cond {A = ℕ} b 0 1) (sym e ∙ k) in absurd (omega arith)
 
   pub drop-theorem : (o : Owned s (w ∷ ws)) → Drop s ws w o
-  unfolding drop lower
+  unfolding dropWord lower
   drop-theorem o = record {
     step = drop-own w o;
     plain = λ e. simp e;

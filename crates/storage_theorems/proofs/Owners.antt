@@ -11,7 +11,7 @@ use Rattle.descriptor.specs.Fields.{arrayWord}
 use Rattle.segment.specs.State.{sbase, blockptr}
 use Rattle.segment.specs.Blocks.{countAt}
 use Rattle.storage.specs.Heap.{count}
-use Rattle.storage.specs.Owned.{ArrayIn, Inside, Owned, Kept, Step}
+use Rattle.storage.specs.Owned.{ArrayIn, Inside, Owned, CellsKept, OwnedStep}
 use Rattle.storage_theorems.specs.Words.{Inner}
 use Rattle.storage_theorems.proofs.Walks.{Same}
 use Rattle.storage_theorems.proofs.Counts.{hit-cases}
@@ -88,7 +88,7 @@ module _ {s ws : List ℕ} (o : Owned s ws) (x z : ℕ) (u : ArrayIn (blockptr s
       now-inside : (y w : ℕ) → ArrayIn (blockptr s) (o .blocks) y w → Inside s′ y w
       now-inside y w k = inside-same s s′ y w (o .inside y w k) (rank-kept y w k) (words-kept y w k)
 
-  recount-kept : Kept s s′
+  recount-kept : CellsKept s s′
   recount-kept = record {
     long = length-set s (x + 1) v;
     first = other 0 (omega arith);
@@ -96,7 +96,7 @@ module _ {s ws : List ℕ} (o : Owned s ws) (x z : ℕ) (u : ArrayIn (blockptr s
     rest = λ i l h. ⊎-elim (λ q. other i (omega (arith, place, q))) (λ q. other i (omega (arith, place, q))) h;
   }
 
-  pub recount : Step s ws s′ vs
+  pub recount : OwnedStep s ws s′ vs
   recount = record {
     own = recount-own;
     kept = recount-kept;

@@ -13,7 +13,7 @@ use Rattle.segment.specs.Blocks.{countAt, rankAt, shapeAt, elementsAt, need}
 use Rattle.storage.specs.Request.{requestAt, request}
 use Rattle.storage.specs.Arrays.{fill, placeAt, place}
 use Rattle.storage.specs.Heap.{hit, count, Heap}
-use Rattle.storage.specs.Owned.{ArrayIn, Inside, Owned, Proper, Step}
+use Rattle.storage.specs.Owned.{ArrayIn, Inside, Owned, Proper, OwnedStep}
 use Rattle.storage_theorems.specs.Words.{Quiet, Leaves}
 use Rattle.storage_theorems.specs.Request.{Served}
 use Rattle.storage_theorems.proofs.Counts.{order, hit-cases, hit-same}
@@ -128,7 +128,7 @@ module _ {s ws : List ℕ} (o : Owned s ws) (sh el : List ℕ) (ok : Proper sh e
       now-inside y v (inl e) = rw (e .0, e .1) new-inside
       now-inside y v (inr u) = leaves-inside o s2 (o .blocks) left y v u u
 
-  fresh-step : Step s ws s2 (arrayWord x ∷ ws)
+  fresh-step : OwnedStep s ws s2 (arrayWord x ∷ ws)
   fresh-step = record {
     own = fresh-own;
     kept = leaves-kept left (o .heap .low);

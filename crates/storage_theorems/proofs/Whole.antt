@@ -10,7 +10,7 @@ use lib.Seq.{getD-set-same, getD-set-other, lt-length-set}
 use Rattle.segment.specs.State.{sbase, rover, blockptr, setRover}
 use Rattle.segment.specs.Blocks.{nextAt, lastAt}
 use Rattle.storage.specs.Ring.{clearPrevFree, unlink}
-use Rattle.storage.specs.Request.{whole}
+use Rattle.storage.specs.Request.{givenWhole}
 use Rattle.storage.specs.Heap.{Block, prevFreeBit, Walk, over, frees, hit, count, Links, Heap, free, array}
 use Rattle.storage_theorems.specs.Words.{Quiet, Leaves}
 use Rattle.storage_theorems.proofs.Walks.{over-le, walk-replace, walk-clear}
@@ -23,24 +23,24 @@ use Rattle.storage_theorems.proofs.Heaps.{heap-make}
 use Rattle.storage_theorems.proofs.Unlink.{unlink-ring, unlink-length, unlink-other, unlink-walk}
 
 module _ (s : List ℕ) (f slop size : ℕ) where
-  pub whole-length : length (whole s f slop size) ≡ length s
-  unfolding whole clearPrevFree
+  pub whole-length : length (givenWhole s f slop size) ≡ length s
+  unfolding givenWhole clearPrevFree
   whole-length = simp length-set (unlink-length s f)
 
-  pub whole-other : (i : ℕ) → (i ≢ f) × (i ≢ f + size + slop) → getD (whole s f slop size) i 0 ≡ getD (unlink s f) i 0
-  unfolding whole clearPrevFree
+  pub whole-other : (i : ℕ) → (i ≢ f) × (i ≢ f + size + slop) → getD (givenWhole s f slop size) i 0 ≡ getD (unlink s f) i 0
+  unfolding givenWhole clearPrevFree
   whole-other i h = simp (getD-set-other, h .0, h .1)
 
   module _ (n3 : 3 ≤ size) (fit : f + size + slop < length s) where
-    pub whole-first : getD (whole s f slop size) f 0 ≡ slop * 2 ^ 16 + size
-    unfolding whole clearPrevFree
+    pub whole-first : getD (givenWhole s f slop size) f 0 ≡ slop * 2 ^ 16 + size
+    unfolding givenWhole clearPrevFree
     whole-first =
         let e : f ≢ f + size + slop = omega arith in
         let l : f < length (unlink s f) = omega (arith, unlink-length s f) in
         simp (getD-set-other, getD-set-same)
 
-    pub whole-next : getD (whole s f slop size) (f + size + slop) 0 ≡ getD (unlink s f) (f + size + slop) 0 % 2 ^ 30
-    unfolding whole clearPrevFree
+    pub whole-next : getD (givenWhole s f slop size) (f + size + slop) 0 ≡ getD (unlink s f) (f + size + slop) 0 % 2 ^ 30
+    unfolding givenWhole clearPrevFree
     whole-next =
         let e : f + size + slop ≢ f = omega arith in
         let l : f + size + slop < length (unlink s f) = omega (arith, unlink-length s f) in
@@ -65,7 +65,7 @@ module _ {s : List ℕ} {t : List ℕ} (xs : List Block) (n : ℕ) (ys : List Bl
   members = frees (blockptr s) old
 
   abbrev after : List ℕ
-  after = setRover (whole s f (n - size) size) (nextAt s f)
+  after = setRover (givenWhole s f (n - size) size) (nextAt s f)
 
   place : (8 ≤ blockptr s) × (blockptr s ≤ f) × (f + n ≤ end) × (end + 3 ≤ length s) × (length s ≤ 16384)
   place = (

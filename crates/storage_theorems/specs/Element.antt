@@ -9,7 +9,7 @@ use Rattle.descriptor.specs.Fields.{arrayWord}
 use Rattle.segment.specs.Blocks.{rankAt, shapeAt, elementsAt}
 use Rattle.storage.specs.Heap.{count}
 use Rattle.segment.specs.Cells.{value, cell}
-use Rattle.storage.specs.Owned.{Owned, Kept}
+use Rattle.storage.specs.Owned.{Owned, CellsKept}
 
 -- The segment after it: the elements start behind the two first words and the lengths.
 abbrev pub setElement : List ℕ → ℕ → ℕ → ℕ → List ℕ
@@ -17,6 +17,6 @@ setElement s x k v = set s (x + 2 + rankAt s x + k) v
 
 pub record Element (s owners : List ℕ) (x k v : ℕ) : Type 0 where
   pub own : Owned (setElement s x k v) owners
-  pub kept : Kept s (setElement s x k v)
+  pub kept : CellsKept s (setElement s x k v)
   pub others : (w : ℕ) → w ≢ arrayWord x → 0 < count w owners → cell (setElement s x k v) w ≡ cell s w
   pub this : cell (setElement s x k v) (arrayWord x) ≡ value (shapeAt s x) (set (elementsAt s x) k v)

@@ -10,9 +10,9 @@ use Rattle.descriptor.specs.Kinds.{isScalar}
 use Rattle.segment.specs.State.{sbase, blockptr}
 use Rattle.segment.specs.Blocks.{product, shapeAt}
 use Rattle.segment.specs.Stack.{downward}
-use Rattle.storage.specs.Arrays.{drops}
+use Rattle.storage.specs.Arrays.{dropWords}
 use Rattle.storage.specs.Heap.{count}
-use Rattle.storage.specs.Owned.{ArrayIn, Owned, Proper, Step}
+use Rattle.storage.specs.Owned.{ArrayIn, Owned, Proper, OwnedStep}
 use Rattle.storage_theorems.specs.Elsewhere.{Elsewhere, Unmoved}
 use Rattle.storage_theorems.specs.Counts.{Share, Drop}
 use Rattle.storage_theorems.specs.Place.{Place}
@@ -24,7 +24,7 @@ pub record OwnersTheorems : Type 0 where
   pub share : (s owners : List ℕ) (w : ℕ) → Owned s owners → length owners < 65535 → (0 < count w owners) ⊎ (isArray w ≡ false) → Share s owners w
   pub drop : (s owners : List ℕ) (w : ℕ) (own : Owned s (w ∷ owners)) → Drop s owners w own
   -- `n` cells of the stack from `a` up are dropped, the highest first.
-  pub drops : (s owners : List ℕ) (n a : ℕ) → Owned s (downward s a n ++ owners) → sbase s ≤ a → Step s (downward s a n ++ owners) (drops n s a) owners
+  pub drops : (s owners : List ℕ) (n a : ℕ) → Owned s (downward s a n ++ owners) → sbase s ≤ a → OwnedStep s (downward s a n ++ owners) (dropWords n s a) owners
   -- The order of the owners is of no matter, nor are words that are no array's.
   pub reorder : (s owners others : List ℕ) → ((x : ℕ) → x < 2 ^ 16 → count (arrayWord x) others ≡ count (arrayWord x) owners) → Owned s owners → Owned s others
   pub elsewhere : (s after owners : List ℕ) → Owned s owners → Elsewhere s after → Unmoved s after owners

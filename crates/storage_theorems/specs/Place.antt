@@ -9,13 +9,13 @@ use Rattle.segment.specs.Blocks.{need, countAt, shapeAt, elementsAt}
 use Rattle.storage.specs.Arrays.{placeAt, place}
 use Rattle.storage.specs.Heap.{count}
 use Rattle.segment.specs.Cells.{value, cell}
-use Rattle.storage.specs.Owned.{Owned, Step}
+use Rattle.storage.specs.Owned.{Owned, OwnedStep}
 use Rattle.storage_theorems.specs.Words.{HasRoom}
 
 -- A new array, which nothing owned before and which one word owns now.
 pub record NewArray (s owners shape elements : List ℕ) : Type 0 where
   pub unowned : count (arrayWord (placeAt s shape elements)) owners ≡ 0
-  pub step : Step s owners (place s shape elements) (arrayWord (placeAt s shape elements) ∷ owners)
+  pub step : OwnedStep s owners (place s shape elements) (arrayWord (placeAt s shape elements) ∷ owners)
   pub counted : countAt (place s shape elements) (placeAt s shape elements) ≡ 1
   pub shaped : shapeAt (place s shape elements) (placeAt s shape elements) ≡ shape
   pub filled : elementsAt (place s shape elements) (placeAt s shape elements) ≡ elements

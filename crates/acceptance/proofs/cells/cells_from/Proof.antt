@@ -6,7 +6,7 @@ use borrow.Author.Needs.{needs}
 use borrow.Author.Tests.{not-true, not-false}
 use lib.ListN.{length}
 use Rattle.acceptance_storage.specs.Marks.{Tally}
-use Rattle.acceptance.specs.Frames.{known, arguments, variables, framesFrom}
+use Rattle.acceptance.specs.Frames.{known, arguments, variables, framesPass}
 use Rattle.acceptance.specs.Cells.{inTable, variablesFrom, cellsFrom}
 use Rattle.acceptance.proofs.Chain.{few-arguments, low-enough, at-bottom, above}
 use Rattle.acceptance.proofs.FrameCells.{never, cells-none, own-marked, frame-alike, frame-fails, frame-bottom, frame-on, older-marked}
@@ -20,7 +20,7 @@ Inv-loop seg regular alternate from upto arrays₀ marks₀ base₀ top₀ left�
     × (top ≤ upto)
     × (length arrays ≡ length arrays₀)
     × (length marks ≡ length marks₀)
-    × (framesFrom left (known regular alternate) (variables regular alternate) seg base ≡ true)
+    × (framesPass left (known regular alternate) (variables regular alternate) seg base ≡ true)
     × Tally marks (variablesFrom left (variables regular alternate) seg base)
     × (cellsFrom (length seg) (arguments regular alternate) (variables regular alternate) seg (inTable arrays₀) from upto ≡ cellsFrom left (arguments regular alternate) (variables regular alternate) seg (inTable arrays₀) base top)
     × Down seg from upto arrays₀ arrays base top

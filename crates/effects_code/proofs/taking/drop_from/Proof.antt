@@ -2,14 +2,14 @@ use Prim.Native.Nat.{_<_, _^_}
 use mathlib.Core.Path.{_≡_, refl}
 use native.Mathlib.Omega.{arith}
 use lib.ListN.{length}
-use Rattle.storage.specs.Arrays.{drops}
+use Rattle.storage.specs.Arrays.{dropWords}
 use Rattle.storage.proofs.Counts.{drops-on, drops-none}
 use borrow.Author.Needs.{needs}
 use Rattle.effects_code.proofs.taking.drop_from.Statement.{statement}
 use Rattle.effects_code.proofs.taking.drop_from.Tie as tie
 
 abbrev Inv-loop : tie.InvT-loop
-Inv-loop seg₀ n at left₀ seg left = (drops left seg at ≡ drops n seg₀ at) × (length seg ≡ length seg₀) × (left < 2 ^ 32)
+Inv-loop seg₀ n at left₀ seg left = (dropWords left seg at ≡ dropWords n seg₀ at) × (length seg ≡ length seg₀) × (left < 2 ^ 32)
 
 abbrev μ-loop : tie.MeasureT-loop
 μ-loop seg₀ n at left₀ seg left = left

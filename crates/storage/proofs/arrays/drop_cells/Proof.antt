@@ -3,13 +3,13 @@ use mathlib.Core.Path.{_≡_, refl}
 use native.Mathlib.Omega.{arith}
 use lib.ListN.{length}
 use borrow.Author.Needs.{needs}
-use Rattle.storage.specs.Arrays.{drops}
+use Rattle.storage.specs.Arrays.{dropWords}
 use Rattle.storage.proofs.Counts.{drops-on, drops-none}
 use Rattle.storage.proofs.arrays.drop_cells.Statement.{statement}
 use Rattle.storage.proofs.arrays.drop_cells.Tie as tie
 
 abbrev Inv-loop : tie.InvT-loop
-Inv-loop seg₀ n start left₀ seg left = (drops left seg start ≡ drops n seg₀ start) × (length seg ≡ length seg₀) × (left < 2 ^ 32)
+Inv-loop seg₀ n start left₀ seg left = (dropWords left seg start ≡ dropWords n seg₀ start) × (length seg ≡ length seg₀) × (left < 2 ^ 32)
 
 abbrev μ-loop : tie.MeasureT-loop
 μ-loop seg₀ n start left₀ seg left = left

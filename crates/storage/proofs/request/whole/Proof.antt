@@ -1,4 +1,4 @@
-use Rattle.storage.specs.Request.{whole}
+use Rattle.storage.specs.Request.{givenWhole}
 use borrow.Author.Needs.{needs}
 use Rattle.storage.proofs.request.whole.Statement.{statement}
 use Rattle.storage.proofs.request.whole.Tie as tie
@@ -37,7 +37,7 @@ same-length : tie.Need-same-length
 same-length c = search needs
 
 returns : tie.Need-returns
-unfolding whole
+unfolding givenWhole
 returns c = cc
 
 pub whole-spec : {M : Type 1} → statement M
