@@ -46,16 +46,16 @@ global-fields w t e l = (omega arith, omega arith, omega arith)
 local-fields : (w t : ℕ) → w ≡ localWord t → t < 2 ^ 16 → (w / 2 ^ 17 ≡ 0x180) × (w / 2 ^ 16 % 2 ≡ 0) × (w % 2 ^ 16 ≡ t)
 local-fields w t e l = (omega arith, omega arith, omega arith)
 
-module _ (s regular other vs frames : List ℕ) (w : ℕ) where
-  pub pointing-sound : ((a : ℕ) → 0 < count a vs → VariableOf s regular other frames a) → pointing s (inList vs) w ≡ true
-      → NamesGlobal s w ⊎ NamesVariable s regular other frames w
+module _ (s regular alternate vs frames : List ℕ) (w : ℕ) where
+  pub pointing-sound : ((a : ℕ) → 0 < count a vs → VariableOf s regular alternate frames a) → pointing s (inList vs) w ≡ true
+      → NamesGlobal s w ⊎ NamesVariable s regular alternate frames w
   unfolding pointing
   pointing-sound v h = go (namesGlobal w) refl
     where
       ind : isIndirect w ≡ true
       ind = both (isIndirect w) _ h .0
 
-      go : (g : Bool) → namesGlobal w ≡ g → NamesGlobal s w ⊎ NamesVariable s regular other frames w
+      go : (g : Bool) → namesGlobal w ≡ g → NamesGlobal s w ⊎ NamesVariable s regular alternate frames w
       go true e =
           let t = simp e at (both (isIndirect w) _ h .1) in
           let b = both (leb 8 (address w)) _ t in
@@ -77,8 +77,8 @@ module _ (s regular other vs frames : List ℕ) (w : ℕ) where
             direct = not-true (isIndirect (getD s (sbase s + address w) 0)) (b .1);
           })
 
-  pub pointing-complete : blockptr s ≤ 2 ^ 16 → ((a : ℕ) → VariableOf s regular other frames a → (0 < count a vs) × (a < 2 ^ 16))
-      → NamesGlobal s w ⊎ NamesVariable s regular other frames w → pointing s (inList vs) w ≡ true
+  pub pointing-complete : blockptr s ≤ 2 ^ 16 → ((a : ℕ) → VariableOf s regular alternate frames a → (0 < count a vs) × (a < 2 ^ 16))
+      → NamesGlobal s w ⊎ NamesVariable s regular alternate frames w → pointing s (inList vs) w ≡ true
   unfolding pointing
   pointing-complete small v (inl g) =
       let f = global-fields w (g .target) (g .word) (omega (arith, g .high)) in
@@ -90,21 +90,21 @@ module _ (s regular other vs frames : List ℕ) (w : ℕ) where
       simp (eq-eqb (w / 2 ^ 17) 0x180 (f .0), ne-eqb (w / 2 ^ 16 % 2) 1 (λ z. omega (arith, z, f .1)), f .2)
       (passes (le-leb 1 (count (g .target) vs) (k .0)) (ap not (g .direct)))
 
-module _ (arrays : ℕ → ℕ) (s regular other vs frames : List ℕ) (w : ℕ) where
-  pub free-sound : ((a : ℕ) → 0 < count a vs → VariableOf s regular other frames a) → freeCell s arrays (inList vs) w ≡ true
-      → DirectOrIndirect (λ a. 1 ≤ arrays a) s regular other frames w
+module _ (arrays : ℕ → ℕ) (s regular alternate vs frames : List ℕ) (w : ℕ) where
+  pub free-sound : ((a : ℕ) → 0 < count a vs → VariableOf s regular alternate frames a) → freeCell s arrays (inList vs) w ≡ true
+      → DirectOrIndirect (λ a. 1 ≤ arrays a) s regular alternate frames w
   unfolding freeCell
   free-sound v h = go (direct arrays w) refl
     where
-      go : (d : Bool) → direct arrays w ≡ d → DirectOrIndirect (λ a. 1 ≤ arrays a) s regular other frames w
+      go : (d : Bool) → direct arrays w ≡ d → DirectOrIndirect (λ a. 1 ≤ arrays a) s regular alternate frames w
       go true e = inl (direct-sound arrays w e)
-      go false e = inr (pointing-sound s regular other vs frames w v (simp e at h))
+      go false e = inr (pointing-sound s regular alternate vs frames w v (simp e at h))
 
-  pub free-complete : blockptr s ≤ 2 ^ 16 → ((a : ℕ) → VariableOf s regular other frames a → (0 < count a vs) × (a < 2 ^ 16))
-      → DirectOrIndirect (λ a. 1 ≤ arrays a) s regular other frames w → freeCell s arrays (inList vs) w ≡ true
+  pub free-complete : blockptr s ≤ 2 ^ 16 → ((a : ℕ) → VariableOf s regular alternate frames a → (0 < count a vs) × (a < 2 ^ 16))
+      → DirectOrIndirect (λ a. 1 ≤ arrays a) s regular alternate frames w → freeCell s arrays (inList vs) w ≡ true
   unfolding freeCell
   free-complete small v (inl d) = simp (direct-complete arrays w d)
-  free-complete small v (inr p) = either (direct arrays w) (pointing-complete s regular other vs frames w small v p)
+  free-complete small v (inr p) = either (direct arrays w) (pointing-complete s regular alternate vs frames w small v p)
 
 -- More addresses may be those of arrays.
 module _ {A B : ℕ → Type 0} (f : (a : ℕ) → A a → B a) where
@@ -113,6 +113,6 @@ module _ {A B : ℕ → Type 0} (f : (a : ℕ) → A a → B a) where
   direct-map (inr (inl e)) = inr (inl e)
   direct-map {w} (inr (inr k)) = inr (inr (k .0, f (address w) (k .1)))
 
-  pub either-map : {s regular other frames : List ℕ} {w : ℕ} → DirectOrIndirect A s regular other frames w → DirectOrIndirect B s regular other frames w
+  pub either-map : {s regular alternate frames : List ℕ} {w : ℕ} → DirectOrIndirect A s regular alternate frames w → DirectOrIndirect B s regular alternate frames w
   either-map (inl d) = inl (direct-map d)
   either-map (inr p) = inr p

@@ -30,38 +30,38 @@ module _ (has : ℕ → Bool) (size : ℕ → ℕ) (s : List ℕ) (base : ℕ) w
   frames-step zero h = absurd (omega arith)
   frames-step (suc n) h = let e : suc n - 1 ≡ n = omega arith in rw e
 
-module _ (s regular other : List ℕ) (base n : ℕ) (pos : 0 < n) {last code args size : ℕ} (f : FrameAt s regular other base last code args size) where
-  step : framesPass n (known regular other) (variables regular other) s base
-      ≡ known regular other code and cond (eqb last base) (eqb size base)
-      (leb (last + 2 + size) base and framesPass (n - 1) (known regular other) (variables regular other) s last)
-  step = frames-step (known regular other) (variables regular other) s base n pos ∙ rw (f .code, f .variables, f .last)
+module _ (s regular alternate : List ℕ) (base n : ℕ) (pos : 0 < n) {last code args size : ℕ} (f : FrameAt s regular alternate base last code args size) where
+  step : framesPass n (known regular alternate) (variables regular alternate) s base
+      ≡ known regular alternate code and cond (eqb last base) (eqb size base)
+      (leb (last + 2 + size) base and framesPass (n - 1) (known regular alternate) (variables regular alternate) s last)
+  step = frames-step (known regular alternate) (variables regular alternate) s base n pos ∙ rw (f .code, f .variables, f .last)
 
-  pub absent : known regular other code ≡ false → framesPass n (known regular other) (variables regular other) s base ≡ false
+  pub absent : known regular alternate code ≡ false → framesPass n (known regular alternate) (variables regular alternate) s base ≡ false
   absent h = step ∙ simp h
 
-  module _ (h : known regular other code ≡ true) where
-    pub bottom : last ≡ base → framesPass n (known regular other) (variables regular other) s base ≡ eqb size base
+  module _ (h : known regular alternate code ≡ true) where
+    pub bottom : last ≡ base → framesPass n (known regular alternate) (variables regular alternate) s base ≡ eqb size base
     bottom z = step ∙ simp (h, eq-eqb last base z)
 
     module _ (z : last ≡ base → ⊥) where
-      pub low : base < last + 2 + size → framesPass n (known regular other) (variables regular other) s base ≡ false
+      pub low : base < last + 2 + size → framesPass n (known regular alternate) (variables regular alternate) s base ≡ false
       low l = step ∙ simp (h, ne-eqb last base z, lt-leb (last + 2 + size) base l)
 
       pub further : last + 2 + size ≤ base
-          → framesPass n (known regular other) (variables regular other) s base ≡ framesPass (n - 1) (known regular other) (variables regular other) s last
+          → framesPass n (known regular alternate) (variables regular alternate) s base ≡ framesPass (n - 1) (known regular alternate) (variables regular alternate) s last
       further l = step ∙ simp (h, ne-eqb last base z, le-leb (last + 2 + size) base l)
 
 -- What is known of a frame once test 16 has passed.
-module _ (s regular other : List ℕ) (base n : ℕ) (pos : 0 < n) {last code args size : ℕ} (f : FrameAt s regular other base last code args size)
-    (t : framesPass n (known regular other) (variables regular other) s base ≡ true) where
+module _ (s regular alternate : List ℕ) (base n : ℕ) (pos : 0 < n) {last code args size : ℕ} (f : FrameAt s regular alternate base last code args size)
+    (t : framesPass n (known regular alternate) (variables regular alternate) s base ≡ true) where
   pub few-arguments : args ≤ size
   unfolding variables
   few-arguments = omega (arith, f .arguments, f .variables)
 
-  rest : cond (eqb last base) (eqb size base) (leb (last + 2 + size) base and framesPass (n - 1) (known regular other) (variables regular other) s last) ≡ true
-  rest = both (known regular other code) _ (sym (step s regular other base n pos f) ∙ t) .1
+  rest : cond (eqb last base) (eqb size base) (leb (last + 2 + size) base and framesPass (n - 1) (known regular alternate) (variables regular alternate) s last) ≡ true
+  rest = both (known regular alternate code) _ (sym (step s regular alternate base n pos f) ∙ t) .1
 
-  pub above : last < base → (last + 2 + size ≤ base) × (framesPass (n - 1) (known regular other) (variables regular other) s last ≡ true)
+  pub above : last < base → (last + 2 + size ≤ base) × (framesPass (n - 1) (known regular alternate) (variables regular alternate) s last ≡ true)
   above l =
       let b = both (leb (last + 2 + size) base) _ (simp (ne-eqb last base (λ e. omega (arith, e))) at rest) in (leb-true (last + 2 + size) base (b .0), b .1)
 
@@ -72,21 +72,21 @@ module _ (s regular other : List ℕ) (base n : ℕ) (pos : 0 < n) {last code ar
   pub low-enough : size ≤ base
   low-enough = by-le base last (λ l. omega (arith, at-bottom l)) (λ l. omega (arith, above l .0))
 
-module _ (s regular other : List ℕ) where
-  pub short : ltop s < lbase s + 1 → framesTest s regular other ≡ false
+module _ (s regular alternate : List ℕ) where
+  pub short : ltop s < lbase s + 1 → framesTest s regular alternate ≡ false
   unfolding framesTest
   short h = simp (lt-leb (lbase s + 1) (ltop s) h)
 
-  pub long : lbase s + 1 ≤ ltop s → framesTest s regular other ≡ framesPass (length s) (known regular other) (variables regular other) s (lbase s)
+  pub long : lbase s + 1 ≤ ltop s → framesTest s regular alternate ≡ framesPass (length s) (known regular alternate) (variables regular alternate) s (lbase s)
   unfolding framesTest
   long h = simp (le-leb (lbase s + 1) (ltop s) h)
 
 -- What the header of a frame's function says.
-module _ (regular other : List ℕ) {h : Header} (code : ℕ) {w : ℕ} (e : h ≡ headerOfFunction (frameSegment regular other code) (functionNumber code)) (k : code ≡ w) where
-  pub header-arguments : h .nargs ≡ arguments regular other w
+module _ (regular alternate : List ℕ) {h : Header} (code : ℕ) {w : ℕ} (e : h ≡ headerOfFunction (frameSegment regular alternate code) (functionNumber code)) (k : code ≡ w) where
+  pub header-arguments : h .nargs ≡ arguments regular alternate w
   unfolding arguments
   header-arguments = rw (e, k)
 
-  pub header-variables : h .nargs + h .nlocals ≡ variables regular other w
+  pub header-variables : h .nargs + h .nlocals ≡ variables regular alternate w
   unfolding variables arguments
   header-variables = rw (e, k)

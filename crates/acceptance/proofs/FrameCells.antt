@@ -190,19 +190,19 @@ cells-alike a b same (suc n) args size s base top =
     )
 
 -- All cells.
-module _ (s regular other arrays : List ℕ) (marked : Tally arrays (arrayStarts s)) where
+module _ (s regular alternate arrays : List ℕ) (marked : Tally arrays (arrayStarts s)) where
   globals : wordsWhere (blockptr s - 8) (plainCell (inTable arrays)) s 8 ≡ wordsWhere (blockptr s - 8) (plainCell (inList (arrayStarts s))) s 8
   globals = ap (λ (h : ℕ → ℕ). wordsWhere (blockptr s - 8) (plainCell h) s 8) (same-answers arrays (arrayStarts s) marked)
 
   module _ {l : List ℕ} (p : l ≡ part s 8 (blockptr s - 8)) where
-    pub globals-fail : every (plainCell (inTable arrays)) l ≡ false → cellsTest s regular other ≡ false
+    pub globals-fail : every (plainCell (inTable arrays)) l ≡ false → cellsTest s regular alternate ≡ false
     unfolding cellsTest
     globals-fail e = simp (sym globals ∙ run (direct (inTable arrays)) s 8 (blockptr s - 8) p e)
 
     pub globals-pass : every (plainCell (inTable arrays)) l ≡ true → {after : List ℕ} → Met arrays after l
-        → cellsTest s regular other ≡ cellsFrom (length s) (arguments regular other) (variables regular other) s (inTable after) (lbase s) (ltop s + 1)
+        → cellsTest s regular alternate ≡ cellsFrom (length s) (arguments regular alternate) (variables regular alternate) s (inTable after) (lbase s) (ltop s + 1)
     unfolding cellsTest
     globals-pass e {after} m =
         simp (sym globals ∙ run (direct (inTable arrays)) s 8 (blockptr s - 8) p e)
-        (sym (ap (λ (h : ℕ → ℕ). cellsFrom (length s) (arguments regular other) (variables regular other) s h (lbase s) (ltop s + 1)) (same-answers arrays (arrayStarts s) marked))
-        ∙ sym (cells-alike (inTable arrays) (inTable after) (m .same) (length s) (arguments regular other) (variables regular other) s (lbase s) (ltop s + 1)))
+        (sym (ap (λ (h : ℕ → ℕ). cellsFrom (length s) (arguments regular alternate) (variables regular alternate) s h (lbase s) (ltop s + 1)) (same-answers arrays (arrayStarts s) marked))
+        ∙ sym (cells-alike (inTable arrays) (inTable after) (m .same) (length s) (arguments regular alternate) (variables regular alternate) s (lbase s) (ltop s + 1)))

@@ -34,30 +34,30 @@ module _ (A : ℕ → Type 0) (x : ℕ) (l : x < 2 ^ 16) {w : ℕ} (e : w ≡ ar
   direct-names (inr (inl k)) = absurd (omega (arith, e, k))
   direct-names (inr (inr k)) = let z : w % 2 ^ 16 ≡ x = omega (arith, e) in rw z at (k .1)
 
-  pub either-names : {s regular other frames : List ℕ} → DirectOrIndirect A s regular other frames w → A x
+  pub either-names : {s regular alternate frames : List ℕ} → DirectOrIndirect A s regular alternate frames w → A x
   either-names (inl d) = direct-names d
   either-names (inr (inl g)) = absurd (omega (arith, e, g .word))
   either-names (inr (inr g)) = absurd (omega (arith, e, g .word))
 
-pub first-frame : (A : ℕ → Type 0) (older : List ℕ) {s regular other : List ℕ} {base top : ℕ} → StackCells A s regular other base top older → FrameCells A s regular other base top older
+pub first-frame : (A : ℕ → Type 0) (older : List ℕ) {s regular alternate : List ℕ} {base top : ℕ} → StackCells A s regular alternate base top older → FrameCells A s regular alternate base top older
 first-frame A [] h = h
 first-frame A (next ∷ older) h = h .0
 
-module _ (A : ℕ → Type 0) (s regular other : List ℕ) (x : ℕ) (small : x < 2 ^ 16) where
+module _ (A : ℕ → Type 0) (s regular alternate : List ℕ) (x : ℕ) (small : x < 2 ^ 16) where
   -- the variables of a frame, and its temporaries
-  variables-name : (base top : ℕ) (older : List ℕ) → FrameCells A s regular other base top older
-      → (i : ℕ) → frameStart s regular other base ≤ i → i < base → stackAt s i ≡ arrayWord x → A x
+  variables-name : (base top : ℕ) (older : List ℕ) → FrameCells A s regular alternate base top older
+      → (i : ℕ) → frameStart s regular alternate base ≤ i → i < base → stackAt s i ≡ arrayWord x → A x
   variables-name base top older h i l u e =
-      by-le (localsOf s regular other base) i (λ m. direct-names A x small e (h .locals i m u)) (λ m. either-names A x small e (h .arguments i l m))
+      by-le (localsOf s regular alternate base) i (λ m. direct-names A x small e (h .locals i m u)) (λ m. either-names A x small e (h .arguments i l m))
 
-  pub temporaries-name : (base top : ℕ) (older : List ℕ) → FrameCells A s regular other base top older
+  pub temporaries-name : (base top : ℕ) (older : List ℕ) → FrameCells A s regular alternate base top older
       → 0 < count (arrayWord x) (downward s (sbase s + base + 2) (top - (base + 2))) → A x
   temporaries-name base top older h k =
       let r = downward-at (arrayWord x) s (sbase s + base + 2) (top - (base + 2)) k in
       let e : sbase s + (r .0 - sbase s) ≡ r .0 = omega (arith, r .1) in
       either-names A x small (rw e (r .3)) (h .temporaries (r .0 - sbase s) (omega (arith, r .1)) (omega (arith, r .2)))
 
-  pub frames-name : (older : List ℕ) (n base top : ℕ) → base < n → Chain s regular other base older → StackCells A s regular other base top older
+  pub frames-name : (older : List ℕ) (n base top : ℕ) → base < n → Chain s regular alternate base older → StackCells A s regular alternate base top older
       → 0 < count (arrayWord x) (cellsOfFrames (framesFrom n s base)) → A x
   frames-name [] n base top l h t k =
       let c : 0 < count (arrayWord x) (downward s (sbase s) base)
@@ -67,7 +67,7 @@ module _ (A : ℕ → Type 0) (s regular other : List ℕ) (x : ℕ) (small : x 
       variables-name base top [] t (r .0 - sbase s) (omega (arith, h .start)) (omega (arith, r .2)) (rw e (r .3))
   frames-name (next ∷ older) n base top l h t k =
       by-le 1 (count (arrayWord x) (downward s (sbase s + (lastLbaseAt s base + 2)) (base - (lastLbaseAt s base + 2)))) here
-      (λ m. frames-name older (n - 1) next (frameStart s regular other base) (omega (arith, h .0 .start)) (h .1) (t .1) (rw (h .0 .last) at (rest m)))
+      (λ m. frames-name older (n - 1) next (frameStart s regular alternate base) (omega (arith, h .0 .start)) (h .1) (t .1) (rw (h .0 .last) at (rest m)))
     where
       all : count (arrayWord x) (cellsOfFrames (framesFrom n s base))
           ≡ count (arrayWord x) (downward s (sbase s + (lastLbaseAt s base + 2)) (base - (lastLbaseAt s base + 2)))
@@ -79,7 +79,7 @@ module _ (A : ℕ → Type 0) (s regular other : List ℕ) (x : ℕ) (small : x 
       here m =
           let r = downward-at (arrayWord x) s (sbase s + (lastLbaseAt s base + 2)) (base - (lastLbaseAt s base + 2)) m in
           let e : sbase s + (r .0 - sbase s) ≡ r .0 = omega (arith, r .1) in
-          by-le (frameStart s regular other base) (r .0 - sbase s)
+          by-le (frameStart s regular alternate base) (r .0 - sbase s)
           (λ d. variables-name base top (next ∷ older) (t .0) (r .0 - sbase s) d (omega (arith, r .2)) (rw e (r .3)))
           (λ d. either-names A x small (rw e (r .3)) (first-frame A older (t .1) .temporaries (r .0 - sbase s) (omega (arith, r .1, h .0 .last)) d))
 
@@ -87,7 +87,7 @@ module _ (A : ℕ → Type 0) (s regular other : List ℕ) (x : ℕ) (small : x 
           → 0 < count (arrayWord x) (cellsOfFrames (framesFrom (n - 1) s (lastLbaseAt s base)))
       rest m = omega (arith, m, k, all)
 
-  pub owners-name : (older : List ℕ) → Chain s regular other (lbase s) older → StackCells A s regular other (lbase s) (ltop s + 1) older
+  pub owners-name : (older : List ℕ) → Chain s regular alternate (lbase s) older → StackCells A s regular alternate (lbase s) (ltop s + 1) older
       → ((i : ℕ) → 8 ≤ i → i < blockptr s → Direct A (getD s i 0)) → 0 < count (arrayWord x) (owners s) → A x
   unfolding words
   owners-name older h t g k =

@@ -82,6 +82,6 @@ cellsFrom (suc fuel) args size s arrays base top =
     and cond bottom true further
 
 unfoldable pub cellsTest : List ℕ → List ℕ → List ℕ → Bool
-cellsTest s regular other =
+cellsTest s regular alternate =
     wordsWhere (blockptr s - 8) (plainCell (inList (arrayStarts s))) s 8
-    and cellsFrom (length s) (arguments regular other) (variables regular other) s (inList (arrayStarts s)) (lbase s) (ltop s + 1)
+    and cellsFrom (length s) (arguments regular alternate) (variables regular alternate) s (inList (arrayStarts s)) (lbase s) (ltop s + 1)

@@ -20,15 +20,15 @@ lengthTest s = leb 32 (length s) and leb (length s) 16384
 
 -- Tests 13–18.
 unfoldable pub dataRefusal : List ℕ → List ℕ → List ℕ → ℕ
-dataRefusal s regular other =
+dataRefusal s regular alternate =
     cond (headTest s)
     (cond (blocksTest s)
-    (cond (ringTest s) (cond (framesTest s regular other) (cond (cellsTest s regular other) (cond (countsTest s) 0 18) 17) 16) 15)
+    (cond (ringTest s) (cond (framesTest s regular alternate) (cond (cellsTest s regular alternate) (cond (countsTest s) 0 18) 17) 16) 15)
     14)
     13
 
 unfoldable pub refusal : List ℕ → List ℕ → List ℕ → ℕ
-refusal s regular other =
+refusal s regular alternate =
     cond (lengthTest s)
-    (cond (eqb (procedureRefusal regular other) 0) (dataRefusal s regular other) (procedureRefusal regular other))
+    (cond (eqb (procedureRefusal regular alternate) 0) (dataRefusal s regular alternate) (procedureRefusal regular alternate))
     10

@@ -23,33 +23,33 @@ use Rattle.acceptance.specs.Refusal.{refusal}
 -- ---- frames
 
 -- The bottom frame names itself and starts at 0.
-pub record Bottom (s regular other : List ℕ) (base : ℕ) : Type 0 where
-  pub function : known regular other (codeWordAt s base) ≡ true
+pub record Bottom (s regular alternate : List ℕ) (base : ℕ) : Type 0 where
+  pub function : known regular alternate (codeWordAt s base) ≡ true
   pub itself : lastLbaseAt s base ≡ base
-  pub start : variables regular other (codeWordAt s base) ≡ base
+  pub start : variables regular alternate (codeWordAt s base) ≡ base
 
 -- Every other frame names an older one and starts above its two words.
-pub record Above (s regular other : List ℕ) (base older : ℕ) : Type 0 where
-  pub function : known regular other (codeWordAt s base) ≡ true
+pub record Above (s regular alternate : List ℕ) (base older : ℕ) : Type 0 where
+  pub function : known regular alternate (codeWordAt s base) ≡ true
   pub last : lastLbaseAt s base ≡ older
-  pub start : older + 2 + variables regular other (codeWordAt s base) ≤ base
+  pub start : older + 2 + variables regular alternate (codeWordAt s base) ≤ base
 
 -- The frame at `base`, and under it the older ones, each by its LBASE.
 abbrev pub Chain : List ℕ → List ℕ → List ℕ → ℕ → List ℕ → Type 0
-Chain s regular other base [] = Bottom s regular other base
-Chain s regular other base (next ∷ older) = Above s regular other base next × Chain s regular other next older
+Chain s regular alternate base [] = Bottom s regular alternate base
+Chain s regular alternate base (next ∷ older) = Above s regular alternate base next × Chain s regular alternate next older
 
 -- Where a frame's arguments, and its locals, start.
 abbrev pub frameStart : List ℕ → List ℕ → List ℕ → ℕ → ℕ
-frameStart s regular other base = base - variables regular other (codeWordAt s base)
+frameStart s regular alternate base = base - variables regular alternate (codeWordAt s base)
 
 abbrev pub localsOf : List ℕ → List ℕ → List ℕ → ℕ → ℕ
-localsOf s regular other base = frameStart s regular other base + arguments regular other (codeWordAt s base)
+localsOf s regular alternate base = frameStart s regular alternate base + arguments regular alternate (codeWordAt s base)
 
 -- A variable, argument or local, of one of these frames.
 abbrev pub VariableOf : List ℕ → List ℕ → List ℕ → List ℕ → ℕ → Type 0
-VariableOf s regular other [] a = ⊥
-VariableOf s regular other (base ∷ older) a = ((frameStart s regular other base ≤ a) × (a < base)) ⊎ VariableOf s regular other older a
+VariableOf s regular alternate [] a = ⊥
+VariableOf s regular alternate (base ∷ older) a = ((frameStart s regular alternate base ≤ a) × (a < base)) ⊎ VariableOf s regular alternate older a
 
 -- ---- cells
 
@@ -65,46 +65,46 @@ pub record NamesGlobal (s : List ℕ) (w : ℕ) : Type 0 where
   pub high : target < blockptr s
   pub direct : isIndirect (getD s target 0) ≡ false
 
-pub record NamesVariable (s regular other frames : List ℕ) (w : ℕ) : Type 0 where
+pub record NamesVariable (s regular alternate frames : List ℕ) (w : ℕ) : Type 0 where
   pub target : ℕ
   pub word : w ≡ localWord target
-  pub variable : VariableOf s regular other frames target
+  pub variable : VariableOf s regular alternate frames target
   pub direct : isIndirect (stackAt s target) ≡ false
 
 abbrev pub DirectOrIndirect : (ℕ → Type 0) → List ℕ → List ℕ → List ℕ → List ℕ → ℕ → Type 0
-DirectOrIndirect Array s regular other frames w = Direct Array w ⊎ (NamesGlobal s w ⊎ NamesVariable s regular other frames w)
+DirectOrIndirect Array s regular alternate frames w = Direct Array w ⊎ (NamesGlobal s w ⊎ NamesVariable s regular alternate frames w)
 
 -- The cells of the frame at `base`, over the older ones, with its temporaries below `top`.
-pub record FrameCells (Array : ℕ → Type 0) (s regular other : List ℕ) (base top : ℕ) (older : List ℕ) : Type 0 where
-  pub temporaries : (i : ℕ) → base + 2 ≤ i → i < top → DirectOrIndirect Array s regular other (base ∷ older) (stackAt s i)
-  pub arguments : (i : ℕ) → frameStart s regular other base ≤ i → i < localsOf s regular other base
-      → DirectOrIndirect Array s regular other older (stackAt s i)
-  pub locals : (i : ℕ) → localsOf s regular other base ≤ i → i < base → Direct Array (stackAt s i)
+pub record FrameCells (Array : ℕ → Type 0) (s regular alternate : List ℕ) (base top : ℕ) (older : List ℕ) : Type 0 where
+  pub temporaries : (i : ℕ) → base + 2 ≤ i → i < top → DirectOrIndirect Array s regular alternate (base ∷ older) (stackAt s i)
+  pub arguments : (i : ℕ) → frameStart s regular alternate base ≤ i → i < localsOf s regular alternate base
+      → DirectOrIndirect Array s regular alternate older (stackAt s i)
+  pub locals : (i : ℕ) → localsOf s regular alternate base ≤ i → i < base → Direct Array (stackAt s i)
 
 -- The cells of all frames: the words between a frame's start and the two words of the older one are the older one's temporaries.
 abbrev pub StackCells : (ℕ → Type 0) → List ℕ → List ℕ → List ℕ → ℕ → ℕ → List ℕ → Type 0
-StackCells Array s regular other base top [] = FrameCells Array s regular other base top []
-StackCells Array s regular other base top (next ∷ older) =
-    FrameCells Array s regular other base top (next ∷ older)
-    × StackCells Array s regular other next (frameStart s regular other base) older
+StackCells Array s regular alternate base top [] = FrameCells Array s regular alternate base top []
+StackCells Array s regular alternate base top (next ∷ older) =
+    FrameCells Array s regular alternate base top (next ∷ older)
+    × StackCells Array s regular alternate next (frameStart s regular alternate base) older
 
 -- ---- the whole segment
 
-pub record Accepted (s regular other : List ℕ) : Type 0 where
+pub record Accepted (s regular alternate : List ℕ) : Type 0 where
   pub shortest : 32 ≤ length s
   pub longest : length s ≤ 16384
-  pub procedures : procedureRefusal regular other ≡ 0
+  pub procedures : procedureRefusal regular alternate ≡ 0
   pub head : Head s
   -- blocks, ring, array insides; every array word names an array's block; every count is the number of cells, and not zero
   pub owned : Owned s (owners s)
   pub top : lbase s + 1 ≤ ltop s
   -- the LBASEs of the frames under the current one
   pub older : List ℕ
-  pub chain : Chain s regular other (lbase s) older
+  pub chain : Chain s regular alternate (lbase s) older
   pub globals : (i : ℕ) → 8 ≤ i → i < blockptr s → Direct (λ a. (size : ℕ) × ArrayIn (blockptr s) (owned .blocks) a size) (getD s i 0)
-  pub cells : StackCells (λ a. (size : ℕ) × ArrayIn (blockptr s) (owned .blocks) a size) s regular other (lbase s) (ltop s + 1) older
+  pub cells : StackCells (λ a. (size : ℕ) × ArrayIn (blockptr s) (owned .blocks) a size) s regular alternate (lbase s) (ltop s + 1) older
 
 pub record Structure : Type 0 where
   -- what the table accepts is such a structure, and such a structure is accepted
-  pub sound : (s regular other : List ℕ) → refusal s regular other ≡ 0 → Accepted s regular other
-  pub complete : (s regular other : List ℕ) → Accepted s regular other → refusal s regular other ≡ 0
+  pub sound : (s regular alternate : List ℕ) → refusal s regular alternate ≡ 0 → Accepted s regular alternate
+  pub complete : (s regular alternate : List ℕ) → Accepted s regular alternate → refusal s regular alternate ≡ 0

@@ -30,7 +30,7 @@ none-passes : (b : Bool) → (b && false) ≡ true → ⊥
 none-passes true q = never q
 none-passes false q = never q
 
-module _ (s regular other : List ℕ) (h : Accepted s regular other) where
+module _ (s regular alternate : List ℕ) (h : Accepted s regular alternate) where
   abbrev blocks : List Block
   blocks = h .owned .blocks
 

@@ -46,15 +46,15 @@ module _ (p : Procedures) where
   abbrev regular : List ℕ
   regular = p .regular
 
-  abbrev other : List ℕ
-  other = p .alternate
+  abbrev alternate : List ℕ
+  alternate = p .alternate
 
-  lent-again : (s t : List ℕ) → Lent s regular other → Words t → Lent t regular other
+  lent-again : (s t : List ℕ) → Lent s regular alternate → Words t → Lent t regular alternate
   lent-again s t lent words = record { words = words; regularBytes = lent .regularBytes; otherBytes = lent .otherBytes }
 
-  next-ready : (s : List ℕ) → Ready s p → Ready (stepOf regular other s .words) p
+  next-ready : (s : List ℕ) → Ready s p → Ready (stepOf regular alternate s .words) p
   next-ready s r = record {
-    lent = lent-again s (stepOf regular other s .words) (r .lent) (step-words s p (r .lent) (r .accepted));
+    lent = lent-again s (stepOf regular alternate s .words) (r .lent) (step-words s p (r .lent) (r .accepted));
     accepted = step-accepted s p (r .lent) (r .accepted);
   }
 
@@ -62,16 +62,16 @@ module _ (p : Procedures) where
     runs : Runs p budget steps s (answerOf (o .answer)) (o .words)
     ready : Ready (o .words) p
 
-  run-from : (budget steps : ℕ) (s : List ℕ) → Ready s p → RanFrom budget steps s (stepsFrom budget steps regular other s)
+  run-from : (budget steps : ℕ) (s : List ℕ) → Ready s p → RanFrom budget steps s (stepsFrom budget steps regular alternate s)
   unfolding stepsFrom
   run-from zero steps s r = record { runs = over; ready = r }
   run-from (suc budget) steps s r =
-      go (stepOf regular other s .answer) (stepOf regular other s .words) (step-done s p (r .lent) (r .accepted)) (next-ready s r)
+      go (stepOf regular alternate s .answer) (stepOf regular alternate s .words) (step-done s p (r .lent) (r .accepted)) (next-ready s r)
       (λ t k. run-from budget (steps + 1) t k)
     where
       go : (answer : Stepped) (t : List ℕ) → Step p s (outcomeFrom answer) t × Some answer → Ready t p
-          → ((u : List ℕ) → Ready u p → RanFrom budget (steps + 1) u (stepsFrom budget (steps + 1) regular other u))
-          → RanFrom (suc budget) steps s (following steps answer t (λ u. stepsFrom budget (steps + 1) regular other u))
+          → ((u : List ℕ) → Ready u p → RanFrom budget (steps + 1) u (stepsFrom budget (steps + 1) regular alternate u))
+          → RanFrom (suc budget) steps s (following steps answer t (λ u. stepsFrom budget (steps + 1) regular alternate u))
       go S.Finished t e k more = record { runs = goesOn (passes-of s p (r .accepted)) (e .0) (more t k .runs); ready = more t k .ready }
       go (S.Traced class number) t e k more = record { runs = traced (passes-of s p (r .accepted)) (e .1) (e .0); ready = k }
       go (S.Trapped class number) t e k more = record { runs = stops (passes-of s p (r .accepted)) (e .0); ready = k }
@@ -80,14 +80,14 @@ module _ (p : Procedures) where
   started : (s : List ℕ) → Ready s p → Ready (set s 3 0) p
   started s r = record {
     lent = lent-again s (set s 3 0) (r .lent) (words-set s (r .lent .words) 3 0 (omega arith));
-    accepted = trap-accepted s regular other (r .accepted) 0 (omega arith);
+    accepted = trap-accepted s regular alternate (r .accepted) 0 (omega arith);
   }
 
-  pub run-steps : (s : List ℕ) → Ready s p → (budget : ℕ) → Runs p budget 0 (set s 3 0) (answerOf (runOf regular other s budget .answer)) (runOf regular other s budget .words)
+  pub run-steps : (s : List ℕ) → Ready s p → (budget : ℕ) → Runs p budget 0 (set s 3 0) (answerOf (runOf regular alternate s budget .answer)) (runOf regular alternate s budget .words)
   unfolding runOf
   run-steps s r budget = run-from budget 0 (set s 3 0) (started s r) .runs
 
-  pub run-ready : (s : List ℕ) → Ready s p → (budget : ℕ) → Ready (runOf regular other s budget .words) p
+  pub run-ready : (s : List ℕ) → Ready s p → (budget : ℕ) → Ready (runOf regular alternate s budget .words) p
   unfolding runOf
   run-ready s r budget = run-from budget 0 (set s 3 0) (started s r) .ready
 

@@ -65,12 +65,12 @@ module _ (f g : ℕ) (h : f / 2 ≡ g / 2) where
   same-due T.Left called left = rw (same-return, same-step)
   same-due (T.Trapped class number) called left = refl
 
-due-told : (regular other : List ℕ) (left : Header) (turn : Turn) (t : List ℕ)
-    → due regular other (left .rtntrace) turn t ≡ dueAfter turn (flags t) (currentHeader regular other t) left
-due-told regular other left T.Finished t = refl
-due-told regular other left T.Entered t = refl
-due-told regular other left T.Left t = refl
-due-told regular other left (T.Trapped class number) t = refl
+due-told : (regular alternate : List ℕ) (left : Header) (turn : Turn) (t : List ℕ)
+    → due regular alternate (left .rtntrace) turn t ≡ dueAfter turn (flags t) (currentHeader regular alternate t) left
+due-told regular alternate left T.Finished t = refl
+due-told regular alternate left T.Entered t = refl
+due-told regular alternate left T.Left t = refl
+due-told regular alternate left (T.Trapped class number) t = refl
 
 due-low : (b : Bool) (n f : ℕ) → n ≤ 3 → cond b n (stepFlag f) ≤ 3
 due-low true n f h = h
@@ -100,30 +100,30 @@ module _ (s : List ℕ) (p : Procedures) (lent : Lent s (p .regular) (p .alterna
   abbrev regular : List ℕ
   regular = p .regular
 
-  abbrev other : List ℕ
-  other = p .alternate
+  abbrev alternate : List ℕ
+  alternate = p .alternate
 
   abbrev f : Running
-  f = current-function s regular other
+  f = current-function s regular alternate
 
   abbrev sound : Sound s
   sound = sound-of h
 
   abbrev plan : Plan
-  plan = planned s regular other
+  plan = planned s regular alternate
 
   abbrev StepOf : StepResult → Type 0
   StepOf r = Step p s (outcomeFrom (r .answer)) (r .words) × Some (r .answer)
 
-  known : (es : List Effect) → plan ≡ gives es → Known s regular other es
-  known = plan-known s regular other lent h
+  known : (es : List Effect) → plan ≡ gives es → Known s regular alternate es
+  known = plan-known s regular alternate lent h
 
   -- ---- a step, by its plan
 
-  step-of : (q : Plan) → plan ≡ q → stepOf regular other s ≡ settle regular other (headerOf f .rtntrace) (carry s q)
-  step-of q e = step-is s regular other h sound ∙ ap (λ (q : Plan). settle regular other (headerOf f .rtntrace) (carry s q)) e
+  step-of : (q : Plan) → plan ≡ q → stepOf regular alternate s ≡ settle regular alternate (headerOf f .rtntrace) (carry s q)
+  step-of q e = step-is s regular alternate h sound ∙ ap (λ (q : Plan). settle regular alternate (headerOf f .rtntrace) (carry s q)) e
 
-  trap-step : (class number : ℕ) → plan ≡ trap class number → stepOf regular other s ≡ stepping.trapped s class number
+  trap-step : (class number : ℕ) → plan ≡ trap class number → stepOf regular alternate s ≡ stepping.trapped s class number
   trap-step class number e = step-of (trap class number) e
 
   trap-small : (class number : ℕ) → class < 2 ^ 8 → number < 2 ^ 8 → stepping.trapped s class number ≡ stepping.stepResult (S.Trapped class number) (set s 3 (trapOf class number))
@@ -138,21 +138,21 @@ module _ (s : List ℕ) (p : Procedures) (lent : Lent s (p .regular) (p .alterna
     t = performs s es
 
     abbrev d : ℕ
-    d = due regular other (headerOf f .rtntrace) (outcomeOf es) (performs s es)
+    d = due regular alternate (headerOf f .rtntrace) (outcomeOf es) (performs s es)
 
-    full-step : firstFull s es ≡ true → stepOf regular other s ≡ stepping.trapped s 1 2
+    full-step : firstFull s es ≡ true → stepOf regular alternate s ≡ stepping.trapped s 1 2
     full-step q = step-of (gives es) e ∙ rw q
 
     -- the request, by the words and by the free blocks
     vain : firstFull s es ≡ inVain s es
-    vain = vain-full s regular other h es (known es e .fitting .first)
+    vain = vain-full s regular alternate h es (known es e .fitting .first)
 
     module _ (q : firstFull s es ≡ false) where
       served : inVain s es ≡ false
       served = sym vain ∙ q
 
-      done-step : stepOf regular other s ≡ finished d t
-      done-step = step-of (gives es) e ∙ rw q (settled-effects regular other (headerOf f .rtntrace) t es)
+      done-step : stepOf regular alternate s ≡ finished d t
+      done-step = step-of (gives es) e ∙ rw q (settled-effects regular alternate (headerOf f .rtntrace) t es)
 
       performed : PerformedAll s es
       performed = let k = known es e .fitting in effects-theorems .allPerformed s sound es (k .all) (k .once) q
@@ -160,8 +160,8 @@ module _ (s : List ℕ) (p : Procedures) (lent : Lent s (p .regular) (p .alterna
       kept : StateKept s t
       kept = let k = known es e .fitting in effects-theorems .allKept s sound es (k .all) (k .once) q
 
-      done-accepted : Accepted t regular other
-      done-accepted = effects-accepted s regular other h es performed kept (known es e .kept)
+      done-accepted : Accepted t regular alternate
+      done-accepted = effects-accepted s regular alternate h es performed kept (known es e .kept)
 
       others : (u : Target) → AddressableIn u (view s) → AddressableIn u (view t) → NoneStoresTo es u → look undefined u (view t) ≡ look undefined u (view s)
       others u before after none =
@@ -175,14 +175,14 @@ module _ (s : List ℕ) (p : Procedures) (lent : Lent s (p .regular) (p .alterna
           ∙ known es e .kept .flags
           ∙ ap (λ (n : ℕ). n / 2) (view-flags s)
 
-      is-due : d ≡ dueAfter (outcomeOf es) (flags s) (currentHeader regular other t) (headerIn regular other (view s))
+      is-due : d ≡ dueAfter (outcomeOf es) (flags s) (currentHeader regular alternate t) (headerIn regular alternate (view s))
       is-due =
-          due-told regular other (headerOf f) (outcomeOf es) t
-          ∙ same-due (flags t) (flags s) same-flags (outcomeOf es) (currentHeader regular other t) (headerOf f)
-          ∙ ap (dueAfter (outcomeOf es) (flags s) (currentHeader regular other t)) (sym (header-running s regular other))
+          due-told regular alternate (headerOf f) (outcomeOf es) t
+          ∙ same-due (flags t) (flags s) same-flags (outcomeOf es) (currentHeader regular alternate t) (headerOf f)
+          ∙ ap (dueAfter (outcomeOf es) (flags s) (currentHeader regular alternate t)) (sym (header-running s regular alternate))
 
       small : d ≤ 3
-      small = subst (λ (n : ℕ). n ≤ 3) (sym (due-told regular other (headerOf f) (outcomeOf es) t)) (due-small (outcomeOf es) (flags t) (currentHeader regular other t) (headerOf f))
+      small = subst (λ (n : ℕ). n ≤ 3) (sym (due-told regular alternate (headerOf f) (outcomeOf es) t)) (due-small (outcomeOf es) (flags t) (currentHeader regular alternate t) (headerOf f))
 
       -- whether or not a trap is due, and its word written
       module _ (u : List ℕ) (same : view u ≡ view t) (long : length u ≡ length t) (rest : (i : ℕ) → i ≢ 3 → getD u i 0 ≡ getD t i 0)
@@ -191,8 +191,8 @@ module _ (s : List ℕ) (p : Procedures) (lent : Lent s (p .regular) (p .alterna
         done-as = record {
           seen = same ∙ performed .seen;
           others = λ v before after none. ap (look undefined v) same ∙ others v before (subst (AddressableIn v) same after) none;
-          due = is-due ∙ ap (λ (c : Header). dueAfter (outcomeOf es) (flags s) c (headerIn regular other (view s)))
-              (sym (header-seen regular other t) ∙ ap (headerIn regular other) (sym same));
+          due = is-due ∙ ap (λ (c : Header). dueAfter (outcomeOf es) (flags s) c (headerIn regular alternate (view s)))
+              (sym (header-seen regular alternate t) ∙ ap (headerIn regular alternate) (sym same));
           trapWord = written ∙ ap (λ (w : ℕ). cond (eqb d 0) w (trapOf 2 d)) (kept .rest 3 (omega arith) (omega arith));
           length = long ∙ kept .long;
           sbase = ap (λ (w : ℕ). w / 2 ^ 16) (rest 0 (omega arith)) ∙ kept .base;
@@ -219,43 +219,43 @@ module _ (s : List ℕ) (p : Procedures) (lent : Lent s (p .regular) (p .alterna
 
   -- ---- the step
 
-  pub step-done : StepOf (stepOf regular other s)
+  pub step-done : StepOf (stepOf regular alternate s)
   step-done = go plan refl
     where
-      gone : (es : List Effect) → plan ≡ gives es → (b : Bool) → firstFull s es ≡ b → StepOf (stepOf regular other s)
+      gone : (es : List Effect) → plan ≡ gives es → (b : Bool) → firstFull s es ≡ b → StepOf (stepOf regular alternate s)
       gone es e true q = subst StepOf (sym (full-step es e q ∙ trap-small 1 2 (omega arith) (omega arith))) (full e (sym (vain es e) ∙ q), tt)
       gone es e false q = subst StepOf (sym (done-step es e q)) (done-is es e q)
 
-      go : (q : Plan) → plan ≡ q → StepOf (stepOf regular other s)
+      go : (q : Plan) → plan ≡ q → StepOf (stepOf regular alternate s)
       go (gives es) e = gone es e (firstFull s es) refl
       go (trap class number) e =
-          let l = plan-listed regular other (length s - sbase s) (view s) class number e in
+          let l = plan-listed regular alternate (length s - sbase s) (view s) class number e in
           subst StepOf (sym (trap-step class number e ∙ trap-small class number (traps-listed .class class number l) (traps-listed .number class number l))) (traps e, tt)
 
   -- what holds of the segment, is kept by the effects of its plan, and goes by no trap
   step-keeps : (P : List ℕ → Type 0) → ((t : List ℕ) → P t → (v : ℕ) → v < 2 ^ 16 → P (set t 3 v)) → P s
-      → ((es : List Effect) → plan ≡ gives es → firstFull s es ≡ false → P (performs s es)) → P (stepOf regular other s .words)
+      → ((es : List Effect) → plan ≡ gives es → firstFull s es ≡ false → P (performs s es)) → P (stepOf regular alternate s .words)
   unfolding setTrap
   step-keeps P trapping start effects = go plan refl
     where
-      stopped : (class number : ℕ) → stepOf regular other s ≡ stepping.trapped s class number → P (stepOf regular other s .words)
+      stopped : (class number : ℕ) → stepOf regular alternate s ≡ stepping.trapped s class number → P (stepOf regular alternate s .words)
       stopped class number q = rw q (trapping s start _ (omega arith))
 
-      gone : (es : List Effect) → plan ≡ gives es → (b : Bool) → firstFull s es ≡ b → P (stepOf regular other s .words)
+      gone : (es : List Effect) → plan ≡ gives es → (b : Bool) → firstFull s es ≡ b → P (stepOf regular alternate s .words)
       gone es e true q = stopped 1 2 (full-step es e q)
       gone es e false q =
           rw (done-step es e q)
           (finished-keeps (d es e) (t es e) (small es e q) P (trapping (t es e) (effects es e q)) (effects es e q))
 
-      go : (q : Plan) → plan ≡ q → P (stepOf regular other s .words)
+      go : (q : Plan) → plan ≡ q → P (stepOf regular alternate s .words)
       go (gives es) e = gone es e (firstFull s es) refl
       go (trap class number) e = stopped class number (trap-step class number e)
 
   -- what is left is accepted again, and of 32-bit words
-  pub step-accepted : Accepted (stepOf regular other s .words) regular other
-  step-accepted = step-keeps (λ t. Accepted t regular other) (λ t k v l. trap-accepted t regular other k v l) h done-accepted
+  pub step-accepted : Accepted (stepOf regular alternate s .words) regular alternate
+  step-accepted = step-keeps (λ t. Accepted t regular alternate) (λ t k v l. trap-accepted t regular alternate k v l) h done-accepted
 
-  pub step-words : Words (stepOf regular other s .words)
+  pub step-words : Words (stepOf regular alternate s .words)
   step-words =
       step-keeps Words (λ t k v l. words-set t k 3 v (omega arith)) (lent .words) (λ es e q.
       let k = known es e in

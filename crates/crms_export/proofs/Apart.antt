@@ -53,24 +53,24 @@ followed steps more (stepped.Traced class number) s next h = omega arith
 followed steps more (stepped.Trapped class number) s next h = omega arith
 
 -- no more steps than were asked for
-steps-most : (budget steps : ℕ) (regular other s : List ℕ) → stepsIn (stepsFrom budget steps regular other s) ≤ steps + budget
+steps-most : (budget steps : ℕ) (regular alternate s : List ℕ) → stepsIn (stepsFrom budget steps regular alternate s) ≤ steps + budget
 unfolding stepsFrom
-steps-most zero steps regular other s = omega arith
-steps-most (suc budget) steps regular other s =
-    followed steps budget (stepOf regular other s .answer) (stepOf regular other s .words) _
-    (λ t. omega (arith, steps-most budget (steps + 1) regular other t))
+steps-most zero steps regular alternate s = omega arith
+steps-most (suc budget) steps regular alternate s =
+    followed steps budget (stepOf regular alternate s .answer) (stepOf regular alternate s .words) _
+    (λ t. omega (arith, steps-most budget (steps + 1) regular alternate t))
 
 run-apart : (answer : Run) → stepsOf answer < 2 ^ 32 → RunApart answer
 run-apart answer l = record { status = omega arith; steps = omega arith }
 
-module _ (s regular other : List ℕ) (budget : ℕ) where
-  ran-most : (b : Bool) → eqb (refusal s regular other) 0 ≡ b → stepsOf (operations.ran s regular other budget .answer) ≤ budget
+module _ (s regular alternate : List ℕ) (budget : ℕ) where
+  ran-most : (b : Bool) → eqb (refusal s regular alternate) 0 ≡ b → stepsOf (operations.ran s regular alternate budget .answer) ≤ budget
   unfolding operations.ran runOf
-  ran-most true e = rw e (omega (arith, steps-most budget 0 regular other (set s 3 0)))
+  ran-most true e = rw e (omega (arith, steps-most budget 0 regular alternate (set s 3 0)))
   ran-most false e = rw e (omega arith)
 
-  runs : budget < 2 ^ 32 → RunApart (operations.ran s regular other budget .answer)
-  runs l = run-apart _ (omega (arith, ran-most (eqb (refusal s regular other) 0) refl))
+  runs : budget < 2 ^ 32 → RunApart (operations.ran s regular alternate budget .answer)
+  runs l = run-apart _ (omega (arith, ran-most (eqb (refusal s regular alternate) 0) refl))
 
 -- ---- the numbers of looks
 
@@ -149,7 +149,7 @@ unfolding kindOf unsignedKind undefinedKind
 undefined-kind block e = let z : _≡_ {A = ℕ} 0 1 = cc in omega arith
 
 -- the array that a global's word names
-module _ (s regular other : List ℕ) (h : Accepted s regular other) (block : SegmentAddress) where
+module _ (s regular alternate : List ℕ) (h : Accepted s regular alternate) (block : SegmentAddress) where
   abbrev Named : ℕ → Type 0
   Named a = (size : ℕ) × ArrayIn (blockptr s) (h .owned .blocks) a size
 
@@ -162,11 +162,11 @@ module _ (s regular other : List ℕ) (h : Accepted s regular other) (block : Se
       let at : block .0 ≡ address w = cc in
       rw at (array .1)
 
-module _ (s regular other : List ℕ) (g : ℕ) where
-  module _ (h : Accepted s regular other) (low : 8 ≤ g) (high : g < blockptr s) where
+module _ (s regular alternate : List ℕ) (g : ℕ) where
+  module _ (h : Accepted s regular alternate) (low : 8 ≤ g) (high : g < blockptr s) where
     array-seen : (block : SegmentAddress) → kindOf (getD s g 0) ≡ K.Array block → LookApart s g (Array block)
     array-seen block e =
-        let n = names s regular other h block (getD s g 0) e (h .globals g low high) in
+        let n = names s regular alternate h block (getD s g 0) e (h .globals g low high) in
         let place = array-place (h .owned) (block .0) (n .0) (n .1) in
         let counted = array-counted s (blockptr s) false (h .owned .blocks) (block .0) (n .0) (h .owned .heap .walk) (omega (arith, h .owned .heap .top, place)) (n .1) in
         array-apart s g block (n .0) (counted .1) (h .owned .inside (block .0) (n .0) (n .1)) (omega (arith, place)) (h .longest)
@@ -178,19 +178,19 @@ module _ (s regular other : List ℕ) (g : ℕ) where
     seen K.Undefined e = refused-apart s g 22
     seen K.Invalid e = refused-apart s g 17
 
-  global-seen : (b : Bool) → isGlobal s g ≡ b → Accepted s regular other
+  global-seen : (b : Bool) → isGlobal s g ≡ b → Accepted s regular alternate
       → LookApart s g (cond b (seenAs (getD s g 0) (kindOf (getD s g 0))) (Refused 21))
   unfolding isGlobal
   global-seen true k h =
       let r = both (leb 8 g) (ltb g (blockptr s)) k in seen h (leb-true _ _ (r .0)) (ltb-true _ _ (r .1)) (kindOf (getD s g 0)) refl
   global-seen false k h = refused-apart s g 21
 
-  looks : LookApart s g (looked s regular other g)
+  looks : LookApart s g (looked s regular alternate g)
   unfolding looked
   looks =
-      by-eq (refusal s regular other) 0
-      (λ h. rw (eq-eqb _ _ h) (global-seen (isGlobal s g) refl (structure .sound s regular other h)))
-      (λ h. rw (ne-eqb _ _ h) (refused-apart s g (refusal s regular other)))
+      by-eq (refusal s regular alternate) 0
+      (λ h. rw (eq-eqb _ _ h) (global-seen (isGlobal s g) refl (structure .sound s regular alternate h)))
+      (λ h. rw (ne-eqb _ _ h) (refused-apart s g (refusal s regular alternate)))
 
 pub apart-theorem : Apart
 apart-theorem = record { runs = runs; looks = looks }

@@ -56,5 +56,5 @@ pub record LookApart (s : List ℕ) (g : ℕ) (answer : Looked) : Type 0 where
 
 -- Of any words and any global. A budget has 32 bits.
 pub record Apart : Type 0 where
-  pub runs : (s regular other : List ℕ) (budget : ℕ) → budget < 2 ^ 32 → RunApart (ran s regular other budget .answer)
-  pub looks : (s regular other : List ℕ) (g : ℕ) → LookApart s g (looked s regular other g)
+  pub runs : (s regular alternate : List ℕ) (budget : ℕ) → budget < 2 ^ 32 → RunApart (ran s regular alternate budget .answer)
+  pub looks : (s regular alternate : List ℕ) (g : ℕ) → LookApart s g (looked s regular alternate g)

@@ -23,11 +23,11 @@ following steps (Traced class number) s more = ended (R.Trapped (steps + 1)) s
 following steps (Trapped class number) s more = ended (R.Trapped steps) s
 
 unfoldable pub stepsFrom : ℕ → ℕ → List ℕ → List ℕ → List ℕ → RunResult
-stepsFrom zero steps regular other s = ended (R.Done steps) s
-stepsFrom (suc budget) steps regular other s =
-    let r = stepOf regular other s in
-    following steps (r .answer) (r .words) (λ t. stepsFrom budget (steps + 1) regular other t)
+stepsFrom zero steps regular alternate s = ended (R.Done steps) s
+stepsFrom (suc budget) steps regular alternate s =
+    let r = stepOf regular alternate s in
+    following steps (r .answer) (r .words) (λ t. stepsFrom budget (steps + 1) regular alternate t)
 
 -- "A run sets word 3 to zero first."
 unfoldable pub runOf : List ℕ → List ℕ → List ℕ → ℕ → RunResult
-runOf regular other s budget = stepsFrom budget 0 regular other (set s 3 0)
+runOf regular alternate s budget = stepsFrom budget 0 regular alternate (set s 3 0)

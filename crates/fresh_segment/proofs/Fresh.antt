@@ -19,9 +19,9 @@ use Rattle.fresh_segment.proofs.Passed.{wordOf, Passed, passed, laid-ou
 use Rattle.fresh_segment.proofs.Storage.{laid-sbase, laid-ltop, laid-lbase, laid-head, blocksOf, ringOf, laid-heap}
 use Rattle.fresh_segment.proofs.View.{laid-last, laid-code, laid-view}
 
-module _ (s regular other : List ℕ) (l : Layout) (h : Passed s regular other l) where
+module _ (s regular alternate : List ℕ) (l : Layout) (h : Passed s regular alternate l) where
   abbrev locals : ℕ
-  locals = localsOf regular other l
+  locals = localsOf regular alternate l
 
   abbrev word : ℕ
   word = wordOf l
@@ -44,7 +44,7 @@ module _ (s regular other : List ℕ) (l : Layout) (h : Passed s regular other l
   code-is : codeWordAt after locals ≡ word
   code-is = laid-code (h .room) words
 
-  bottom : Bottom after regular other locals
+  bottom : Bottom after regular alternate locals
   bottom = record {
     function = rw code-is (word-known (h .function));
     itself = laid-last (h .room) words;
@@ -55,10 +55,10 @@ module _ (s regular other : List ℕ) (l : Layout) (h : Passed s regular other l
     fresh-globals : (i : ℕ) → 8 ≤ i → i < blockptr after → Direct A (getD after i 0)
     fresh-globals i k u = inr (inl (words .globals i k (rw (words .word4) at u)))
 
-    fresh-cells : FrameCells A after regular other locals (locals + 2) []
+    fresh-cells : FrameCells A after regular alternate locals (locals + 2) []
     fresh-cells =
-        let none : arguments regular other (codeWordAt after locals) ≡ 0 = rw code-is (word-arguments (h .function)) in
-        let all : variables regular other (codeWordAt after locals) ≡ locals = bottom .start in
+        let none : arguments regular alternate (codeWordAt after locals) ≡ 0 = rw code-is (word-arguments (h .function)) in
+        let all : variables regular alternate (codeWordAt after locals) ≡ locals = bottom .start in
         record {
           temporaries = λ i k u. absurd (omega arith);
           arguments = λ i k u. absurd (omega (arith, none, all));
@@ -68,13 +68,13 @@ module _ (s regular other : List ℕ) (l : Layout) (h : Passed s regular other l
   abbrev Arrays : ℕ → Type 0
   Arrays a = (size : ℕ) × ArrayIn (blockptr after) (blocksOf l) a size
 
-  chain : Chain after regular other (lbase after) []
+  chain : Chain after regular alternate (lbase after) []
   chain = rw lbase-is bottom
 
-  cells : StackCells Arrays after regular other (lbase after) (ltop after + 1) []
+  cells : StackCells Arrays after regular alternate (lbase after) (ltop after + 1) []
   cells = let e : ltop after + 1 ≡ locals + 2 = omega (arith, ltop-is) in rw (lbase-is, e) (fresh-cells Arrays)
 
-  accepted : Accepted after regular other
+  accepted : Accepted after regular alternate
   accepted = record {
     shortest = rw (words .long) (h .shortest);
     longest = rw (words .long) (h .room .longest);
@@ -84,7 +84,7 @@ module _ (s regular other : List ℕ) (l : Layout) (h : Passed s regular other l
       blocks = blocksOf l;
       ring = ringOf l;
       heap = laid-heap (h .room) words;
-      named = λ x small k. owners-name Arrays after regular other x small [] chain cells (fresh-globals Arrays) k;
+      named = λ x small k. owners-name Arrays after regular alternate x small [] chain cells (fresh-globals Arrays) k;
       counts = λ x size k. absurd k;
       inside = λ x size k. absurd k;
     };
@@ -102,6 +102,6 @@ module _ (s regular other : List ℕ) (l : Layout) (h : Passed s regular other l
 
 pub fresh-theorem : FreshTheorem
 fresh-theorem = record {
-  accepted = λ s regular other l h. rw (laid-out regular other l s h) (accepted s regular other l (passed regular other l s h));
-  seen = λ s regular other l h. rw (laid-out regular other l s h) (seen s regular other l (passed regular other l s h));
+  accepted = λ s regular alternate l h. rw (laid-out regular alternate l s h) (accepted s regular alternate l (passed regular alternate l s h));
+  seen = λ s regular alternate l h. rw (laid-out regular alternate l s h) (seen s regular alternate l (passed regular alternate l s h));
 }

@@ -156,9 +156,9 @@ module _ {t u : List ℕ} {n locals word : ℕ} {l : Layout} (a : Laid t n local
 
 pub fresh-said : FreshSaid
 fresh-said = record {
-  said = λ s regular other l h.
-      let p = passed regular other l s h in
-      rw (laid-out regular other l s h) (named (p .room) (laid (length s) (localsOf regular other l) (wordOf l) l (p .room)));
-  second = λ s regular other l h. word-made l (passed regular other l s h .function .selector);
+  said = λ s regular alternate l h.
+      let p = passed regular alternate l s h in
+      rw (laid-out regular alternate l s h) (named (p .room) (laid (length s) (localsOf regular alternate l) (wordOf l) l (p .room)));
+  second = λ s regular alternate l h. word-made l (passed regular alternate l s h .function .selector);
   determined = λ words locals function l t u f g. laid-same (placed f) (placed g);
 }

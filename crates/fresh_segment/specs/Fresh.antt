@@ -21,7 +21,7 @@ freshView locals l =
     }
 
 pub record FreshTheorem : Type 0 where
-  pub accepted : (s regular other : List ℕ) (l : Layout) → layOutRefusal s regular other l ≡ 0
-      → Accepted (laidOut s regular other l) regular other
-  pub seen : (s regular other : List ℕ) (l : Layout) → layOutRefusal s regular other l ≡ 0
-      → view (laidOut s regular other l) ≡ freshView (localsOf regular other l) l
+  pub accepted : (s regular alternate : List ℕ) (l : Layout) → layOutRefusal s regular alternate l ≡ 0
+      → Accepted (laidOut s regular alternate l) regular alternate
+  pub seen : (s regular alternate : List ℕ) (l : Layout) → layOutRefusal s regular alternate l ≡ 0
+      → view (laidOut s regular alternate l) ≡ freshView (localsOf regular alternate l) l

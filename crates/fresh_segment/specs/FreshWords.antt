@@ -47,10 +47,10 @@ pub record FreshWords (words locals function : ℕ) (l : Layout) (t : List ℕ) 
   pub above : (i : ℕ) → state.ltop t < i → state.sbase t + i < length t → stackAt t i ≡ 0
 
 pub record FreshSaid : Type 0 where
-  pub said : (s regular other : List ℕ) (l : Layout) → layOutRefusal s regular other l ≡ 0
-      → FreshWords (length s) (localsOf regular other l) (frameWord (eqb (l .selector) 1) (l .function)) l (laidOut s regular other l)
+  pub said : (s regular alternate : List ℕ) (l : Layout) → layOutRefusal s regular alternate l ≡ 0
+      → FreshWords (length s) (localsOf regular alternate l) (frameWord (eqb (l .selector) 1) (l .function)) l (laidOut s regular alternate l)
   -- the frame's second word: P bit 27, function number bits 26–16, PCTR 8
-  pub second : (s regular other : List ℕ) (l : Layout) → layOutRefusal s regular other l ≡ 0
+  pub second : (s regular alternate : List ℕ) (l : Layout) → layOutRefusal s regular alternate l ≡ 0
       → frameWord (eqb (l .selector) 1) (l .function) ≡ l .selector * 2 ^ 27 + l .function * 2 ^ 16 + 8
   pub determined : (words locals function : ℕ) (l : Layout) (t u : List ℕ)
       → FreshWords words locals function l t → FreshWords words locals function l u → t ≡ u

@@ -22,18 +22,18 @@ pub record Layout : Type 0 where
   pub arrayWords : ℕ
 
 abbrev pub chosen : List ℕ → List ℕ → Layout → List ℕ
-chosen regular other l = selected (eqb (l .selector) 1) regular other
+chosen regular alternate l = selected (eqb (l .selector) 1) regular alternate
 
 abbrev pub localsOf : List ℕ → List ℕ → Layout → ℕ
-localsOf regular other l = nlocalsOf (chosen regular other l) (l .function)
+localsOf regular alternate l = nlocalsOf (chosen regular alternate l) (l .function)
 
 -- Test 20.
 unfoldable pub functionTest : List ℕ → List ℕ → Layout → Bool
-functionTest regular other l =
+functionTest regular alternate l =
     leb (l .selector) 1
     and leb (l .function) 2047
-    and hasFunction (chosen regular other l) (l .function)
-    and eqb (nargsOf (chosen regular other l) (l .function)) 0
+    and hasFunction (chosen regular alternate l) (l .function)
+    and eqb (nargsOf (chosen regular alternate l) (l .function)) 0
 
 -- Where array storage starts, and the stack after it.
 abbrev pub storageStart : Layout → ℕ
@@ -44,17 +44,17 @@ baseOf l = storageStart l + l .arrayWords
 
 -- Test 19.
 unfoldable pub partsTest : List ℕ → List ℕ → List ℕ → Layout → Bool
-partsTest s regular other l =
+partsTest s regular alternate l =
     leb (l .globals) 4088
     and leb 6 (l .arrayWords)
-    and leb (baseOf l + localsOf regular other l + 2) (length s)
+    and leb (baseOf l + localsOf regular alternate l + 2) (length s)
 
 unfoldable pub layOutRefusal : List ℕ → List ℕ → List ℕ → Layout → ℕ
-layOutRefusal s regular other l =
+layOutRefusal s regular alternate l =
     cond (lengthTest s)
-    (cond (eqb (procedureRefusal regular other) 0)
-    (cond (functionTest regular other l) (cond (partsTest s regular other l) 0 19) 20)
-    (procedureRefusal regular other))
+    (cond (eqb (procedureRefusal regular alternate) 0)
+    (cond (functionTest regular alternate l) (cond (partsTest s regular alternate l) 0 19) 20)
+    (procedureRefusal regular alternate))
     10
 
 -- ---- the fresh segment
@@ -94,7 +94,7 @@ fresh n locals word l =
 
 -- The segment after a lay out.
 unfoldable pub laidOut : List ℕ → List ℕ → List ℕ → Layout → List ℕ
-laidOut s regular other l =
-    cond (eqb (layOutRefusal s regular other l) 0)
-    (fresh (length s) (localsOf regular other l) (frameWord (eqb (l .selector) 1) (l .function)) l)
+laidOut s regular alternate l =
+    cond (eqb (layOutRefusal s regular alternate l) 0)
+    (fresh (length s) (localsOf regular alternate l) (frameWord (eqb (l .selector) 1) (l .function)) l)
     s

@@ -64,11 +64,11 @@ look-on a (r ∷ l) (q ∷ k) e h = go (λ p. look-on a l k (e .1) p) (order (de
         let d = depth-on l k (e .1) in
         rw (look-below a undefined q k (omega arith)) (more (rw (look-below a undefined r l p) at h))
 
-module _ (regular other : List ℕ) where
-  like-variables : {r q : Frame Cell} → LikeFrame r q → variables regular other (functionWord q) ≡ variables regular other (functionWord r)
-  like-variables e = ap (λ (f : ℕ). variables regular other (f * 2 ^ 16)) (e .function)
+module _ (regular alternate : List ℕ) where
+  like-variables : {r q : Frame Cell} → LikeFrame r q → variables regular alternate (functionWord q) ≡ variables regular alternate (functionWord r)
+  like-variables e = ap (λ (f : ℕ). variables regular alternate (f * 2 ^ 16)) (e .function)
 
-  variable-on : (a : ℕ) (l k : List (Frame Cell)) → LikeFrames l k → VariableIn regular other l a → VariableIn regular other k a
+  variable-on : (a : ℕ) (l k : List (Frame Cell)) → LikeFrames l k → VariableIn regular alternate l a → VariableIn regular alternate k a
   variable-on a [] [] e h = h
   variable-on a [] (q ∷ k) e h = absurd e
   variable-on a (r ∷ l) [] e h = absurd e
@@ -81,49 +81,49 @@ module _ (regular other : List ℕ) where
 
   -- two machines that have as many globals, where what is named and direct in the one is direct in the other
   module _ (m n : Machine Cell) (globals : length (n .globals) ≡ length (m .globals)) where
-    pub names-on : (l k : List (Frame Cell)) → LikeFrames l k → (t : Target) → MayName regular other m l t → MayName regular other n k t
+    pub names-on : (l k : List (Frame Cell)) → LikeFrames l k → (t : Target) → MayName regular alternate m l t → MayName regular alternate n k t
     names-on l k e (Global g) h = (h .0, omega (arith, h))
     names-on l k e (Local a) h = variable-on (a .0) l k e h
 
     abbrev pub StayDirect : List (Frame Cell) → Type 0
-    StayDirect l = (t : Target) → MayName regular other m l t → DirectCell (look undefined t m) → DirectCell (look undefined t n)
+    StayDirect l = (t : Target) → MayName regular alternate m l t → DirectCell (look undefined t m) → DirectCell (look undefined t n)
 
-    pub allowed-on : (l k : List (Frame Cell)) → LikeFrames l k → StayDirect l → (c : Cell) → Allowed regular other m l c → Allowed regular other n k c
+    pub allowed-on : (l k : List (Frame Cell)) → LikeFrames l k → StayDirect l → (c : Cell) → Allowed regular alternate m l c → Allowed regular alternate n k c
     allowed-on l k e d undefined h = tt
     allowed-on l k e d (indirect t) h = record { names = names-on l k e t (h .names); direct = d t (h .names) (h .direct) }
     allowed-on l k e d (value shape ravel) h = tt
     allowed-on l k e d invalid h = h
 
     allowed-cells : (l k : List (Frame Cell)) → LikeFrames l k → StayDirect l → {x y : List Cell} → LikeCells x y
-        → ((i : ℕ) → i < length x → Allowed regular other m l (getD x i undefined)) → (i : ℕ) → i < length y → Allowed regular other n k (getD y i undefined)
+        → ((i : ℕ) → i < length x → Allowed regular alternate m l (getD x i undefined)) → (i : ℕ) → i < length y → Allowed regular alternate n k (getD y i undefined)
     allowed-cells l k e d {x} {y} c h i b =
         ⊎-elim (λ (p : getD y i undefined ≡ getD x i undefined). rw p (allowed-on l k e d (getD x i undefined) (h i (omega (arith, c .size)))))
-        (λ p. direct-allowed regular other n k (getD y i undefined) p)
+        (λ p. direct-allowed regular alternate n k (getD y i undefined) p)
         (c .each i)
 
     frame-on : {r q : Frame Cell} {l k : List (Frame Cell)} → LikeFrame r q → LikeFrames l k → StayDirect l
-        → LegalFrame regular other m r l → LegalFrame regular other n q k
+        → LegalFrame regular alternate m r l → LegalFrame regular alternate n q k
     frame-on {r} {q} {l} {k} e es d g =
         let v = like-variables e in
-        let a : arguments regular other (functionWord q) ≡ arguments regular other (functionWord r) = ap (λ (f : ℕ). arguments regular other (f * 2 ^ 16)) (e .function) in
+        let a : arguments regular alternate (functionWord q) ≡ arguments regular alternate (functionWord r) = ap (λ (f : ℕ). arguments regular alternate (f * 2 ^ 16)) (e .function) in
         record {
-          function = ap (λ (f : ℕ). known regular other (f * 2 ^ 16)) (e .function) ∙ g .function;
+          function = ap (λ (f : ℕ). known regular alternate (f * 2 ^ 16)) (e .function) ∙ g .function;
           cells = omega (arith, g .cells, e .cells .size);
           locals = λ i h. direct-on (e .cells) i (g .locals i (omega arith));
           others = allowed-cells l k es d (e .cells) (g .others);
         }
 
-    pub frames-on : {l : List (Frame Cell)} → LegalFrames regular other m l → (k : List (Frame Cell)) → LikeFrames l k → StayDirect l
-        → LegalFrames regular other n k
+    pub frames-on : {l : List (Frame Cell)} → LegalFrames regular alternate m l → (k : List (Frame Cell)) → LikeFrames l k → StayDirect l
+        → LegalFrames regular alternate n k
     frames-on (bottom g s) [] e d = absurd e
     frames-on (bottom {r} g s) (q ∷ []) e d =
         let v = like-variables (e .0) in
-        bottom (frame-on (e .0) tt (λ t h. d t (names-more regular other m r [] t h)) g) (omega (arith, e .0 .cells .size))
+        bottom (frame-on (e .0) tt (λ t h. d t (names-more regular alternate m r [] t h)) g) (omega (arith, e .0 .cells .size))
     frames-on (bottom g s) (q ∷ p ∷ k) e d = absurd (e .1)
     frames-on (upon g rest) [] e d = absurd e
     frames-on (upon {r} {q = s} {older = l} g rest) (q ∷ k) e d =
-        upon-on (frame-on (e .0) (e .1) (λ t h. d t (names-more regular other m r (s ∷ l) t h)) g)
-        (frames-on rest k (e .1) (λ t h. d t (names-more regular other m r (s ∷ l) t h)))
+        upon-on (frame-on (e .0) (e .1) (λ t h. d t (names-more regular alternate m r (s ∷ l) t h)) g)
+        (frames-on rest k (e .1) (λ t h. d t (names-more regular alternate m r (s ∷ l) t h)))
 
 -- ---- machines
 
@@ -137,16 +137,16 @@ like-look {m} {n} e (Global g) h =
 like-look {m} {n} e (Local a) h = look-on (a .0) (m .frames) (n .frames) (e .frames) h
 
 -- A machine alike is legal where its temporaries are allowed in the one before.
-pub like-legal : {regular other : List ℕ} {m n : Machine Cell} → Legal regular other m → Like m n
-    → ((i : ℕ) → i < length (n .temporaries) → Allowed regular other m (m .frames) (getD (n .temporaries) i undefined)) → Legal regular other n
-like-legal {regular} {other} {m} {n} g e h =
-    let d : StayDirect regular other m n (e .globals .size) (m .frames) = λ t p. like-look e t in
+pub like-legal : {regular alternate : List ℕ} {m n : Machine Cell} → Legal regular alternate m → Like m n
+    → ((i : ℕ) → i < length (n .temporaries) → Allowed regular alternate m (m .frames) (getD (n .temporaries) i undefined)) → Legal regular alternate n
+like-legal {regular} {alternate} {m} {n} g e h =
+    let d : StayDirect regular alternate m n (e .globals .size) (m .frames) = λ t p. like-look e t in
     record {
-      frames = frames-on regular other m n (e .globals .size) (g .frames) (n .frames) (e .frames) d;
+      frames = frames-on regular alternate m n (e .globals .size) (g .frames) (n .frames) (e .frames) d;
       globals = λ i b. direct-on (e .globals) i (g .globals i (omega (arith, e .globals .size)));
-      temporaries = λ i b. allowed-on regular other m n (e .globals .size) (m .frames) (n .frames) (e .frames) d (getD (n .temporaries) i undefined) (h i b);
+      temporaries = λ i b. allowed-on regular alternate m n (e .globals .size) (m .frames) (n .frames) (e .frames) d (getD (n .temporaries) i undefined) (h i b);
     }
 
-pub like-names : (regular other : List ℕ) {m n : Machine Cell} → Like m n → (t : Target) → MayName regular other m (m .frames) t
-    → MayName regular other n (n .frames) t
-like-names regular other {m} {n} e t h = names-on regular other m n (e .globals .size) (m .frames) (n .frames) (e .frames) t h
+pub like-names : (regular alternate : List ℕ) {m n : Machine Cell} → Like m n → (t : Target) → MayName regular alternate m (m .frames) t
+    → MayName regular alternate n (n .frames) t
+like-names regular alternate {m} {n} e t h = names-on regular alternate m n (e .globals .size) (m .frames) (n .frames) (e .frames) t h

@@ -61,20 +61,20 @@ module _ (s : List ℕ) where
       rw e at (temporary-at (ltop s - i) (omega arith))
 
 -- All frames of the segment.
-module _ (s regular other older : List ℕ) (chain : onWords.Chain s regular other (lbase s) older) where
-  pub whole : Stacked s regular other (lbase s + 2) (lbase s ∷ older) (view s .frames)
+module _ (s regular alternate older : List ℕ) (chain : onWords.Chain s regular alternate (lbase s) older) where
+  pub whole : Stacked s regular alternate (lbase s + 2) (lbase s ∷ older) (view s .frames)
   unfolding view words
-  whole = stacked s regular other older (suc (lbase s)) (lbase s) (omega arith) chain
+  whole = stacked s regular alternate older (suc (lbase s)) (lbase s) (omega arith) chain
 
   pub look-local : (a : ℕ) → InFrames a (view s .frames) → look undefined (Local (stack a)) (view s) ≡ cell s (stackAt s a)
-  look-local a h = look-is s regular other whole a h
+  look-local a h = look-is s regular alternate whole a h
 
-  module _ (A : ℕ → Type 0) {d : ℕ} {frames : List ℕ} {l : List (Frame Cell)} (t : Stacked s regular other d frames l)
-      (within : (a : ℕ) → onWords.VariableOf s regular other frames a → onWords.VariableOf s regular other (lbase s ∷ older) a) where
-    seen-there : (a : ℕ) → onWords.VariableOf s regular other frames a → look undefined (Local (stack a)) (view s) ≡ cell s (stackAt s a)
-    seen-there a v = look-local a (variable-in s regular other whole a (within a v))
+  module _ (A : ℕ → Type 0) {d : ℕ} {frames : List ℕ} {l : List (Frame Cell)} (t : Stacked s regular alternate d frames l)
+      (within : (a : ℕ) → onWords.VariableOf s regular alternate frames a → onWords.VariableOf s regular alternate (lbase s ∷ older) a) where
+    seen-there : (a : ℕ) → onWords.VariableOf s regular alternate frames a → look undefined (Local (stack a)) (view s) ≡ cell s (stackAt s a)
+    seen-there a v = look-local a (variable-in s regular alternate whole a (within a v))
 
-    points-word : (w : ℕ) (target : Target) → w ≡ targetWord target → NamesDirect regular other (view s) l target → onWords.DirectOrIndirect A s regular other frames w
+    points-word : (w : ℕ) (target : Target) → w ≡ targetWord target → NamesDirect regular alternate (view s) l target → onWords.DirectOrIndirect A s regular alternate frames w
     points-word w (Global g) e h =
         let k : g .0 < blockptr s = omega (arith, h .names .1, globals-length s) in
         inr (inl (record {
@@ -85,7 +85,7 @@ module _ (s regular other older : List ℕ) (chain : onWords.Chain s regular oth
           direct = not-indirect s (getD s (g .0) 0) (subst DirectCell (look-global s (g .0) (h .names .0) k) (h .direct));
         }))
     points-word w (Local a) e h =
-        let v = variable-word s regular other t (a .0) (h .names) in
+        let v = variable-word s regular alternate t (a .0) (h .names) in
         inr (inr (record {
           target = a .0;
           word = e;
@@ -93,27 +93,27 @@ module _ (s regular other older : List ℕ) (chain : onWords.Chain s regular oth
           direct = not-indirect s (stackAt s (a .0)) (subst DirectCell (seen-there (a .0) v) (h .direct));
         }))
 
-    pub allowed-word : (w : ℕ) → (isArray w ≡ true → A (address w)) → Allowed regular other (view s) l (cell s w) → onWords.DirectOrIndirect A s regular other frames w
-    allowed-word w named h = ⊎-elim (λ k. inl k) (λ p. points-word w (p .target) (p .word) (p .holds)) (valid-word A s w named (Allowed regular other (view s) l) (λ z. z) h)
+    pub allowed-word : (w : ℕ) → (isArray w ≡ true → A (address w)) → Allowed regular alternate (view s) l (cell s w) → onWords.DirectOrIndirect A s regular alternate frames w
+    allowed-word w named h = ⊎-elim (λ k. inl k) (λ p. points-word w (p .target) (p .word) (p .holds)) (valid-word A s w named (Allowed regular alternate (view s) l) (λ z. z) h)
 
     module _ (near : blockptr s ≤ 2 ^ 16) (short : lbase s + 2 ≤ 2 ^ 16) where
-      fits : (a : ℕ) → onWords.VariableOf s regular other frames a → a < 2 ^ 16
-      fits a v = omega (arith, variable-low s regular other whole a (within a v))
+      fits : (a : ℕ) → onWords.VariableOf s regular alternate frames a → a < 2 ^ 16
+      fits a v = omega (arith, variable-low s regular alternate whole a (within a v))
 
       pub word-allowed : ((g : ℕ) → 8 ≤ g → g < blockptr s → onWords.Direct A (getD s g 0))
-          → ((a : ℕ) → onWords.VariableOf s regular other (lbase s ∷ older) a → isIndirect (stackAt s a) ≡ false → onWords.Direct A (stackAt s a))
-          → (w : ℕ) → onWords.DirectOrIndirect A s regular other frames w → Allowed regular other (view s) l (cell s w)
-      word-allowed globals variables w (inl k) = direct-allowed regular other (view s) l (cell s w) (direct-cell s A w k)
+          → ((a : ℕ) → onWords.VariableOf s regular alternate (lbase s ∷ older) a → isIndirect (stackAt s a) ≡ false → onWords.Direct A (stackAt s a))
+          → (w : ℕ) → onWords.DirectOrIndirect A s regular alternate frames w → Allowed regular alternate (view s) l (cell s w)
+      word-allowed globals variables w (inl k) = direct-allowed regular alternate (view s) l (cell s w) (direct-cell s A w k)
       word-allowed globals variables w (inr (inl g)) =
           let e : cell s w ≡ indirect (Global (segment (g .target))) = ap (cell s) (g .word) ∙ target-cell s (Global (segment (g .target))) (omega (arith, g .high)) in
-          subst (Allowed regular other (view s) l) (sym e) (record {
+          subst (Allowed regular alternate (view s) l) (sym e) (record {
             names = (g .low, omega (arith, g .high, globals-length s));
             direct = subst DirectCell (sym (look-global s (g .target) (g .low) (g .high))) (direct-cell s A (getD s (g .target) 0) (globals (g .target) (g .low) (g .high)));
           })
       word-allowed globals variables w (inr (inr v)) =
           let e : cell s w ≡ indirect (Local (stack (v .target))) = ap (cell s) (v .word) ∙ target-cell s (Local (stack (v .target))) (fits (v .target) (v .variable)) in
-          subst (Allowed regular other (view s) l) (sym e) (record {
-            names = variable-seen s regular other t (v .target) (v .variable);
+          subst (Allowed regular alternate (view s) l) (sym e) (record {
+            names = variable-seen s regular alternate t (v .target) (v .variable);
             direct = subst DirectCell (sym (seen-there (v .target) (v .variable)))
                 (direct-cell s A (stackAt s (v .target)) (variables (v .target) (within (v .target) (v .variable)) (v .direct)));
           })

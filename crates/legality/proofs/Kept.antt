@@ -14,10 +14,10 @@ use Rattle.legality.specs.Kept.{RunsIn, KeepsLegal, KeptTheorems}
 use Rattle.legality.proofs.Steps.{all-kept}
 use Rattle.legality.proofs.Plans.{plan-meets}
 
-kept-theorem : {regular other : List ℕ} {f : Running} {m : Machine Cell} {es : List Effect} → Legal regular other m → RunsIn regular other f m
-    → (words : ℕ) (i : Instruction) (next : ℕ) → planOf f (seenOf words m) i next ≡ gives es → KeepsLegal regular other m es
-kept-theorem {regular} {other} {f} {m} {es} g runs words i next e =
-    all-kept regular other es m g (plan-meets g words f runs i next es e)
+kept-theorem : {regular alternate : List ℕ} {f : Running} {m : Machine Cell} {es : List Effect} → Legal regular alternate m → RunsIn regular alternate f m
+    → (words : ℕ) (i : Instruction) (next : ℕ) → planOf f (seenOf words m) i next ≡ gives es → KeepsLegal regular alternate m es
+kept-theorem {regular} {alternate} {f} {m} {es} g runs words i next e =
+    all-kept regular alternate es m g (plan-meets g words f runs i next es e)
 
 pub kept-theorems : KeptTheorems
 kept-theorems = record { kept = kept-theorem }

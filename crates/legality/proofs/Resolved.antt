@@ -26,17 +26,17 @@ use Rattle.legality.specs.Legal.{VariableIn, MayName, NamesDirect, Allow
 use Rattle.legality.specs.Kept.{RunsIn}
 use Rattle.legality.proofs.Legal.{first, look-allowed}
 
-module _ {regular other : List ℕ} {m : Machine Cell} (g : Legal regular other m) where
+module _ {regular alternate : List ℕ} {m : Machine Cell} (g : Legal regular alternate m) where
   abbrev Variables : OrTrap Variable → Type 0
-  Variables x = OfPlan (λ v. NamesDirect regular other m (m .frames) (v .place)) (λ class number. Unit {0}) x
+  Variables x = OfPlan (λ v. NamesDirect regular alternate m (m .frames) (v .place)) (λ class number. Unit {0}) x
 
-  followed-leads : (t : Target) (c : Cell) → NamesDirect regular other m (m .frames) t → Variables (followed t c)
+  followed-leads : (t : Target) (c : Cell) → NamesDirect regular alternate m (m .frames) t → Variables (followed t c)
   followed-leads t undefined h = h
   followed-leads t (indirect u) h = tt
   followed-leads t (value shape ravel) h = h
   followed-leads t invalid h = h
 
-  follow-leads : (t : Target) (c : Cell) → look undefined t m ≡ c → MayName regular other m (m .frames) t → Allowed regular other m (m .frames) c
+  follow-leads : (t : Target) (c : Cell) → look undefined t m ≡ c → MayName regular alternate m (m .frames) t → Allowed regular alternate m (m .frames) c
       → Variables (follow (λ u. look undefined u m) t c)
   follow-leads t undefined e n a = record { names = n; direct = rw e tt }
   follow-leads t (indirect u) e n a = followed-leads u (look undefined u m) a
@@ -44,13 +44,13 @@ module _ {regular other : List ℕ} {m : Machine Cell} (g : Legal regular other 
   follow-leads t invalid e n a = absurd a
 
   -- The words below LBASE are the current frame's variables.
-  local-names : (f : Running) → RunsIn regular other f m → (v : ℕ) → 1 ≤ v → v ≤ variablesOf (headerOf f)
-      → VariableIn regular other (m .frames) (depthOfFrames (m .frames) - 2 - v)
+  local-names : (f : Running) → RunsIn regular alternate f m → (v : ℕ) → 1 ≤ v → v ≤ variablesOf (headerOf f)
+      → VariableIn regular alternate (m .frames) (depthOfFrames (m .frames) - 2 - v)
   local-names f runs v low high =
-      let k = first (subst (λ (l : List (Frame Cell)). LegalFrames regular other m l) (runs .frames) (g .frames)) .cells in
+      let k = first (subst (λ (l : List (Frame Cell)). LegalFrames regular alternate m l) (runs .frames) (g .frames)) .cells in
       rw (runs .frames) (inl (omega (arith, runs .size, k), omega (arith, runs .size, k)))
 
-  address-leads : (words : ℕ) (f : Running) → RunsIn regular other f m → (a : Address) → Variables (resolve (seenOf words m) (headerOf f) a)
+  address-leads : (words : ℕ) (f : Running) → RunsIn regular alternate f m → (a : Address) → Variables (resolve (seenOf words m) (headerOf f) a)
   unfolding seenOf
   address-leads words f runs (A.Local v) =
       let t = Local (stack (depthOfFrames (m .frames) - 2 - v)) in
@@ -63,6 +63,6 @@ module _ {regular other : List ℕ} {m : Machine Cell} (g : Legal regular other 
       let c = neither (ltb (x .0) 8) (leb (8 + length (m .globals)) (x .0)) b in
       follow-leads t (look undefined t m) refl (ltb-false (x .0) 8 (c .0), leb-false (8 + length (m .globals)) (x .0) (c .1)) (look-allowed g t))
 
-  pub reached-leads : (words : ℕ) (f : Running) → RunsIn regular other f m → (a : Address) (x : Variable) → Reaches f (seenOf words m) a x
-      → NamesDirect regular other m (m .frames) (x .place)
+  pub reached-leads : (words : ℕ) (f : Running) → RunsIn regular alternate f m → (a : Address) (x : Variable) → Reaches f (seenOf words m) a x
+      → NamesDirect regular alternate m (m .frames) (x .place)
   reached-leads words f runs a x r = subst Variables r (address-leads words f runs a)

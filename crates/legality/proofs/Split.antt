@@ -30,57 +30,57 @@ use Rattle.legality.proofs.Cells.{globals-length, global-at, temporarie
 
 -- ---- what a variable holds that is no indirect word
 
-module _ (A : ℕ → Type 0) (s regular other : List ℕ) (near : blockptr s ≤ 2 ^ 16) where
-  no-pointer : (frames : List ℕ) → ((a : ℕ) → VariableOf s regular other frames a → a < 2 ^ 16)
-      → (w : ℕ) → DirectOrIndirect A s regular other frames w → isIndirect w ≡ false → onWords.Direct A w
+module _ (A : ℕ → Type 0) (s regular alternate : List ℕ) (near : blockptr s ≤ 2 ^ 16) where
+  no-pointer : (frames : List ℕ) → ((a : ℕ) → VariableOf s regular alternate frames a → a < 2 ^ 16)
+      → (w : ℕ) → DirectOrIndirect A s regular alternate frames w → isIndirect w ≡ false → onWords.Direct A w
   no-pointer frames fits w (inl k) n = k
   no-pointer frames fits w (inr (inl g)) n = absurd (never (sym n ∙ eq-eqb (w / 2 ^ 17) 0x180 (omega (arith, g .word, g .high))))
   no-pointer frames fits w (inr (inr v)) n = absurd (never (sym n ∙ eq-eqb (w / 2 ^ 17) 0x180 (omega (arith, v .word, fits (v .target) (v .variable)))))
 
-  own-valid : (base top : ℕ) (older : List ℕ) → ((a : ℕ) → VariableOf s regular other older a → a < 2 ^ 16) → FrameCells A s regular other base top older
-      → (a : ℕ) → frameStart s regular other base ≤ a → a < base → isIndirect (stackAt s a) ≡ false → onWords.Direct A (stackAt s a)
+  own-valid : (base top : ℕ) (older : List ℕ) → ((a : ℕ) → VariableOf s regular alternate older a → a < 2 ^ 16) → FrameCells A s regular alternate base top older
+      → (a : ℕ) → frameStart s regular alternate base ≤ a → a < base → isIndirect (stackAt s a) ≡ false → onWords.Direct A (stackAt s a)
   own-valid base top older fits c a l u n =
-      by-le (localsOf s regular other base) a (λ m. c .locals a m u) (λ m. no-pointer older fits (stackAt s a) (c .arguments a l m) n)
+      by-le (localsOf s regular alternate base) a (λ m. c .locals a m u) (λ m. no-pointer older fits (stackAt s a) (c .arguments a l m) n)
 
-  variables-valid : (older : List ℕ) (base top : ℕ) → ((a : ℕ) → VariableOf s regular other (base ∷ older) a → a < 2 ^ 16) → StackCells A s regular other base top older
-      → (a : ℕ) → VariableOf s regular other (base ∷ older) a → isIndirect (stackAt s a) ≡ false → onWords.Direct A (stackAt s a)
+  variables-valid : (older : List ℕ) (base top : ℕ) → ((a : ℕ) → VariableOf s regular alternate (base ∷ older) a → a < 2 ^ 16) → StackCells A s regular alternate base top older
+      → (a : ℕ) → VariableOf s regular alternate (base ∷ older) a → isIndirect (stackAt s a) ≡ false → onWords.Direct A (stackAt s a)
   variables-valid [] base top fits c a (inl v) n = own-valid base top [] (λ b u. fits b (inr u)) c a (v .0) (v .1) n
   variables-valid [] base top fits c a (inr v) n = absurd v
   variables-valid (next ∷ older) base top fits c a (inl v) n = own-valid base top (next ∷ older) (λ b u. fits b (inr u)) (c .0) a (v .0) (v .1) n
-  variables-valid (next ∷ older) base top fits c a (inr v) n = variables-valid older next (frameStart s regular other base) (λ b u. fits b (inr u)) (c .1) a v n
+  variables-valid (next ∷ older) base top fits c a (inr v) n = variables-valid older next (frameStart s regular alternate base) (λ b u. fits b (inr u)) (c .1) a v n
 
-first-frame : (A : ℕ → Type 0) (older : List ℕ) {s regular other : List ℕ} {base top : ℕ} → StackCells A s regular other base top older → FrameCells A s regular other base top older
+first-frame : (A : ℕ → Type 0) (older : List ℕ) {s regular alternate : List ℕ} {base top : ℕ} → StackCells A s regular alternate base top older → FrameCells A s regular alternate base top older
 first-frame A [] h = h
 first-frame A (next ∷ older) h = h .0
 
 -- ---- frames
 
 -- One frame, over the older ones, whose temporaries stand from `start` up to it.
-module _ (A : ℕ → Type 0) (s regular other : List ℕ) (m : Machine Cell) (start base top : ℕ) (frames : List ℕ) (l : List (Frame Cell))
-    (has : known regular other (codeWordAt s base) ≡ true) (room : start + variables regular other (codeWordAt s base) ≤ base)
-    (allow : (w : ℕ) → DirectOrIndirect A s regular other frames w → Allowed regular other m l (cell s w))
-    (c : FrameCells A s regular other base top frames)
-    (rest : (i : ℕ) → start ≤ i → i < frameStart s regular other base → DirectOrIndirect A s regular other frames (stackAt s i)) where
-  each : (i : ℕ) → start ≤ i → i < base → DirectOrIndirect A s regular other frames (stackAt s i)
+module _ (A : ℕ → Type 0) (s regular alternate : List ℕ) (m : Machine Cell) (start base top : ℕ) (frames : List ℕ) (l : List (Frame Cell))
+    (has : known regular alternate (codeWordAt s base) ≡ true) (room : start + variables regular alternate (codeWordAt s base) ≤ base)
+    (allow : (w : ℕ) → DirectOrIndirect A s regular alternate frames w → Allowed regular alternate m l (cell s w))
+    (c : FrameCells A s regular alternate base top frames)
+    (rest : (i : ℕ) → start ≤ i → i < frameStart s regular alternate base → DirectOrIndirect A s regular alternate frames (stackAt s i)) where
+  each : (i : ℕ) → start ≤ i → i < base → DirectOrIndirect A s regular alternate frames (stackAt s i)
   each i k u =
-      by-le (frameStart s regular other base) i
-      (λ d. by-le (localsOf s regular other base) i (λ e. inl (c .locals i e u)) (λ e. c .arguments i d e)) (rest i k)
+      by-le (frameStart s regular alternate base) i
+      (λ d. by-le (localsOf s regular alternate base) i (λ e. inl (c .locals i e u)) (λ e. c .arguments i d e)) (rest i k)
 
-  legal-frame : LegalFrame regular other m (seenFrame s base start) l
+  legal-frame : LegalFrame regular alternate m (seenFrame s base start) l
   legal-frame =
-      let v = same-variables (codeWordAt s base) regular other in
-      let a = same-arguments (codeWordAt s base) regular other in
+      let v = same-variables (codeWordAt s base) regular alternate in
+      let a = same-arguments (codeWordAt s base) regular alternate in
       let n = frame-length s base start in
       record {
-        function = same-known (codeWordAt s base) regular other ∙ has;
+        function = same-known (codeWordAt s base) regular alternate ∙ has;
         cells = omega (arith, v, n, room);
         locals = λ i k. subst DirectCell (sym (frame-at s base start i (omega (arith, k, v, a, room))))
             (direct-cell s A (stackAt s (base - 1 - i)) (c .locals (base - 1 - i) (omega (arith, k, v, a, room)) (omega (arith, k, v, a, room))));
-        others = λ i k. subst (Allowed regular other m l) (sym (frame-at s base start i (omega (arith, k, n))))
+        others = λ i k. subst (Allowed regular alternate m l) (sym (frame-at s base start i (omega (arith, k, n))))
             (allow (stackAt s (base - 1 - i)) (each (base - 1 - i) (omega (arith, k, n)) (omega (arith, k, n))));
       }
 
-module _ (s regular other : List ℕ) (h : Accepted s regular other) where
+module _ (s regular alternate : List ℕ) (h : Accepted s regular alternate) where
   abbrev A : ℕ → Type 0
   A a = (size : ℕ) × ArrayIn (blockptr s) (h .owned .blocks) a size
 
@@ -90,57 +90,57 @@ module _ (s regular other : List ℕ) (h : Accepted s regular other) where
   short : lbase s + 2 ≤ 2 ^ 16
   short = omega (arith, h .top, h .head .top, h .longest)
 
-  frames : Stacked s regular other (lbase s + 2) (lbase s ∷ h .older) (view s .frames)
-  frames = whole s regular other (h .older) (h .chain)
+  frames : Stacked s regular alternate (lbase s + 2) (lbase s ∷ h .older) (view s .frames)
+  frames = whole s regular alternate (h .older) (h .chain)
 
-  allow : {d : ℕ} {fs : List ℕ} {l : List (Frame Cell)} → Stacked s regular other d fs l
-      → ((a : ℕ) → VariableOf s regular other fs a → VariableOf s regular other (lbase s ∷ h .older) a)
-      → (w : ℕ) → DirectOrIndirect A s regular other fs w → Allowed regular other (view s) l (cell s w)
+  allow : {d : ℕ} {fs : List ℕ} {l : List (Frame Cell)} → Stacked s regular alternate d fs l
+      → ((a : ℕ) → VariableOf s regular alternate fs a → VariableOf s regular alternate (lbase s ∷ h .older) a)
+      → (w : ℕ) → DirectOrIndirect A s regular alternate fs w → Allowed regular alternate (view s) l (cell s w)
   allow t within =
-      word-allowed s regular other (h .older) (h .chain) A t within near short (h .globals)
-      (variables-valid A s regular other near (h .older) (lbase s) (ltop s + 1) (λ a v. omega (arith, short, variable-low s regular other frames a v)) (h .cells))
+      word-allowed s regular alternate (h .older) (h .chain) A t within near short (h .globals)
+      (variables-valid A s regular alternate near (h .older) (lbase s) (ltop s + 1) (λ a v. omega (arith, short, variable-low s regular alternate frames a v)) (h .cells))
 
-  legal-frames : (older : List ℕ) (n base top : ℕ) → base < n → onWords.Chain s regular other base older → StackCells A s regular other base top older
-      → ((a : ℕ) → VariableOf s regular other (base ∷ older) a → VariableOf s regular other (lbase s ∷ h .older) a)
-      → LegalFrames regular other (view s) (seenFrames n s base)
+  legal-frames : (older : List ℕ) (n base top : ℕ) → base < n → onWords.Chain s regular alternate base older → StackCells A s regular alternate base top older
+      → ((a : ℕ) → VariableOf s regular alternate (base ∷ older) a → VariableOf s regular alternate (lbase s ∷ h .older) a)
+      → LegalFrames regular alternate (view s) (seenFrames n s base)
   legal-frames older zero base top l k c within = absurd (omega arith)
   legal-frames [] (suc n) base top l k c within =
       rw (seen-bottom n s base (k .itself))
       (bottom
-      (legal-frame A s regular other (view s) 0 base top [] [] (k .function) (omega (arith, k .start)) (allow none (λ a v. absurd v)) c (λ i d e. absurd (omega (arith, e, k .start))))
-      (omega (arith, frame-length s base 0, same-variables (codeWordAt s base) regular other, k .start)))
+      (legal-frame A s regular alternate (view s) 0 base top [] [] (k .function) (omega (arith, k .start)) (allow none (λ a v. absurd v)) c (λ i d e. absurd (omega (arith, e, k .start))))
+      (omega (arith, frame-length s base 0, same-variables (codeWordAt s base) regular alternate, k .start)))
   legal-frames (next ∷ older) (suc n) base top l k c within =
-      let t = stacked s regular other older n next (omega (arith, k .0 .start)) (k .1) in
+      let t = stacked s regular alternate older n next (omega (arith, k .0 .start)) (k .1) in
       rw (seen-upon n s base next (k .0 .last) (omega (arith, k .0 .start)))
       (upon-on
-      (legal-frame A s regular other (view s) (next + 2) base top (next ∷ older) (seenFrames n s next) (k .0 .function) (k .0 .start) (allow t (λ a v. within a (inr v))) (c .0)
+      (legal-frame A s regular alternate (view s) (next + 2) base top (next ∷ older) (seenFrames n s next) (k .0 .function) (k .0 .start) (allow t (λ a v. within a (inr v))) (c .0)
       (first-frame A older (c .1) .temporaries))
-      (legal-frames older n next (frameStart s regular other base) (omega (arith, k .0 .start)) (k .1) (c .1) (λ a v. within a (inr v))))
+      (legal-frames older n next (frameStart s regular alternate base) (omega (arith, k .0 .start)) (k .1) (c .1) (λ a v. within a (inr v))))
 
-  legal : Legal regular other (view s)
+  legal : Legal regular alternate (view s)
   unfolding view words
   legal = record {
     frames = legal-frames (h .older) (suc (lbase s)) (lbase s) (ltop s + 1) (omega arith) (h .chain) (h .cells) (λ a v. v);
     globals = λ i k. subst DirectCell (sym (global-at s i (omega (arith, k, globals-length s))))
         (direct-cell s A (getD s (8 + i) 0) (h .globals (8 + i) (omega arith) (omega (arith, k, globals-length s))));
-    temporaries = λ i k. subst (Allowed regular other (view s) (view s .frames)) (sym (temporary-at s i (omega (arith, k, temporaries-length s))))
+    temporaries = λ i k. subst (Allowed regular alternate (view s) (view s .frames)) (sym (temporary-at s i (omega (arith, k, temporaries-length s))))
         (allow frames (λ a v. v) (stackAt s (ltop s - i))
         (first-frame A (h .older) (h .cells) .temporaries (ltop s - i) (omega (arith, k, temporaries-length s)) (omega (arith, k, temporaries-length s))));
   }
 
 -- ---- the whole segment
 
-bare-chain : (s regular other older : List ℕ) (base : ℕ) → onWords.Chain s regular other base older → sound.Chain s base
-bare-chain s regular other [] base k = sound.bottom {base = base} (k .itself)
-bare-chain s regular other (next ∷ older) base k =
-    sound.upon {base = base} (omega (arith, k .0 .last, k .0 .start)) (subst (sound.Chain s) (sym (k .0 .last)) (bare-chain s regular other older next (k .1)))
+bare-chain : (s regular alternate older : List ℕ) (base : ℕ) → onWords.Chain s regular alternate base older → sound.Chain s base
+bare-chain s regular alternate [] base k = sound.bottom {base = base} (k .itself)
+bare-chain s regular alternate (next ∷ older) base k =
+    sound.upon {base = base} (omega (arith, k .0 .last, k .0 .start)) (subst (sound.Chain s) (sym (k .0 .last)) (bare-chain s regular alternate older next (k .1)))
 
-pub split : (s regular other : List ℕ) → Accepted s regular other → Whole s regular other
-split s regular other h = record {
+pub split : (s regular alternate : List ℕ) → Accepted s regular alternate → Whole s regular alternate
+split s regular alternate h = record {
   shortest = h .shortest;
   longest = h .longest;
   procedures = h .procedures;
   head = h .head;
-  sound = record { own = h .owned; fits = h .head .top; above = h .top; chain = bare-chain s regular other (h .older) (lbase s) (h .chain) };
-  legal = legal s regular other h;
+  sound = record { own = h .owned; fits = h .head .top; above = h .top; chain = bare-chain s regular alternate (h .older) (lbase s) (h .chain) };
+  legal = legal s regular alternate h;
 }

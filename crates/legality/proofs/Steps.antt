@@ -29,15 +29,15 @@ put-flags (Local a) c m = refl
 origin-half : (f v : ℕ) → v < 2 → (f / 2 * 2 + v) / 2 ≡ f / 2
 origin-half f v h = omega arith
 
-module _ (regular other : List ℕ) where
+module _ (regular alternate : List ℕ) where
   -- What an effect needs of the machine that it meets.
   abbrev pub Meets : Effect → Machine Cell → Type 0
-  Meets (replaces n source) m = Allowed regular other m (m .frames) (meant source m)
+  Meets (replaces n source) m = Allowed regular alternate m (m .frames) (meant source m)
   Meets (discards n) m = Unit {0}
   Meets swaps m = Unit {0}
   Meets (stores t source) m = DirectCell (meant source m)
   Meets (storesElement t place w n) m = DirectCell (look undefined t m)
-  Meets (enters n f) m = CanEnter regular other n f m
+  Meets (enters n f) m = CanEnter regular alternate n f m
   Meets (leaves n result) m = noOlder (m .frames) ≡ false
   Meets (jumps place) m = Unit {0}
   Meets (setsOrigin v) m = v < 2
@@ -46,7 +46,7 @@ module _ (regular other : List ℕ) where
   AllMeet [] m = Unit {0}
   AllMeet (e ∷ es) m = Meets e m × AllMeet es (performOn e m)
 
-  legal-on : (e : Effect) (m : Machine Cell) → Legal regular other m → Meets e m → Legal regular other (performOn e m)
+  legal-on : (e : Effect) (m : Machine Cell) → Legal regular alternate m → Meets e m → Legal regular alternate (performOn e m)
   legal-on (replaces n source) m g h = replace-kept g n (meant source m) h
   legal-on (discards n) m g h = discard-kept g n
   legal-on swaps m g h = swap-kept g
@@ -54,7 +54,7 @@ module _ (regular other : List ℕ) where
   legal-on (storesElement t place w n) m g h =
       let c = withElement place w (look undefined t m) in
       let d : DirectCell c = element-direct place w (look undefined t m) h in
-      replace-kept (put-kept g t c d) n c (direct-allowed regular other (put t c m) (put t c m .frames) c d)
+      replace-kept (put-kept g t c d) n c (direct-allowed regular alternate (put t c m) (put t c m .frames) c d)
   legal-on (enters n f) m g h = enter-kept g n f h
   legal-on (leaves n result) m g h = leave-kept g n result h
   legal-on (jumps place) m g h = jump-kept g (place % 2 ^ 16)
@@ -71,7 +71,7 @@ module _ (regular other : List ℕ) where
   flags-on (jumps place) m h = refl
   flags-on (setsOrigin v) m h = origin-half (m .flags) v h
 
-  pub all-kept : (es : List Effect) (m : Machine Cell) → Legal regular other m → AllMeet es m → KeepsLegal regular other m es
+  pub all-kept : (es : List Effect) (m : Machine Cell) → Legal regular alternate m → AllMeet es m → KeepsLegal regular alternate m es
   all-kept [] m g h = record { legal = g; flags = refl }
   all-kept (e ∷ es) m g h =
       let more = all-kept es (performOn e m) (legal-on e m g (h .0)) (h .1) in

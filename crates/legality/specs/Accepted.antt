@@ -19,23 +19,23 @@ use Rattle.effects.specs.Alike.{HasFrame}
 use Rattle.legality.specs.Legal.{Legal}
 
 -- A segment as the machine's theorems have it: lengths, procedure segments, state words, storage and frames, and every cell.
-pub record Whole (s regular other : List ℕ) : Type 0 where
+pub record Whole (s regular alternate : List ℕ) : Type 0 where
   pub shortest : 32 ≤ length s
   pub longest : length s ≤ 16384
-  pub procedures : procedureRefusal regular other ≡ 0
+  pub procedures : procedureRefusal regular alternate ≡ 0
   pub head : Head s
   pub sound : Sound s
-  pub legal : Legal regular other (view s)
+  pub legal : Legal regular alternate (view s)
 
 -- Of the current frame's function: its arguments and locals, and whether it has a result.
 abbrev pub currentVariables : List ℕ → List ℕ → List ℕ → ℕ
-currentVariables s regular other = variables regular other (codeWordAt s (lbase s))
+currentVariables s regular alternate = variables regular alternate (codeWordAt s (lbase s))
 
 abbrev pub currentResult : List ℕ → List ℕ → List ℕ → Bool
-currentResult s regular other = resultOf (frameSegment regular other (codeWordAt s (lbase s))) (functionNumber (codeWordAt s (lbase s)))
+currentResult s regular alternate = resultOf (frameSegment regular alternate (codeWordAt s (lbase s))) (functionNumber (codeWordAt s (lbase s)))
 
 pub record LegalTheorems : Type 0 where
-  pub split : (s regular other : List ℕ) → Accepted s regular other → Whole s regular other
-  pub join : (s regular other : List ℕ) → Whole s regular other → Accepted s regular other
+  pub split : (s regular alternate : List ℕ) → Accepted s regular alternate → Whole s regular alternate
+  pub join : (s regular alternate : List ℕ) → Whole s regular alternate → Accepted s regular alternate
   -- what an instruction of the current function may rely on
-  pub runs : (s regular other : List ℕ) → Accepted s regular other → HasFrame s (currentVariables s regular other) (currentResult s regular other)
+  pub runs : (s regular alternate : List ℕ) → Accepted s regular alternate → HasFrame s (currentVariables s regular alternate) (currentResult s regular alternate)

@@ -14,20 +14,20 @@ use Rattle.acceptance.specs.Frames.{variables}
 use Rattle.legality.specs.Legal.{functionWord, Legal}
 
 -- The function that is run is that of the current frame, which has as many variables as its header says.
-pub record RunsIn (regular other : List ℕ) (f : Running) (m : Machine Cell) : Type 0 where
+pub record RunsIn (regular alternate : List ℕ) (f : Running) (m : Machine Cell) : Type 0 where
   pub regularSegment : f .regular ≡ regular
-  pub alternateSegment : f .alternate ≡ other
+  pub alternateSegment : f .alternate ≡ alternate
   pub current : Frame Cell
   pub older : List (Frame Cell)
   pub frames : m .frames ≡ current ∷ older
-  pub size : variablesOf (headerOf f) ≡ variables regular other (functionWord current)
+  pub size : variablesOf (headerOf f) ≡ variables regular alternate (functionWord current)
 
 -- What the effects `es` leave of `m`: a legal machine, with all flags but IORG as they were.
-pub record KeepsLegal (regular other : List ℕ) (m : Machine Cell) (es : List Effect) : Type 0 where
-  pub legal : Legal regular other (performAll es m)
+pub record KeepsLegal (regular alternate : List ℕ) (m : Machine Cell) (es : List Effect) : Type 0 where
+  pub legal : Legal regular alternate (performAll es m)
   pub flags : performAll es m .flags / 2 ≡ m .flags / 2
 
 pub record KeptTheorems : Type 0 where
-  pub kept : {regular other : List ℕ} {f : Running} {m : Machine Cell} {es : List Effect}
-      → Legal regular other m → RunsIn regular other f m → (words : ℕ) (i : Instruction) (next : ℕ) → planOf f (seenOf words m) i next ≡ gives es
-      → KeepsLegal regular other m es
+  pub kept : {regular alternate : List ℕ} {f : Running} {m : Machine Cell} {es : List Effect}
+      → Legal regular alternate m → RunsIn regular alternate f m → (words : ℕ) (i : Instruction) (next : ℕ) → planOf f (seenOf words m) i next ≡ gives es
+      → KeepsLegal regular alternate m es

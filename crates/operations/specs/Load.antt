@@ -34,12 +34,12 @@ unfoldable pub lacksRoom : List ℕ → List ℕ → List ℕ → Bool
 lacksRoom s lengths ravel = ltb 0 (length lengths) and noneFor s (need lengths ravel)
 
 unfoldable pub loadRefusal : List ℕ → List ℕ → List ℕ → ℕ → List ℕ → List ℕ → ℕ
-loadRefusal s regular other g lengths ravel =
-    cond (eqb (refusal s regular other) 0)
+loadRefusal s regular alternate g lengths ravel =
+    cond (eqb (refusal s regular alternate) 0)
     (cond (isGlobal s g) (cond (isValue lengths ravel) (cond (lacksRoom s lengths ravel) 24 0) 23) 21)
-    (refusal s regular other)
+    (refusal s regular alternate)
 
 -- The segment after a load.
 unfoldable pub loaded : List ℕ → List ℕ → List ℕ → ℕ → List ℕ → List ℕ → List ℕ
-loaded s regular other g lengths ravel =
-    cond (eqb (loadRefusal s regular other g lengths ravel) 0) (storeAt s g (sourceOf lengths ravel)) s
+loaded s regular alternate g lengths ravel =
+    cond (eqb (loadRefusal s regular alternate g lengths ravel) 0) (storeAt s g (sourceOf lengths ravel)) s

@@ -22,7 +22,7 @@ seenAs w (K.Indirect t) = Refused 17
 seenAs w K.Invalid = Refused 17
 
 unfoldable pub looked : List ℕ → List ℕ → List ℕ → ℕ → Looked
-looked s regular other g =
-    cond (eqb (refusal s regular other) 0)
+looked s regular alternate g =
+    cond (eqb (refusal s regular alternate) 0)
     (cond (isGlobal s g) (seenAs (getD s g 0) (kindOf (getD s g 0))) (Refused 21))
-    (Refused (refusal s regular other))
+    (Refused (refusal s regular alternate))

@@ -26,5 +26,5 @@ abbrev pub accepted : RunResult → Ended
 accepted o = ended (runAnswer (o .answer)) (o .words)
 
 unfoldable pub ran : List ℕ → List ℕ → List ℕ → ℕ → Ended
-ran s regular other budget =
-    cond (eqb (refusal s regular other) 0) (accepted (runOf regular other s budget)) (ended (Refused (refusal s regular other)) s)
+ran s regular alternate budget =
+    cond (eqb (refusal s regular alternate) 0) (accepted (runOf regular alternate s budget)) (ended (Refused (refusal s regular alternate)) s)

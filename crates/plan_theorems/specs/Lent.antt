@@ -8,7 +8,7 @@ use Rattle.plan_theorems.specs.Fitting.{Words}
 abbrev pub Bytes : List ℕ → Type 0
 Bytes p = (i : ℕ) → getD p i 0 < 2 ^ 8
 
-pub record Lent (s regular other : List ℕ) : Type 0 where
+pub record Lent (s regular alternate : List ℕ) : Type 0 where
   pub words : Words s
   pub regularBytes : Bytes regular
-  pub otherBytes : Bytes other
+  pub otherBytes : Bytes alternate

@@ -66,25 +66,25 @@ module _ (s : List ℕ) where
   same-function : frameNumber (current s .frame) ≡ numberOf s
   same-function = rw (current s .function, same-number (codeWordAt s (lbase s)))
 
-pub header-seen : (regular other s : List ℕ) → headerIn regular other (view s) ≡ currentHeader regular other s
+pub header-seen : (regular alternate s : List ℕ) → headerIn regular alternate (view s) ≡ currentHeader regular alternate s
 unfolding currentHeader
-header-seen regular other s = rw (current s .frames, same-selector s, same-function s)
+header-seen regular alternate s = rw (current s .frames, same-selector s, same-function s)
 
-found : (regular other : List ℕ) (w : ℕ) → known regular other w ≡ true
-    → functionOf (frameSegment regular other w) (functionNumber w)
-    ≡ F.At (blockAt (frameSegment regular other w) (startOf (frameSegment regular other w) (functionNumber w)))
+found : (regular alternate : List ℕ) (w : ℕ) → known regular alternate w ≡ true
+    → functionOf (frameSegment regular alternate w) (functionNumber w)
+    ≡ F.At (blockAt (frameSegment regular alternate w) (startOf (frameSegment regular alternate w) (functionNumber w)))
 unfolding functionOf known
-found regular other w h = rw (both (ltb w (2 ^ 28)) (hasFunction (frameSegment regular other w) (functionNumber w)) h .1)
+found regular alternate w h = rw (both (ltb w (2 ^ 28)) (hasFunction (frameSegment regular alternate w) (functionNumber w)) h .1)
 
 -- The function of the current frame.
 abbrev pub current-function : List ℕ → List ℕ → List ℕ → Running
-current-function s regular other =
-    let p = frameSegment regular other (codeWordAt s (lbase s)) in
-    running regular other (selectorOf s) (blockAt p (startOf p (numberOf s)))
+current-function s regular alternate =
+    let p = frameSegment regular alternate (codeWordAt s (lbase s)) in
+    running regular alternate (selectorOf s) (blockAt p (startOf p (numberOf s)))
 
-pub header-running : (s regular other : List ℕ) → headerIn regular other (view s) ≡ headerOf (current-function s regular other)
+pub header-running : (s regular alternate : List ℕ) → headerIn regular alternate (view s) ≡ headerOf (current-function s regular alternate)
 unfolding currentHeader
-header-running s regular other = header-seen regular other s
+header-running s regular alternate = header-seen regular alternate s
 
 -- An instruction of which these effects are planned.
 pub record Decodes (s : List ℕ) (f : Running) (es : List Effect) : Type 0 where
@@ -93,18 +93,18 @@ pub record Decodes (s : List ℕ) (f : Running) (es : List Effect) : Type 0 wher
   pub byWords : planOf f (seen s) instruction next ≡ gives es
   pub byCells : planOf f (seenOf (length s - sbase s) (view s)) instruction next ≡ gives es
 
-module _ (s regular other : List ℕ) (h : Accepted s regular other) where
+module _ (s regular alternate : List ℕ) (h : Accepted s regular alternate) where
   abbrev f : Running
-  f = current-function s regular other
+  f = current-function s regular alternate
 
-  function-there : functionOf (frameSegment regular other (codeWordAt s (lbase s))) (numberOf s) ≡ F.At (f .block)
-  function-there = found regular other (codeWordAt s (lbase s)) (function-known s regular other (h .older) (lbase s) (h .chain))
+  function-there : functionOf (frameSegment regular alternate (codeWordAt s (lbase s))) (numberOf s) ≡ F.At (f .block)
+  function-there = found regular alternate (codeWordAt s (lbase s)) (function-known s regular alternate (h .older) (lbase s) (h .chain))
 
   pub runs : HasFrame s (variablesOf (headerOf f)) (headerOf f .result)
   unfolding variables arguments
-  runs = legal-theorems .runs s regular other h
+  runs = legal-theorems .runs s regular alternate h
 
-  pub runs-in : RunsIn regular other f (view s)
+  pub runs-in : RunsIn regular alternate f (view s)
   unfolding variables arguments
   runs-in =
       let c = current s in
@@ -114,7 +114,7 @@ module _ (s regular other : List ℕ) (h : Accepted s regular other) where
         current = c .frame;
         older = c .older;
         frames = c .frames;
-        size = rw (c .function) (sym (same-variables (codeWordAt s (lbase s)) regular other));
+        size = rw (c .function) (sym (same-variables (codeWordAt s (lbase s)) regular alternate));
       }
 
   -- ---- the plan
@@ -122,19 +122,19 @@ module _ (s regular other : List ℕ) (h : Accepted s regular other) where
   abbrev place : ℕ
   place = pctr (codeWordAt s (lbase s))
 
-  plan-seen : planned s regular other ≡ planAt f (seenOf (length s - sbase s) (view s)) place
+  plan-seen : planned s regular alternate ≡ planAt f (seenOf (length s - sbase s) (view s)) place
   unfolding nextPlan
   plan-seen = rw (current s .frames, same-selector s, same-function s, function-there, same-selector s, current s .place)
 
-  pub plan-is : Sound s → planned s regular other ≡ planAt f (seen s) place
+  pub plan-is : Sound s → planned s regular alternate ≡ planAt f (seen s) place
   plan-is g = plan-seen ∙ sym (plans-theorems .decoded s g f runs place)
 
-  pub step-is : Sound s → stepOf regular other s ≡ settle regular other (headerOf f .rtntrace) (carry s (planned s regular other))
+  pub step-is : Sound s → stepOf regular alternate s ≡ settle regular alternate (headerOf f .rtntrace) (carry s (planned s regular alternate))
   unfolding stepOf stepIn
   step-is g = rw (plan-is g, function-there)
 
   -- where effects are planned, they are those of an instruction, by the words and by the view
-  pub decodes : Sound s → (es : List Effect) → planned s regular other ≡ gives es → Decodes s f es
+  pub decodes : Sound s → (es : List Effect) → planned s regular alternate ≡ gives es → Decodes s f es
   unfolding planAt
   decodes g es e = go (instructionAt (codeIn f) place) (sym (plan-is g) ∙ e) (sym plan-seen ∙ e)
     where

@@ -34,27 +34,27 @@ use Rattle.step_theorems.proofs.Entering.{plan-enters}
 use Rattle.step_theorems.proofs.Current.{current-function, runs, runs-in, plan-is, decodes}
 use Rattle.step_theorems.proofs.Again.{sound-of}
 
-pub record Known (s regular other : List ℕ) (es : List Effect) : Type 0 where
+pub record Known (s regular alternate : List ℕ) (es : List Effect) : Type 0 where
   pub fitting : Fitting s es
   pub first : EntersFirst es
-  pub kept : KeepsLegal regular other (view s) es
+  pub kept : KeepsLegal regular alternate (view s) es
   pub small : AllSmall es
 
-module _ (s regular other : List ℕ) (lent : Lent s regular other) (h : Accepted s regular other) where
+module _ (s regular alternate : List ℕ) (lent : Lent s regular alternate) (h : Accepted s regular alternate) where
   abbrev f : Running
-  f = current-function s regular other
+  f = current-function s regular alternate
 
-  pub plan-known : (es : List Effect) → planned s regular other ≡ gives es → Known s regular other es
+  pub plan-known : (es : List Effect) → planned s regular alternate ≡ gives es → Known s regular alternate es
   plan-known es e =
       let sound = sound-of h in
-      let d = decodes s regular other h sound es e in
+      let d = decodes s regular alternate h sound es e in
       let i = d .instruction in
       record {
-        fitting = plans-fit .fitting s sound (lent .words) f (runs s regular other h) i (d .next) es (d .byWords);
+        fitting = plans-fit .fitting s sound (lent .words) f (runs s regular alternate h) i (d .next) es (d .byWords);
         first = plan-enters f (seen s) i (d .next) es (d .byWords);
-        kept = kept-theorems .kept (legal-theorems .split s regular other h .legal) (runs-in s regular other h) (length s - sbase s) i (d .next) (d .byCells);
-        small = bounded-theorems .plan s sound (lent .words) f (lent .regularBytes) (lent .otherBytes) (runs s regular other h)
-            (pctr (codeWordAt s (lbase s))) es (sym (plan-is s regular other h sound) ∙ e);
+        kept = kept-theorems .kept (legal-theorems .split s regular alternate h .legal) (runs-in s regular alternate h) (length s - sbase s) i (d .next) (d .byCells);
+        small = bounded-theorems .plan s sound (lent .words) f (lent .regularBytes) (lent .otherBytes) (runs s regular alternate h)
+            (pctr (codeWordAt s (lbase s))) es (sym (plan-is s regular alternate h sound) ∙ e);
       }
 
 -- ---- traps
@@ -66,7 +66,7 @@ trap-same a b class number h e =
     rw (c, n) at h
 
 -- every trap that is planned is one of the manual's list
-module _ (regular other : List ℕ) (words : ℕ) (m : Machine Cell) (class number : ℕ) where
+module _ (regular alternate : List ℕ) (words : ℕ) (m : Machine Cell) (class number : ℕ) where
   abbrev Listed : Plan → Type 0
   Listed plan = plan ≡ trap class number → listed class number ≡ true
 
@@ -74,15 +74,15 @@ module _ (regular other : List ℕ) (words : ℕ) (m : Machine Cell) (class numb
   unfolding listed
   no-code = trap-same 3 1 class number refl
 
-  found-listed : (r : Frame Cell) (f : Function) → Listed (planIn regular other words m r f)
+  found-listed : (r : Frame Cell) (f : Function) → Listed (planIn regular alternate words m r f)
   found-listed r (F.At block) =
-      traps-listed .atPlace (running regular other (frameSelector r) block) (seenOf words m) (traps-listed .machines words m) (r .pctr) .inTable class number
+      traps-listed .atPlace (running regular alternate (frameSelector r) block) (seenOf words m) (traps-listed .machines words m) (r .pctr) .inTable class number
   found-listed r F.Absent = no-code
 
-  frames-listed : (l : List (Frame Cell)) → Listed (planFrom regular other words m l)
+  frames-listed : (l : List (Frame Cell)) → Listed (planFrom regular alternate words m l)
   frames-listed [] = no-code
-  frames-listed (r ∷ older) = found-listed r (functionOf (selected (frameSelector r) regular other) (frameNumber r))
+  frames-listed (r ∷ older) = found-listed r (functionOf (selected (frameSelector r) regular alternate) (frameNumber r))
 
-  pub plan-listed : Listed (nextPlan regular other words m)
+  pub plan-listed : Listed (nextPlan regular alternate words m)
   unfolding nextPlan
   plan-listed = frames-listed (m .frames)

@@ -32,10 +32,10 @@ outcome-by P f e l (setsOrigin v ∷ es) = outcome-by P f e l es
 
 -- ---- what is due
 
-module _ (regular other : List ℕ) (rtntrace : Bool) (t : List ℕ) (es : List Effect) where
-  pub settled-effects : settled regular other rtntrace (outcomeOf es) t ≡ finished (due regular other rtntrace (outcomeOf es) t) t
+module _ (regular alternate : List ℕ) (rtntrace : Bool) (t : List ℕ) (es : List Effect) where
+  pub settled-effects : settled regular alternate rtntrace (outcomeOf es) t ≡ finished (due regular alternate rtntrace (outcomeOf es) t) t
   settled-effects =
-      outcome-by (λ o. settled regular other rtntrace o t ≡ finished (due regular other rtntrace o t) t) refl refl refl es
+      outcome-by (λ o. settled regular alternate rtntrace o t ≡ finished (due regular alternate rtntrace o t) t) refl refl refl es
 
 -- ---- the result
 
