@@ -117,7 +117,8 @@ pub words-kept : (s s′ : List ℕ) → CellsKept s s′ → 8 ≤ blockptr s �
 unfolding words
 words-kept s s′ h l k =
     let f : flags s′ ≡ flags s = h .rest 2 (omega arith) (inl (omega arith)) in
-    words-left s s′ l (ap (λ (w : ℕ). w / 2 ^ 16) (h .first)) (h .base) (λ i p q. h .rest i (omega arith) (inl (omega arith))) (λ i p q. h .rest i (omega arith) (inr p))
+    words-left s s′ l (ap (λ (w : ℕ). w / 2 ^ 16) (h .first)) (h .base) (λ i p q. h .rest i (omega arith) (inl (omega arith)))
+    (λ i p q. h .rest i (omega arith) (inr p))
     ∙ rw (f, h .first, downward-same s s′ (sbase s + lbase s + 2) (ltop s - (lbase s + 1)) (λ i p q. h .rest i (omega arith) (inr (omega arith))))
 
 -- there are fewer cells than words

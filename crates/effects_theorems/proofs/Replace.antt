@@ -85,7 +85,8 @@ module _ (s : List ℕ) (n w b : ℕ) (at : b + n ≡ sbase s + ltop s + 1) (som
   finish-words =
       let lt : ltop s′ ≡ ltop s + 1 - n = omega (arith, zero-word) in
       let fl : getD s′ 2 0 ≡ getD s 2 0 = finish-other 2 (omega arith) (omega arith) in
-      words-left s s′ low (finish-regs .0) (finish-regs .2) (λ i p q. finish-other i (omega arith) (omega arith)) (λ i p q. finish-other i (omega arith) (omega arith))
+      words-left s s′ low (finish-regs .0) (finish-regs .2) (λ i p q. finish-other i (omega arith) (omega arith))
+      (λ i p q. finish-other i (omega arith) (omega arith))
       ∙ rw (fl, lt, tops)
     where
       tops : downward s′ (sbase s + lbase s + 2) (ltop s + 1 - n - (lbase s + 1)) ≡ w ∷ drop n (downward s (sbase s + lbase s + 2) (ltop s - (lbase s + 1)))

@@ -93,7 +93,8 @@ module _ {s : List ℕ} (h : Short s) where
   short-split : (f rest size : ℕ) → rest < 2 ^ 16 → size < 2 ^ 16 → Short (split s f rest size)
   unfolding split
   short-split f rest size k l =
-      short-clear (short-set (short-set (short-set h f (2 ^ 31 + rest) (omega arith)) (f + rest - 1) rest (omega arith)) (f + rest) (2 ^ 30 + size) (omega arith)) (f + rest + size)
+      let free = short-set (short-set h f (2 ^ 31 + rest) (omega arith)) (f + rest - 1) rest (omega arith) in
+      short-clear (short-set free (f + rest) (2 ^ 30 + size) (omega arith)) (f + rest + size)
 
   short-whole : (f slop size : ℕ) → slop < 2 ^ 16 → size < 2 ^ 16 → Short (givenWhole s f slop size)
   unfolding givenWhole
