@@ -150,22 +150,25 @@ mod plain {
     }
 }
 
-#[inline(never)]
-fn plainly(suboperation: u32, a: &[u32], b: &[u32], out: &mut [u32]) -> usize {
+fn each(operator: impl Fn(u32, u32) -> plain::Answer, a: &[u32], b: &[u32], out: &mut [u32]) -> usize {
     let mut traps = 0;
     for ((a, b), out) in a.iter().zip(b).zip(out) {
-        let answer = match suboperation {
-            SUM => plain::sum(*a, *b),
-            PRODUCT => plain::product(*a, *b),
-            QUOTIENT => plain::quotient(*a, *b),
-            _ => plain::less(*a, *b),
-        };
-        match answer {
+        match operator(*a, *b) {
             Ok(w) => *out = w,
             Err(_) => traps += 1,
         }
     }
     traps
+}
+
+#[inline(never)]
+fn plainly(suboperation: u32, a: &[u32], b: &[u32], out: &mut [u32]) -> usize {
+    match suboperation {
+        SUM => each(plain::sum, a, b, out),
+        PRODUCT => each(plain::product, a, b, out),
+        QUOTIENT => each(plain::quotient, a, b, out),
+        _ => each(plain::less, a, b, out),
+    }
 }
 
 /// The least time of an element, in nanoseconds, over many short runs of each, one after the other.

@@ -4,13 +4,27 @@ ghost use mathlib.Core.Path.{_≡_};
 ghost use Prim.Native.Nat.{_≤_};
 ghost use Rattle.manual.specs.Values.{extent};
 ghost use Rattle.elements.specs.Answers.{Paired};
-use crate::suboperation::dyadic_of;
 use elements::Finished;
+use operator::Dyadic;
 
 fn number(r: Finished) -> u32 {
     match r {
         Finished::Done => 0,
         Finished::Trap(class, number) => class as u32 * 256 + number as u32,
+    }
+}
+
+// The operator of a suboperation number; of any other than these, EQUAL.
+fn dyadic_of(number: u32) -> Dyadic {
+    match number {
+        8 => Dyadic::Sum,
+        9 => Dyadic::Difference,
+        10 => Dyadic::Product,
+        11 => Dyadic::Quotient,
+        12 => Dyadic::LogicalProduct,
+        13 => Dyadic::LogicalSum,
+        14 => Dyadic::Less,
+        _ => Dyadic::Equal,
     }
 }
 

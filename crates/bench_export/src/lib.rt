@@ -5,4 +5,3 @@ mod code_walk;
 mod element_loops;
 mod judgement;
 mod scalar_loops;
-mod suboperation;

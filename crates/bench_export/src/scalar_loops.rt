@@ -1,9 +1,8 @@
-// The scalar operators over lent words, for a program in another language to time (bench/scalar). Results go to `out`; the
+// Four scalar operators over lent words, for a program in another language to time (bench/scalar). Results go to `out`; the
 // answer is how many elements trapped, whose place in `out` is left as it was. Slices of other lengths than `a` are left alone.
 ghost use Prim.Native.Nat.{_≤_, _<_};
 ghost use mathlib.Core.Path.{_≡_};
 ghost use lib.ListN.{length};
-use crate::suboperation::dyadic_of;
 use operator::Dyadic;
 use scalar::Answer;
 
@@ -15,7 +14,13 @@ pub extern "C" fn scalar_dyadic(suboperation: u32, a: &[u32], b: &[u32], out: &m
     if out.len() != a.len() {
         return 0;
     }
-    each(dyadic_of(suboperation), a, b, out)
+    match suboperation {
+        8 => each(Dyadic::Sum, a, b, out),
+        10 => each(Dyadic::Product, a, b, out),
+        11 => each(Dyadic::Quotient, a, b, out),
+        14 => each(Dyadic::Less, a, b, out),
+        _ => 0,
+    }
 }
 
 fn each(operator: Dyadic, a: &[u32], b: &[u32], out: &mut [u32]) -> usize
