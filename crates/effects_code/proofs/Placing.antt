@@ -19,7 +19,7 @@ use Rattle.segment.specs.Blocks.{sizeAt, nextAt, need}
 use Rattle.storage.specs.declared.request.Found.the-variants.{At, Full}
 use Rattle.storage.specs.Found.{found}
 use Rattle.storage.specs.Request.{findFrom, find, given, requestAt}
-use Rattle.storage.specs.Arrays.{place, placeAt, drop, drops}
+use Rattle.storage.specs.Arrays.{place, placeAt, dropWord, dropWords}
 use Rattle.storage.proofs.Placing.{at-some}
 use Rattle.manual.specs.Effects.{made, Effect}
 use Rattle.effects.specs.Sources.{addressOf, heldAt}
@@ -70,11 +70,11 @@ module _ (s shape ravel : List ℕ) (e : Effect) (asks : wanted s e ≡ need sha
 
 -- the words after a block is found
 module _ (s shape ravel : List ℕ) (block : SegmentAddress) (at : found (placeAt s shape ravel) ≡ At block) where
-  pub replace-block : (n : ℕ) → finish (drops n (place s shape ravel) (bottomOf s n)) (bottomOf s n) (arrayWord (block .0)) ≡ replace s n (made shape ravel)
+  pub replace-block : (n : ℕ) → finish (dropWords n (place s shape ravel) (bottomOf s n)) (bottomOf s n) (arrayWord (block .0)) ≡ replace s n (made shape ravel)
   unfolding replace
   replace-block n = rw (← at-some _ block at .1)
 
-  pub store-block : (t : Target) → drop (set (place s shape ravel) (addressOf s t) (arrayWord (block .0))) (heldAt s t) ≡ store s t (made shape ravel)
+  pub store-block : (t : Target) → dropWord (set (place s shape ravel) (addressOf s t) (arrayWord (block .0))) (heldAt s t) ≡ store s t (made shape ravel)
   unfolding store storeAt
   store-block t = rw (← at-some _ block at .1)
 
