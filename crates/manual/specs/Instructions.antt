@@ -11,7 +11,7 @@ use Rattle.procedure.specs.declared.header.Header.{Header}
 use Rattle.procedure.specs.declared.header.Block.{Block}
 use Rattle.procedure.specs.Bytes.{wordAt}
 use Rattle.procedure.specs.Headers.{codeOf, lineOf}
-use Rattle.procedure.specs.Directory.{selected, inDirectory, headerOfFunction}
+use Rattle.procedure.specs.Directory.{selected, hasFunction, headerOfFunction}
 use Rattle.instruction.specs.declared.Address.{Address}
 use Rattle.instruction.specs.declared.Address.the-variants as A
 use Rattle.instruction.specs.declared.MemoryOperation.{MemoryOperation}
@@ -105,7 +105,7 @@ jumpPlan f seen next J.GoFalse place = control.goIf seen (headerOf f) next false
 -- A function that is not in its directory is (3,1), before anything else is looked at: "CALL's counts as a fetch trap".
 abbrev pub callPlan : Running → Seen → ℕ → ℕ → Bool → ℕ → Plan
 callPlan f seen next arguments alternate number =
-    stopIf (not (inDirectory alternate (f .regular) (f .alternate) number)) 3 1
+    stopIf (not (hasFunction (selected alternate (f .regular) (f .alternate)) number)) 3 1
     (control.call seen next (headerOfFunction (selected alternate (f .regular) (f .alternate)) number) alternate number arguments)
 
 -- The plan of an instruction, after which stands the code place `next`. Numbers have as many bits as their fields.
