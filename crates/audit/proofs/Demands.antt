@@ -2,7 +2,7 @@
 use Prim.Native.Nat.{ℕ, _-_, _≤_}
 use mathlib.Core.Path.{_≡_, refl, sym, _∙_, ap, subst}
 use mathlib.Core.Bool.{true, false}
-use mathlib.Core.Logic.{_↔_, _≢_, _⊎_, inl, inr, ⊎-elim}
+use mathlib.Core.Logic.{_↔_, _≢_, inl, inr, ⊎-elim}
 use mathlib.Core.List.{List, [], _∷_, map}
 use native.Mathlib.Omega.{arith}
 use lib.ListN.{length}
@@ -43,16 +43,8 @@ use Rattle.audit.proofs.Load.{load-did, load-words, load-full}
 
 -- ---- what is answered that is not refused
 
-told : (s : List ℕ) (a : Answer) (c : Cell) → Tells s a c → ((w : ℕ) × (a ≡ scalar w)) ⊎ ((block : ℕ) × (a ≡ array block))
-told s (scalar w) c h = inl (w, refl)
-told s (array block) c h = inr (block, refl)
-told s (refused n) c h = absurd h
-told s done c h = absurd h
-told s (ran n) c h = absurd h
-told s (trapped n) c h = absurd h
-
 told-unrefused : (s : List ℕ) (a : Answer) (c : Cell) → Tells s a c → refusalOf a ≡ 0
-told-unrefused s a c h = ⊎-elim (λ k. ap refusalOf (k .1)) (λ k. ap refusalOf (k .1)) (told s a c h)
+told-unrefused s a c h = ⊎-elim (λ k. ap refusalOf (k .1)) (λ k. ap refusalOf (k .1)) h
 
 run-unrefused : {p : Procedures} {budget : ℕ} {s t : List ℕ} {a : Answer} → Runs p budget 0 s a t → refusalOf a ≡ 0
 run-unrefused r = ⊎-elim (λ k. ap refusalOf k) (λ k. ap refusalOf (k .1)) (run-answers r)
@@ -78,7 +70,7 @@ answers (isRefused d e) z = absurd (d z)
 answers (isLaidOut e h) z = refl
 answers (hasRun e h) z = run-answers (h .steps)
 answers (isLoaded e h) z = refl
-answers {s = s} (hasTold {g = g} {answer = answer} e h) z = told s answer (held s g) h
+answers {s = s} (hasTold {g = g} {answer = answer} e h) z = ⊎-elim (λ k. inl (k .0, k .1)) (λ k. inr (k .0, k .1)) h
 
 -- what a call leaves, by the definitions
 abbrev Made : List ℕ → Call → Type 0

@@ -2,7 +2,7 @@
 use Prim.Native.Nat.{ℕ, _+_, _≤_, _<_}
 use mathlib.Core.Path.{_≡_, refl, sym, _∙_, subst}
 use mathlib.Core.Bool.{Bool, true, false, cond, not}
-use mathlib.Core.Logic.{_≢_}
+use mathlib.Core.Logic.{_≢_, inl, inr}
 use mathlib.Core.List.{List, [], _∷_}
 use native.Mathlib.Omega.{arith}
 use lib.Dec.{leb, ltb, eqb}
@@ -64,11 +64,11 @@ module _ (s : List ℕ) (a : ℕ) where
 module _ (s : List ℕ) (v : ℕ) where
   tells : (k : Kind) → DirectCell (cellOfKind s v k) → isUndefined (cellOfKind s v k) ≡ false → readKind s v k ≡ cellOfKind s v k
       → Tells s (lookAnswer (seenAs v k)) (cellOfKind s v k)
-  tells (K.Scalar k) d u r = refl
-  tells (K.Array a) d u r = parts-seen s (a .0) (read-whole (whole s (a .0)) (shapeAt s (a .0)) (elementsAt s (a .0)) r)
-  tells (K.Indirect t) d u r = d
+  tells (K.Scalar k) d u r = inl (v, refl, refl)
+  tells (K.Array a) d u r = inr (a .0, refl, parts-seen s (a .0) (read-whole (whole s (a .0)) (shapeAt s (a .0)) (elementsAt s (a .0)) r))
+  tells (K.Indirect t) d u r = absurd d
   tells K.Undefined d u r = never u
-  tells K.Invalid d u r = d
+  tells K.Invalid d u r = absurd d
 
   tells-none : (k : Kind) → isUndefined (cellOfKind s v k) ≡ true → seenAs v k ≡ Refused 22
   tells-none (K.Scalar k) u = never (sym u)

@@ -2,7 +2,7 @@
 -- four operations; every public operation's contract is this relation. Assumes nothing.
 use Prim.Native.Nat.{ℕ}
 use mathlib.Core.Path.{_≡_}
-use mathlib.Core.Logic.{_↔_, _≢_}
+use mathlib.Core.Logic.{_↔_, _≢_, _⊎_}
 use mathlib.Core.List.{List, [], _∷_}
 use lib.Dec.{eqb}
 use lib.ListN.{length, set}
@@ -18,7 +18,7 @@ use Rattle.manual.specs.Effects as manual
 use Rattle.plan_theorems.specs.Fitting.{Words}
 use Rattle.fresh_segment.specs.LayOut.{Layout, localsOf}
 use Rattle.fresh_segment.specs.FreshWords.{FreshWords}
-use Rattle.audit.specs.Calls.{Procedures, Call, layOut, run, load, look, Answer, refused, done, ran, trapped, scalar, array, firstFailed, tests, Passes, held, LentCall}
+use Rattle.audit.specs.Calls.{Procedures, Call, layOut, run, load, look, Answer, refused, done, ran, scalar, array, firstFailed, tests, Passes, held, LentCall}
 use Rattle.audit.specs.Runs.{Runs, SomeRequestInVain, ReportsFull}
 
 -- The fresh segment: every word of it is said.
@@ -47,12 +47,9 @@ pub record Loaded (s : List ℕ) (p : Procedures) (g : ℕ) (lengths ravel : Lis
 
 -- What an answer tells of a cell: a scalar's word, or the parts of the lent segment that are its shape and ravel.
 abbrev pub Tells : List ℕ → Answer → Cell → Type 0
-Tells s (scalar w) c = c ≡ value [] (w ∷ [])
-Tells s (array block) c = c ≡ value (shapePart s block) (elementsPart s block)
-Tells s (refused number) c = ⊥
-Tells s done c = ⊥
-Tells s (ran steps) c = ⊥
-Tells s (trapped steps) c = ⊥
+Tells s answer c =
+    ((w : ℕ) × (answer ≡ scalar w) × (c ≡ value [] (w ∷ [])))
+    ⊎ ((block : ℕ) × (answer ≡ array block) × (c ≡ value (shapePart s block) (elementsPart s block)))
 
 pub data Did (s : List ℕ) : Call → Answer → List ℕ → Type 0 where
   -- by the first test of the table that fails, and no word changes

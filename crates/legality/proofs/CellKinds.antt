@@ -15,7 +15,7 @@ use Rattle.descriptor.specs.Fields.{sign, isFloat, typeNumber, rest, isArray, a
 use Rattle.descriptor.specs.Kinds.{segment, stack, kindOf, integerKind, characterKind, arrayKind, indirectKind, undefinedKind, unsignedKind, scalarKind, isScalar}
 use Rattle.descriptor.specs.Inverse.{targetWord, TargetFits}
 use Rattle.descriptor.proofs.Inverse.{inverse, pick}
-use Rattle.segment.specs.Cells.{Cell, undefined, indirect, invalid, cell, cellOfKind}
+use Rattle.segment.specs.Cells.{Cell, indirect, invalid, cell, cellOfKind}
 use Rattle.storage_theorems.proofs.Cells.{array-of}
 use Rattle.acceptance_storage.proofs.Tests.{never, fails, by-le}
 use Rattle.acceptance.specs.Cells.{isIndirect}
@@ -62,10 +62,6 @@ module _ (w : ℕ) where
 -- ---- what a word is seen as
 
 module _ (s : List ℕ) where
-  pub undefined-cell : cell s undefinedWord ≡ undefined
-  unfolding cell
-  undefined-cell = rw (inverse .readBack K.Undefined tt)
-
   pub target-cell : (t : Target) → TargetFits t → cell s (targetWord t) ≡ indirect t
   unfolding cell
   target-cell t h = rw (inverse .readBack (K.Indirect t) h)

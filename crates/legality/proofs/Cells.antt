@@ -17,6 +17,7 @@ use Rattle.segment.specs.Stack.{stackAt, downward}
 use Rattle.segment.specs.Cells.{Cell, undefined, indirect, cell}
 use Rattle.segment.specs.Machine.{Frame}
 use Rattle.segment.specs.View.{words, view}
+use Rattle.segment.proofs.Runs.{part-length, downward-length}
 use Rattle.manual.specs.Effects.{look, InFrames}
 use Rattle.acceptance.specs.Cells.{isIndirect}
 use Rattle.acceptance.specs.Structure as onWords
@@ -24,7 +25,7 @@ use Rattle.legality.specs.Legal.{DirectCell, NamesDirect, Allowed}
 use Rattle.legality.proofs.CellKinds.{target-cell, direct-cell, not-indirect, valid-word}
 use Rattle.manual.proofs.Cellwise.{global-in}
 use Rattle.legality.proofs.Legal.{direct-allowed}
-use Rattle.legality.proofs.Frames.{downward-length, part-length, downward-seen, part-seen}
+use Rattle.legality.proofs.Frames.{downward-seen, part-seen}
 use Rattle.legality.proofs.Stacked.{Stacked, stacked, variable-low, variable-seen, variable-word, variable-in, look-is}
 
 module _ (s : List ℕ) where

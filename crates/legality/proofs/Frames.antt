@@ -1,7 +1,7 @@
 -- The frames of the view by the words of the segment: how many cells each has, where each cell stands, how deep the older ones
 -- are, and what is seen at a stack address.
-use Prim.Native.Nat.{ℕ, zero, suc, _+_, _-_, _/_, _^_, _<_, _≤_}
-use mathlib.Core.Path.{_≡_, refl, sym, _∙_, ap}
+use Prim.Native.Nat.{ℕ, suc, _+_, _-_, _/_, _^_, _<_, _≤_}
+use mathlib.Core.Path.{_≡_, sym, _∙_, ap}
 use mathlib.Core.List.{List, [], _∷_, map}
 use native.Mathlib.Omega.{arith}
 use lib.ListN.{getD, length, length-map, List·getD-map}
@@ -13,38 +13,18 @@ use Rattle.segment.specs.Stack.{stackAt, lastLbaseAt, codeWordAt, pctr, downwar
 use Rattle.segment.specs.Cells.{Cell, undefined, cell}
 use Rattle.segment.specs.Machine.{Frame, mapFrames}
 use Rattle.segment.specs.View.{framesFrom}
-use Rattle.legality.proofs.CellKinds.{undefined-cell}
+use Rattle.segment.proofs.Runs.{getD-part, downward-length, getD-downward, undefined-cell}
 
--- ---- runs of words
-
-pub downward-length : (s : List ℕ) (a n : ℕ) → length (downward s a n) ≡ n
-downward-length s a zero = refl
-downward-length s a (suc n) = ap suc (downward-length s a n)
-
-downward-at : (s : List ℕ) (a n i z : ℕ) → i < n → getD (downward s a n) i z ≡ getD s (a + n - 1 - i) 0
-downward-at s a zero i z h = absurd (omega arith)
-downward-at s a (suc n) zero z h = let e : a + suc n - 1 - 0 ≡ a + n = omega arith in rw e
-downward-at s a (suc n) (suc i) z h = let e : a + suc n - 1 - suc i ≡ a + n - 1 - i = omega arith in rw e (downward-at s a n i z (omega arith))
-
-pub part-length : (s : List ℕ) (a n : ℕ) → length (part s a n) ≡ n
-part-length s a zero = refl
-part-length s a (suc n) = ap suc (part-length s (a + 1) n)
-
-part-at : (s : List ℕ) (a n i z : ℕ) → i < n → getD (part s a n) i z ≡ getD s (a + i) 0
-part-at s a zero i z h = absurd (omega arith)
-part-at s a (suc n) zero z h = let e : a + 0 ≡ a = omega arith in rw e
-part-at s a (suc n) (suc i) z h = let e : a + suc i ≡ a + 1 + i = omega arith in rw e (part-at s (a + 1) n i z (omega arith))
-
--- what is seen of one of them
+-- what is seen of a run of words
 module _ (s : List ℕ) where
   seen-at : (l : List ℕ) (i : ℕ) → getD (map (cell s) l) i undefined ≡ cell s (getD l i undefinedWord)
   seen-at l i = ap (λ (c : Cell). getD (map (cell s) l) i c) (sym (undefined-cell s)) ∙ List·getD-map (cell s) l i undefinedWord
 
   pub downward-seen : (a n i : ℕ) → i < n → getD (map (cell s) (downward s a n)) i undefined ≡ cell s (getD s (a + n - 1 - i) 0)
-  downward-seen a n i h = seen-at (downward s a n) i ∙ ap (cell s) (downward-at s a n i undefinedWord h)
+  downward-seen a n i h = seen-at (downward s a n) i ∙ ap (cell s) (getD-downward s a n i undefinedWord h)
 
   pub part-seen : (a n i : ℕ) → i < n → getD (map (cell s) (part s a n)) i undefined ≡ cell s (getD s (a + i) 0)
-  part-seen a n i h = seen-at (part s a n) i ∙ ap (cell s) (part-at s a n i undefinedWord h)
+  part-seen a n i h = seen-at (part s a n) i ∙ ap (cell s) (getD-part s a n i undefinedWord h)
 
 -- ---- frames
 

@@ -18,6 +18,7 @@ use Rattle.acceptance.specs.Frames.{known, variables}
 use Rattle.acceptance.specs.Cells.{isIndirect}
 use Rattle.acceptance.specs.Structure.{frameStart, localsOf, VariableOf, DirectOrIndirect, FrameCells, StackCells, Accepted}
 use Rattle.acceptance.specs.Structure as onWords
+use Rattle.acceptance.proofs.Owners.{first-frame}
 use Rattle.effects.specs.Sound as sound
 use Rattle.legality.specs.Legal.{DirectCell, Allowed, LegalFrame, LegalFrames, bottom, Legal}
 use Rattle.legality.specs.Accepted.{Whole}
@@ -48,10 +49,6 @@ module _ (A : ℕ → Type 0) (s regular alternate : List ℕ) (near : blockptr 
   variables-valid [] base top fits c a (inr v) n = absurd v
   variables-valid (next ∷ older) base top fits c a (inl v) n = own-valid base top (next ∷ older) (λ b u. fits b (inr u)) (c .0) a (v .0) (v .1) n
   variables-valid (next ∷ older) base top fits c a (inr v) n = variables-valid older next (frameStart s regular alternate base) (λ b u. fits b (inr u)) (c .1) a v n
-
-first-frame : (A : ℕ → Type 0) (older : List ℕ) {s regular alternate : List ℕ} {base top : ℕ} → StackCells A s regular alternate base top older → FrameCells A s regular alternate base top older
-first-frame A [] h = h
-first-frame A (next ∷ older) h = h .0
 
 -- ---- frames
 

@@ -33,10 +33,11 @@ use Rattle.effects_theorems.proofs.Plans.{plans-theorems}
 use Rattle.legality.proofs.FunctionWord.{same-alternate, same-number, same-variables}
 use Rattle.legality.proofs.Runs.{function-known}
 use Rattle.legality.proofs.Accepted.{legal-theorems}
+use Rattle.legality.specs.Legal.{functionWord}
 use Rattle.legality.specs.Kept.{RunsIn}
 use Rattle.effects.specs.Carried.{carry}
 use Rattle.effects.specs.Step.{selectorOf, numberOf, currentHeader, settle, stepIn, stepOf}
-use Rattle.step_theorems.specs.Planned.{frameSelector, frameNumber, nextPlan, planned, headerIn}
+use Rattle.step_theorems.specs.Planned.{frameSelector, nextPlan, planned, headerIn}
 
 -- ---- the first frame of the view
 
@@ -63,7 +64,7 @@ module _ (s : List ℕ) where
   same-selector : frameSelector (current s .frame) ≡ selectorOf s
   same-selector = rw (current s .function, same-alternate (codeWordAt s (lbase s)))
 
-  same-function : frameNumber (current s .frame) ≡ numberOf s
+  same-function : functionNumber (functionWord (current s .frame)) ≡ numberOf s
   same-function = rw (current s .function, same-number (codeWordAt s (lbase s)))
 
 pub header-seen : (regular alternate s : List ℕ) → headerIn regular alternate (view s) ≡ currentHeader regular alternate s

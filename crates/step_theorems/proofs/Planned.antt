@@ -6,12 +6,13 @@ use mathlib.Core.List.{List, [], _∷_}
 use lib.ListN.{length}
 use Rattle.procedure.specs.declared.directory.Function.{Function}
 use Rattle.procedure.specs.declared.directory.Function.the-variants as F
-use Rattle.procedure.specs.Directory.{selected, functionOf}
+use Rattle.procedure.specs.Directory.{functionOf}
 use Rattle.segment.specs.State.{sbase, lbase}
-use Rattle.segment.specs.Stack.{codeWordAt, pctr}
+use Rattle.segment.specs.Stack.{codeWordAt, functionNumber, pctr}
 use Rattle.segment.specs.Cells.{Cell}
 use Rattle.segment.specs.Machine.{Frame, Machine}
 use Rattle.segment.specs.View.{view}
+use Rattle.acceptance.specs.Frames.{frameSegment}
 use Rattle.acceptance.specs.Structure.{Accepted}
 use Rattle.manual.specs.OrTrap.{gives, trap}
 use Rattle.manual.specs.Effects.{Effect, Plan}
@@ -27,9 +28,10 @@ use Rattle.plan_theorems.specs.Lent.{Lent}
 use Rattle.plan_theorems.specs.Bounded.{AllSmall}
 use Rattle.plan_theorems.proofs.Bounded.{bounded-theorems}
 use Rattle.legality.proofs.Accepted.{legal-theorems}
+use Rattle.legality.specs.Legal.{functionWord}
 use Rattle.legality.specs.Kept.{KeepsLegal}
 use Rattle.legality.proofs.Kept.{kept-theorems}
-use Rattle.step_theorems.specs.Planned.{frameSelector, frameNumber, planIn, planFrom, nextPlan, planned}
+use Rattle.step_theorems.specs.Planned.{frameSelector, planIn, planFrom, nextPlan, planned}
 use Rattle.step_theorems.proofs.Entering.{plan-enters}
 use Rattle.step_theorems.proofs.Current.{current-function, runs, runs-in, plan-is, decodes}
 use Rattle.step_theorems.proofs.Again.{sound-of}
@@ -81,7 +83,7 @@ module _ (regular alternate : List ℕ) (words : ℕ) (m : Machine Cell) (class 
 
   frames-listed : (l : List (Frame Cell)) → Listed (planFrom regular alternate words m l)
   frames-listed [] = no-code
-  frames-listed (r ∷ older) = found-listed r (functionOf (selected (frameSelector r) regular alternate) (frameNumber r))
+  frames-listed (r ∷ older) = found-listed r (functionOf (frameSegment regular alternate (functionWord r)) (functionNumber (functionWord r)))
 
   pub plan-listed : Listed (nextPlan regular alternate words m)
   unfolding nextPlan

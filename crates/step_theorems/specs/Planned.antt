@@ -8,24 +8,22 @@ use lib.ListN.{length}
 use Rattle.procedure.specs.declared.header.Header.{Header}
 use Rattle.procedure.specs.declared.directory.Function.{Function}
 use Rattle.procedure.specs.declared.directory.Function.the-variants as F
-use Rattle.procedure.specs.Directory.{selected, functionOf, headerOfFunction}
+use Rattle.procedure.specs.Directory.{functionOf, headerOfFunction}
 use Rattle.segment.specs.State.{sbase}
 use Rattle.segment.specs.Stack.{alternate, functionNumber}
 use Rattle.segment.specs.Cells.{Cell}
 use Rattle.segment.specs.Machine.{Frame, Machine}
 use Rattle.segment.specs.View.{view}
+use Rattle.acceptance.specs.Frames.{frameSegment}
 use Rattle.manual.specs.OrTrap.{trap}
 use Rattle.manual.specs.Effects.{Plan}
 use Rattle.manual.specs.Seen.{seenOf}
 use Rattle.manual.specs.Instructions.{running, planAt}
 use Rattle.legality.specs.Legal.{functionWord}
 
--- P of a frame, and its function's number.
+-- P of a frame.
 abbrev pub frameSelector : Frame Cell → Bool
 frameSelector r = eqb (alternate (functionWord r)) 1
-
-abbrev pub frameNumber : Frame Cell → ℕ
-frameNumber r = functionNumber (functionWord r)
 
 abbrev pub planIn : List ℕ → List ℕ → ℕ → Machine Cell → Frame Cell → Function → Plan
 planIn regular other words m r (F.At block) = planAt (running regular other (frameSelector r) block) (seenOf words m) (r .pctr)
@@ -33,7 +31,7 @@ planIn regular other words m r F.Absent = trap 3 1
 
 abbrev pub planFrom : List ℕ → List ℕ → ℕ → Machine Cell → List (Frame Cell) → Plan
 planFrom regular other words m [] = trap 3 1
-planFrom regular other words m (r ∷ older) = planIn regular other words m r (functionOf (selected (frameSelector r) regular other) (frameNumber r))
+planFrom regular other words m (r ∷ older) = planIn regular other words m r (functionOf (frameSegment regular other (functionWord r)) (functionNumber (functionWord r)))
 
 -- On a stack of `words` words.
 unfoldable pub nextPlan : List ℕ → List ℕ → ℕ → Machine Cell → Plan
@@ -46,7 +44,7 @@ planned s regular other = nextPlan regular other (length s - sbase s) (view s)
 -- The header of the current frame's function. A machine has at least one frame.
 abbrev pub headerFrom : List ℕ → List ℕ → List (Frame Cell) → Header
 headerFrom regular other [] = headerOfFunction regular 0
-headerFrom regular other (r ∷ older) = headerOfFunction (selected (frameSelector r) regular other) (frameNumber r)
+headerFrom regular other (r ∷ older) = headerOfFunction (frameSegment regular other (functionWord r)) (functionNumber (functionWord r))
 
 abbrev pub headerIn : List ℕ → List ℕ → Machine Cell → Header
 headerIn regular other m = headerFrom regular other (m .frames)
