@@ -1,7 +1,7 @@
 -- A cell's test passes exactly where the cell is of one of its kinds.
 use Prim.Native.Nat.{ℕ, _+_, _/_, _%_, _^_, _<_, _≤_}
 use mathlib.Core.Path.{_≡_, refl, ap}
-use mathlib.Core.Bool.{Bool, true, false, cond, not}
+use mathlib.Core.Bool.{Bool, true, false, not}
 use mathlib.Core.List.{List}
 use mathlib.Core.Logic.{_⊎_, inl, inr}
 use native.Mathlib.Omega.{arith}
@@ -12,14 +12,9 @@ use Rattle.descriptor.specs.Fields.{isArray, address, undefinedWord, localWord,
 use Rattle.descriptor.specs.Kinds.{isScalar}
 use Rattle.segment.specs.State.{sbase, blockptr}
 use Rattle.storage.specs.Heap.{count}
-use Rattle.acceptance_storage.specs.Tests.{_and_}
-use Rattle.acceptance_storage.proofs.Tests.{both, passes}
+use Rattle.acceptance_storage.proofs.Tests.{both, passes, either}
 use Rattle.acceptance.specs.Cells.{inList, isIndirect, isGlobal, direct, pointing, freeCell}
 use Rattle.acceptance.specs.Structure.{VariableOf, Direct, NamesGlobal, NamesVariable, DirectOrIndirect}
-
-either : (a : Bool) {b : Bool} → b ≡ true → cond a true b ≡ true
-either true e = refl
-either false e = e
 
 module _ (arrays : ℕ → ℕ) (w : ℕ) where
   pub direct-sound : direct arrays w ≡ true → Direct (λ a. 1 ≤ arrays a) w

@@ -12,7 +12,8 @@ use Rattle.segment.specs.Stack.{lastLbaseAt, codeWordAt, functionNumber}
 use Rattle.procedure.specs.declared.header.Header.{Header}
 use Rattle.procedure.specs.Directory.{headerOfFunction}
 use Rattle.acceptance_storage.specs.Tests.{_and_}
-use Rattle.acceptance_storage.proofs.Tests.{by-le, by-eq, both}
+use Rattle.descriptor.proofs.Truth.{by-le, by-eq}
+use Rattle.acceptance_storage.proofs.Tests.{both}
 use Rattle.acceptance.specs.Frames.{segmentOf, known, arguments, variables, framesFrom, framesTest, FrameAt}
 
 module _ (has : ℕ → Bool) (size : ℕ → ℕ) (s : List ℕ) (base : ℕ) where

@@ -7,7 +7,8 @@ use native.Mathlib.Omega.{arith}
 use lib.Dec.{leb}
 use borrow.Author.Tests.{leb-true, eqb-true, le-leb, eq-eqb, ne-eqb}
 use Rattle.segment.specs.Stack.{lastLbaseAt, codeWordAt}
-use Rattle.acceptance_storage.proofs.Tests.{never, by-eq, both}
+use Rattle.descriptor.proofs.Truth.{by-eq}
+use Rattle.acceptance_storage.proofs.Tests.{never, both}
 use Rattle.acceptance.specs.Frames.{known, variables, framesFrom}
 use Rattle.acceptance.specs.Structure.{Chain}
 

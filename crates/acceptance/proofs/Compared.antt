@@ -12,15 +12,15 @@ use Rattle.segment.specs.State.{blockptr}
 use Rattle.segment.specs.Blocks.{freeAt, spanAt, countAt, dummy}
 use Rattle.storage.specs.Heap.{Block, free, array, Walk, over, count}
 use Rattle.storage_theorems.proofs.Walks.{over-le}
-use Rattle.storage_theorems.proofs.Counts.{hit-eq, hit-not, hit-same}
+use Rattle.storage_theorems.proofs.Counts.{hit-eq, hit-not, hit-same, count-le}
 use Rattle.segment.specs.View.{owners}
 use Rattle.acceptance_storage.specs.Tests.{every}
 use Rattle.acceptance_storage.specs.Head.{Head}
 use Rattle.acceptance_storage.specs.Blocks.{walkFrom, walkTest, startsFrom, arrayStarts, blocksTest}
 use Rattle.acceptance_storage.specs.Marks.{Tally}
 use Rattle.acceptance_storage.specs.Structure.{arrays}
-use Rattle.acceptance_storage.proofs.Tests.{by-eq, both}
-use Rattle.acceptance_storage.proofs.Tallies.{count-le}
+use Rattle.descriptor.proofs.Truth.{by-eq}
+use Rattle.acceptance_storage.proofs.Tests.{both}
 use Rattle.acceptance_storage.proofs.Starts.{starts-few, starts-end, array-hit, array-miss}
 use Rattle.acceptance_storage.proofs.Tiling.{Tiled, walk-sound, walk-starts}
 use Rattle.acceptance.specs.Counts.{countTest, countsTest}

@@ -9,8 +9,9 @@ use lib.ListN.{getD}
 use Rattle.segment.specs.State.{sbase, blockptr}
 use Rattle.segment.specs.Stack.{stackAt, lastLbaseAt, codeWordAt}
 use Rattle.storage.specs.Heap.{count}
-use Rattle.acceptance_storage.specs.Tests.{_and_, words}
-use Rattle.acceptance_storage.proofs.Tests.{both, passes, by-le}
+use Rattle.acceptance_storage.specs.Tests.{words}
+use Rattle.descriptor.proofs.Truth.{by-le}
+use Rattle.acceptance_storage.proofs.Tests.{both, passes}
 use Rattle.acceptance.specs.Frames.{arguments, variables}
 use Rattle.acceptance.specs.Cells.{inList, range, plainCell, freeCell, variablesFrom, frameCells, cellsFrom}
 use Rattle.acceptance.specs.Structure.{Chain, startOf, localsOf, VariableOf, FrameCells, StackCells}

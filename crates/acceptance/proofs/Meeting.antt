@@ -1,7 +1,7 @@
 -- Cells met one after the other: each is one mark more at the array that it points to.
 use Prim.Native.Nat.{ℕ, _+_, _/_, _%_, _^_, _<_, _≤_}
 use mathlib.Core.Path.{_≡_, refl, sym, _∙_}
-use mathlib.Core.Bool.{Bool, true, false, cond, not}
+use mathlib.Core.Bool.{Bool, true, false, cond}
 use mathlib.Core.List.{List, [], _∷_, _++_}
 use mathlib.Core.Logic.{⊎-elim}
 use native.Mathlib.Numerals.{add-one}
@@ -10,7 +10,7 @@ use lib.ListN.{getD, set, length, drop, drop-of-length-le, List·getD-eq-default
 use lib.Seq.{drop-cons}
 use lib.Dec.{leb, eqb}
 use borrow.Author.Tests.{leb-true, leb-false, eqb-true, eqb-false, le-leb, lt-leb, eq-eqb, ne-eqb}
-use Rattle.descriptor.specs.Fields.{isArray, address, arrayWord, undefinedWord}
+use Rattle.descriptor.specs.Fields.{integerLimit, isArray, address, arrayWord, undefinedWord}
 use Rattle.descriptor.specs.Kinds.{isScalar}
 use Rattle.descriptor.proofs.Scalars.{small-scalar, large-scalar}
 use Rattle.storage.specs.Heap.{hit, count}
@@ -173,7 +173,7 @@ free-alike s variable a b same w = rw (direct-alike a b same w)
 
 -- The kinds of a cell in the order of the code.
 module _ (arrays : ℕ → ℕ) (w : ℕ) (fits : w < 2 ^ 32) where
-  pub direct-small : w ≤ 8388607 → true ≡ direct arrays w
+  pub direct-small : w ≤ integerLimit → true ≡ direct arrays w
   unfolding direct
   direct-small l = let e : isScalar w ≡ true = small-scalar w fits (omega arith) ∙ simp (ne-eqb w (2 ^ 31) (λ z. omega (arith, z))) in simp e
 

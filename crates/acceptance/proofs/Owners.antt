@@ -17,8 +17,8 @@ use Rattle.storage.specs.Heap.{count}
 use Rattle.storage_theorems.proofs.Counts.{count-append}
 use Rattle.segment.specs.Machine.{cellsOfFrames}
 use Rattle.segment.specs.View.{framesFrom, words, owners}
-use Rattle.acceptance_storage.proofs.Tests.{never, by-le}
-use Rattle.acceptance.specs.Frames.{variables}
+use Rattle.descriptor.proofs.Truth.{by-le}
+use Rattle.acceptance_storage.proofs.Tests.{never}
 use Rattle.acceptance.specs.Structure.{Chain, startOf, localsOf, Direct, DirectOrIndirect, FrameCells, StackCells}
 use Rattle.acceptance.proofs.Tallies.{downward-count, cells-bottom, cells-on}
 use Rattle.acceptance.proofs.Positions.{downward-at}
@@ -39,7 +39,7 @@ module _ (A : ℕ → Type 0) (x : ℕ) (l : x < 2 ^ 16) {w : ℕ} (e : w ≡ ar
   either-names (inr (inl g)) = absurd (omega (arith, e, g .word))
   either-names (inr (inr g)) = absurd (omega (arith, e, g .word))
 
-first-frame : (A : ℕ → Type 0) (older : List ℕ) {s regular other : List ℕ} {base top : ℕ} → StackCells A s regular other base top older → FrameCells A s regular other base top older
+pub first-frame : (A : ℕ → Type 0) (older : List ℕ) {s regular other : List ℕ} {base top : ℕ} → StackCells A s regular other base top older → FrameCells A s regular other base top older
 first-frame A [] h = h
 first-frame A (next ∷ older) h = h .0
 

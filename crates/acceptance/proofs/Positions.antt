@@ -1,5 +1,5 @@
 -- Where the words of a run stand: tests of words, cells from the highest down, and addresses of a range, each by position.
-use Prim.Native.Nat.{ℕ, zero, suc, _+_, _-_, _<_, _≤_}
+use Prim.Native.Nat.{ℕ, zero, suc, _+_, _<_, _≤_}
 use mathlib.Core.Path.{_≡_, refl, sym}
 use mathlib.Core.Bool.{Bool, true}
 use mathlib.Core.List.{List}
@@ -10,7 +10,8 @@ use Rattle.segment.specs.Stack.{downward}
 use Rattle.storage.specs.Heap.{hit, count}
 use Rattle.storage_theorems.proofs.Counts.{hit-cases}
 use Rattle.acceptance_storage.specs.Tests.{words}
-use Rattle.acceptance_storage.proofs.Tests.{both, passes, by-le}
+use Rattle.descriptor.proofs.Truth.{by-le}
+use Rattle.acceptance_storage.proofs.Tests.{both, passes}
 use Rattle.acceptance.specs.Cells.{range}
 
 pub words-at : (n : ℕ) (test : ℕ → Bool) (s : List ℕ) (a : ℕ) → words n test s a ≡ true → (i : ℕ) → a ≤ i → i < a + n → test (getD s i 0) ≡ true

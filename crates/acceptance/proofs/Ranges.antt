@@ -17,16 +17,11 @@ range-step i end h = let e : end - i ≡ suc (end - (i + 1)) = omega arith in rw
 range-done : (i end : ℕ) → end ≤ i → range i (end - i) ≡ []
 range-done i end h = let e : end - i ≡ zero = omega arith in rw e
 
--- No number below stands in it, nor one past it, and none stands in it twice.
+-- No number below stands in it, and none stands in it twice.
 range-below : (a n x : ℕ) → x < a → count x (range a n) ≡ 0
 range-below a zero x h = refl
 range-below a (suc n) x h =
     ⊎-elim (λ e. absurd (omega (arith, e))) (λ e. omega (arith, e, range-below (a + 1) n x (omega arith))) (hit-cases x a)
-
-pub range-past : (a n x : ℕ) → a + n ≤ x → count x (range a n) ≡ 0
-range-past a zero x h = refl
-range-past a (suc n) x h =
-    ⊎-elim (λ e. absurd (omega (arith, e))) (λ e. omega (arith, e, range-past (a + 1) n x (omega arith))) (hit-cases x a)
 
 pub range-once : (a n x : ℕ) → count x (range a n) ≤ 1
 range-once a zero x = omega arith

@@ -14,12 +14,13 @@ use Rattle.procedure.specs.Refusal.{procedureRefusal}
 use Rattle.storage.specs.Heap.{Block, over, count}
 use Rattle.storage.specs.Owned.{ArrayIn}
 use Rattle.segment.specs.View.{owners}
-use Rattle.acceptance_storage.specs.Tests.{_and_, words}
+use Rattle.acceptance_storage.specs.Tests.{words}
 use Rattle.acceptance_storage.specs.Head.{headTest}
 use Rattle.acceptance_storage.specs.Blocks.{arrayStarts, blocksTest}
 use Rattle.acceptance_storage.specs.Ring.{ringTest}
-use Rattle.acceptance_storage.specs.Structure.{Passed, Stored, arrays}
-use Rattle.acceptance_storage.proofs.Tests.{both, passes, by-eq, every-at, every-all}
+use Rattle.acceptance_storage.specs.Structure.{Passed, Stored}
+use Rattle.descriptor.proofs.Truth.{by-eq}
+use Rattle.acceptance_storage.proofs.Tests.{both, passes, every-at, every-all}
 use Rattle.acceptance_storage.proofs.Tiling.{array-counted, array-named}
 use Rattle.acceptance_storage.proofs.Structure as storage
 use Rattle.acceptance.specs.Frames.{framesTest}

@@ -1,10 +1,10 @@
 -- The table's order: what the table says where the tests up to one are known.
-use Prim.Native.Nat.{ℕ, zero, suc, _+_, _<_, _≤_}
+use Prim.Native.Nat.{ℕ, _+_, _<_, _≤_}
 use mathlib.Core.Path.{_≡_, refl, sym, _∙_}
 use mathlib.Core.Bool.{Bool, true, false}
 use mathlib.Core.List.{List}
 use native.Mathlib.Omega.{arith}
-use lib.ListN.{getD, length, replicate}
+use lib.ListN.{length}
 use lib.Dec.{leb}
 use borrow.Author.Tests.{leb-true, le-leb, lt-leb, ne-eqb}
 use Rattle.segment.specs.State.{ltop, lbase}
@@ -16,7 +16,7 @@ use Rattle.acceptance_storage.specs.Blocks.{freeStarts, blocksTest}
 use Rattle.acceptance_storage.specs.Ring.{ringTest}
 use Rattle.acceptance_storage.specs.Answer.{blocksAnswer}
 use Rattle.acceptance_storage.proofs.Tests.{both}
-use Rattle.acceptance.specs.Frames.{framesTest, known}
+use Rattle.acceptance.specs.Frames.{framesTest}
 use Rattle.acceptance.specs.Cells.{cellsTest}
 use Rattle.acceptance.specs.Counts.{countsTest}
 use Rattle.acceptance.specs.Refusal.{dataRefusal, refusal}
@@ -94,9 +94,3 @@ module _ (s : List ℕ) {r : Blocks} (q : r ≡ blocksAnswer s) where
 pub frames-top : (s regular other : List ℕ) → framesTest s regular other ≡ true → lbase s + 1 ≤ ltop s
 unfolding framesTest
 frames-top s regular other h = leb-true _ _ (both (leb (lbase s + 1) (ltop s)) _ h .0)
-
--- A fresh table is clear.
-pub zeros : (n x : ℕ) → _≡_ {A = ℕ} (getD (replicate n 0) x 0) 0
-zeros zero x = refl
-zeros (suc n) zero = refl
-zeros (suc n) (suc x) = zeros n x

@@ -1,7 +1,7 @@
 -- Test 16, frames: "each frame's function in its directory, last LBASE falling down to the bottom frame, which starts at 0,
 -- every other frame starting above the older one's two words, and LTOP at least LBASE + 1", with decision 8 of
 -- docs/DECISIONS.md. Assumes nothing.
-use Prim.Native.Nat.{ℕ, zero, suc, _+_, _-_, _^_}
+use Prim.Native.Nat.{ℕ, zero, suc, _+_, _^_}
 use mathlib.Core.Bool.{Bool, false, cond}
 use mathlib.Core.Path.{_≡_}
 use mathlib.Core.List.{List}

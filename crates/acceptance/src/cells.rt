@@ -21,6 +21,7 @@ ghost use Rattle.acceptance.specs.Tables.{Gains, lacking, meet, Met};
 use super::frames::frame_at;
 use super::variables::mark_variables;
 use super::variables::unmark;
+use acceptance_storage::marks::mark_at;
 use descriptor::Descriptor;
 use descriptor::address::SegmentAddress;
 use descriptor::address::StackAddress;
@@ -30,7 +31,6 @@ use segment::state::blockptr;
 use segment::state::lbase;
 use segment::state::ltop;
 use segment::state::sbase;
-use acceptance_storage::marks::mark_at;
 
 // Test 17, where `arrays` has a mark at each array and `marks` is clear.
 pub fn cells_test(
@@ -175,7 +175,7 @@ fn is_direct(w: u32, arrays: &mut [u16]) -> bool
     if w <= Descriptor::INTEGER_LIMIT {
         return true;
     }
-    if w / 0x1_0000 == 0x200 {
+    if w / 0x1_0000 == Descriptor::TYPE_ARRAY * 0x100 {
         return raise_marked(arrays, (w % 0x1_0000) as usize);
     }
     if w == Descriptor::UNDEFINED {

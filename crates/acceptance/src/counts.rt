@@ -11,13 +11,13 @@ ghost use Rattle.acceptance_storage.specs.Tests.{every};
 ghost use Rattle.acceptance_storage.specs.Blocks.{startsFrom};
 ghost use Rattle.acceptance.specs.Counts.{countTest, countsTest};
 ghost use Rattle.acceptance.specs.Tables.{Tallied};
+use acceptance_storage::marks::mark_at;
 use descriptor::address::SegmentAddress;
 use segment::blocks::count;
 use segment::blocks::dummy;
 use segment::blocks::free_at;
 use segment::blocks::span_at;
 use segment::state::blockptr;
-use acceptance_storage::marks::mark_at;
 
 // Test 18, where the table has at each array one mark, and one more for each cell that points to it.
 pub fn counts_test(seg: &[u32], table: &[u16]) -> bool

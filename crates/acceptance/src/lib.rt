@@ -14,14 +14,14 @@ pub mod counts;
 pub mod frames;
 pub mod variables;
 
-use cells::cells_test;
-use counts::counts_test;
-use frames::frames_test;
-use procedure::refusal::Refusal;
 use acceptance_storage::blocks::Blocks;
 use acceptance_storage::blocks::blocks_test;
 use acceptance_storage::head::head_test;
 use acceptance_storage::ring::ring_test;
+use cells::cells_test;
+use counts::counts_test;
+use frames::frames_test;
+use procedure::refusal::Refusal;
 
 // The tests of the table, each by what it looks at.
 pub enum Test {

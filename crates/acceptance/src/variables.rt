@@ -8,10 +8,10 @@ ghost use Rattle.acceptance.specs.Frames.{variables};
 ghost use Rattle.acceptance.specs.Cells.{range, variablesFrom};
 ghost use Rattle.acceptance.specs.Tables.{Gains};
 use super::frames::frame_at;
-use descriptor::address::StackAddress;
-use segment::minus;
 use acceptance_storage::marks::lower;
 use acceptance_storage::marks::raise;
+use descriptor::address::StackAddress;
+use segment::minus;
 
 // The variables of the frames from the one at `from` down are marked.
 pub fn mark_variables(

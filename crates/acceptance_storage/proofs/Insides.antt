@@ -11,15 +11,17 @@ use lib.ListN.{getD, length, take, drop, drop-of-length-le}
 use lib.Seq.{drop-cons}
 use lib.Dec.{leb, eqb}
 use borrow.Author.Tests.{leb-true, eqb-true, le-leb, lt-leb, eq-eqb}
+use Rattle.descriptor.specs.Fields.{integerLimit}
 use Rattle.descriptor.specs.Kinds.{isScalar}
+use Rattle.descriptor.proofs.Truth.{fails}
 use Rattle.segment.specs.Blocks.{sizeAt, rankAt, part, product, shapeAt, elementsAt}
 use Rattle.segment.proofs.Parts.{part-take}
 use Rattle.storage.specs.Owned.{Inside}
 use Rattle.storage_theorems.proofs.Counts.{order}
-use Rattle.acceptance_storage.specs.Tests.{_and_, every, words}
+use Rattle.acceptance_storage.specs.Tests.{every, words}
 use Rattle.acceptance_storage.specs.Blocks.{isLength, arrayTest}
 use Rattle.acceptance_storage.specs.Answer.{insideTest, tooMany, capped, elementCount}
-use Rattle.acceptance_storage.proofs.Tests.{both, passes, fails, every-at, every-all, words-every, every-on, every-bad, every-end}
+use Rattle.acceptance_storage.proofs.Tests.{both, passes, every-at, every-all, words-every, every-on, every-bad, every-end}
 
 module _ (s : List ℕ) (a : ℕ) where
   pub array-sound : arrayTest s a ≡ true → Inside s a (sizeAt s a)
@@ -116,11 +118,11 @@ module _ (shape : List ℕ) (i count : ℕ) (h : Counting shape i count) where
       let e : drop i shape ≡ [] = drop-of-length-le shape l in
       h .kept ∙ ap capped (sym (mul-one (h .exact)) ∙ rw e at (h .rest)) ∙ sym (simp (h .good ∙ every-end isLength shape i l))
 
-  pub counting-bad : i < length shape → 8388607 < getD shape i 0 → tooMany ≡ elementCount shape
+  pub counting-bad : i < length shape → integerLimit < getD shape i 0 → tooMany ≡ elementCount shape
   unfolding elementCount
   counting-bad l k = sym (simp (h .good ∙ every-bad isLength shape i l (lt-leb _ _ k)))
 
-  pub counting-on : i < length shape → getD shape i 0 ≤ 8388607 → Counting shape (i + 1) (capped (count * getD shape i 0))
+  pub counting-on : i < length shape → getD shape i 0 ≤ integerLimit → Counting shape (i + 1) (capped (count * getD shape i 0))
   counting-on l k =
       let d : getD shape i 0 ∷ drop (i + 1) shape ≡ drop i shape = rw (add-one i) (sym (drop-cons shape i 0 l)) in
       record {

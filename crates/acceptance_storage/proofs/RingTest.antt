@@ -14,7 +14,8 @@ use Rattle.storage_theorems.proofs.Counts.{hit-same, count-length}
 use Rattle.storage_theorems.proofs.Ring.{ring-at}
 use Rattle.acceptance_storage.specs.Blocks.{freeStarts}
 use Rattle.acceptance_storage.specs.Ring.{without, linked, roundFrom, ringTest}
-use Rattle.acceptance_storage.proofs.Tests.{never, both, by-eq}
+use Rattle.descriptor.proofs.Truth.{by-eq}
+use Rattle.acceptance_storage.proofs.Tests.{never, both}
 use Rattle.acceptance_storage.proofs.Rounds.{without-count, without-length, none-counted, linked-yes, linked-no, step-last, step-bad, step-missing, step-on, on-round}
 
 link-sound : (s : List ℕ) (a b : ℕ) → linked s a b ≡ true → Link s a b

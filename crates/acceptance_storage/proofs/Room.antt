@@ -1,5 +1,5 @@
 -- A free block that is long enough: by the walk's starts, and by the list of blocks.
-use Prim.Native.Nat.{ℕ, _+_, _^_, _<_, _≤_}
+use Prim.Native.Nat.{ℕ, _+_, _^_, _<_}
 use mathlib.Core.Path.{_≡_, refl}
 use mathlib.Core.Bool.{Bool, true, false, cond}
 use mathlib.Core.List.{List, [], _∷_}
@@ -14,17 +14,13 @@ use Rattle.storage_theorems.specs.Words.{HasRoom}
 use Rattle.storage_theorems.proofs.Walks.{over-le}
 use Rattle.acceptance_storage.specs.Structure.{Stored}
 use Rattle.acceptance_storage.specs.Room.{some, longEnough}
-use Rattle.acceptance_storage.proofs.Tests.{never}
+use Rattle.acceptance_storage.proofs.Tests.{never, either}
 use Rattle.acceptance_storage.proofs.Structure.{stored-frees}
 
 -- either of two tests
 some-either : (b c : Bool) → cond b true c ≡ true → (b ≡ true) ⊎ (c ≡ true)
 some-either true c h = inl refl
 some-either false c h = inr h
-
-some-later : (b : Bool) {c : Bool} → c ≡ true → cond b true c ≡ true
-some-later true h = refl
-some-later false h = h
 
 module _ (s : List ℕ) (n : ℕ) where
   abbrev fits : ℕ → Bool
@@ -43,7 +39,7 @@ module _ (s : List ℕ) (n : ℕ) where
 
   room-walk : (a : ℕ) (before : Bool) (blocks : List Block) → Walk s a before blocks → over a blocks < 2 ^ 16 → HasRoom blocks n → some fits (frees a blocks) ≡ true
   room-walk a before (free m ∷ blocks) w l (inl h) = simp (le-leb n (sizeAt s a) (omega (arith, free-size a before m blocks w l)))
-  room-walk a before (free m ∷ blocks) w l (inr h) = some-later (fits a) (room-walk (a + m) true blocks (w .1) l h)
+  room-walk a before (free m ∷ blocks) w l (inr h) = either (fits a) (room-walk (a + m) true blocks (w .1) l h)
   room-walk a before (array m slop ∷ blocks) w l h = room-walk (a + (m + slop)) false blocks (w .1) l h
 
 module _ (s : List ℕ) (blocks : List Block) (ring : List ℕ) (h : Stored s blocks ring) (n : ℕ) where

@@ -9,7 +9,7 @@ use borrow.Author.Tests.{le-leb, lt-leb, eq-eqb, ne-eqb}
 use Rattle.segment.specs.Blocks.{freeAt, sizeAt, slopAt, spanAt}
 use Rattle.storage.specs.Heap.{Block, free, array, span, isFree, prevFreeBit, FreeBlock, ArrayBlock, BlockAt}
 use Rattle.acceptance_storage.specs.Blocks.{freeSpan, arraySpan, blockSpan}
-use Rattle.acceptance_storage.proofs.Tests.{by-le, by-eq}
+use Rattle.descriptor.proofs.Truth.{by-le, by-eq}
 
 -- the first word of an array's block, and its fields
 whole-word : (before : Bool) (w : ℕ) → w / 2 ^ 18 ≡ prevFreeBit before / 2 ^ 18 → w ≡ prevFreeBit before + w / 2 ^ 16 % 4 * 2 ^ 16 + w % 2 ^ 16

@@ -9,7 +9,6 @@ use lib.Dec.{leb, eqb}
 use borrow.Author.Tests.{le-leb, lt-leb, eq-eqb, ne-eqb}
 use Rattle.segment.specs.Blocks.{freeAt, spanAt}
 use Rattle.storage.specs.Heap.{prevFreeBit}
-use Rattle.acceptance_storage.specs.Tests.{_and_}
 use Rattle.acceptance_storage.specs.Blocks.{blockSpan, walkFrom, startsFrom}
 
 pub starts-few : (kind : Bool) (s : List ℕ) (end n a : ℕ) → length (startsFrom kind n s a end) ≤ n

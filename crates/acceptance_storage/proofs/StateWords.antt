@@ -8,7 +8,8 @@ use lib.Dec.{leb, ltb, eqb}
 use borrow.Author.Tests.{leb-true, ltb-true, eqb-true, le-leb, lt-ltb, eq-eqb}
 use Rattle.segment.specs.State.{sbase, flags, trapWord, blockptr}
 use Rattle.acceptance_storage.specs.Head.{headTest, Head}
-use Rattle.acceptance_storage.proofs.Tests.{both, passes, fails}
+use Rattle.descriptor.proofs.Truth.{fails}
+use Rattle.acceptance_storage.proofs.Tests.{both, passes}
 
 pub head-sound : (s : List ℕ) → headTest s ≡ true → Head s
 unfolding headTest

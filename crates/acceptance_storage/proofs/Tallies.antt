@@ -1,27 +1,19 @@
 -- Tables of marks: one mark more or less, and how high they can be.
 use Prim.Native.Nat.{ℕ, zero, suc, _+_, _-_, _<_, _≤_}
 use mathlib.Core.Path.{_≡_, refl}
-use mathlib.Core.List.{List, [], _∷_}
+use mathlib.Core.List.{List}
 use mathlib.Core.Logic.{_≢_, ⊎-elim}
 use native.Mathlib.Omega.{arith}
-use lib.ListN.{getD, set, length, length-replicate, replicate, List·getD-eq-default}
+use lib.ListN.{getD, set, length, replicate, List·getD-eq-default}
 use lib.Seq.{getD-set-same, getD-set-other}
-use Rattle.storage.specs.Heap.{hit, count}
-use Rattle.acceptance_storage.specs.Marks.{Clear}
+use Rattle.storage.specs.Heap.{hit}
 use Rattle.storage_theorems.proofs.Counts.{order, hit-cases, hit-same}
 
-pub count-le : (x : ℕ) (l : List ℕ) → count x l ≤ length l
-count-le x [] = omega arith
-count-le x (y ∷ l) = ⊎-elim (λ e. omega (arith, e, count-le x l)) (λ e. omega (arith, e, count-le x l)) (hit-cases x y)
-
 -- a fresh table
-zeros : (n x : ℕ) → _≡_ {A = ℕ} (getD (replicate n 0) x 0) 0
+pub zeros : (n x : ℕ) → _≡_ {A = ℕ} (getD (replicate n 0) x 0) 0
 zeros zero x = refl
 zeros (suc n) zero = refl
 zeros (suc n) (suc x) = zeros n x
-
-pub fresh : (n m : ℕ) → m ≤ n → Clear (replicate n 0) m
-fresh n m l = record { long = omega (arith, length-replicate {A = ℕ} n 0); empty = zeros n }
 
 -- what is not 0 stands in the table
 pub inside-table : (table : List ℕ) (a : ℕ) → 0 < getD table a 0 → a < length table

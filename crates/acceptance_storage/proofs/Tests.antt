@@ -8,35 +8,14 @@ use native.Mathlib.Numerals.{add-one}
 use native.Mathlib.Omega.{arith}
 use lib.ListN.{getD, length, drop, drop-of-length-le}
 use lib.Seq.{drop-cons}
-use lib.Dec.{leb, eqb}
-use borrow.Author.Tests.{leb-true, leb-false, eqb-true, eqb-false}
 use Rattle.segment.specs.Blocks.{part}
+pub use Rattle.descriptor.proofs.Truth.{fails, by-le, by-eq}
 use Rattle.storage.specs.Heap.{count}
 use Rattle.storage_theorems.proofs.Counts.{hit-cases, hit-same}
 use Rattle.acceptance_storage.specs.Tests.{_and_, every, words}
 
 pub never : false ≡ true → ⊥
 never q = let z : _≡_ {A = ℕ} 0 1 = cc in omega arith
-
--- a test that cannot pass fails
-pub fails : (b : Bool) → (b ≡ true → ⊥) → b ≡ false
-fails true h = absurd (h refl)
-fails false h = refl
-
--- by what a comparison says
-pub by-le : {C : Type 0} (a b : ℕ) → (a ≤ b → C) → (b < a → C) → C
-by-le {C} a b f g = go (leb a b) refl
-  where
-    go : (t : Bool) → leb a b ≡ t → C
-    go true e = f (leb-true _ _ e)
-    go false e = g (leb-false _ _ e)
-
-pub by-eq : {C : Type 0} (a b : ℕ) → (a ≡ b → C) → ((a ≡ b → ⊥) → C) → C
-by-eq {C} a b f g = go (eqb a b) refl
-  where
-    go : (t : Bool) → eqb a b ≡ t → C
-    go true e = f (eqb-true _ _ e)
-    go false e = g (eqb-false _ _ e)
 
 pub both : (a b : Bool) → (a and b) ≡ true → (a ≡ true) × (b ≡ true)
 both true b h = (refl, h)
@@ -48,6 +27,10 @@ passes {a} {b} p q = ap (λ (t : Bool). t and b) p ∙ q
 pub second-fails : (a : Bool) {b : Bool} → b ≡ false → (a and b) ≡ false
 second-fails true q = q
 second-fails false q = refl
+
+pub either : (a : Bool) {b : Bool} → b ≡ true → cond a true b ≡ true
+either true e = refl
+either false e = e
 
 -- a test of every member, and of each of a list
 pub every-at : (test : ℕ → Bool) (l : List ℕ) → every test l ≡ true → (x : ℕ) → 0 < count x l → test x ≡ true

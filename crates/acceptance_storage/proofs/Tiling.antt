@@ -3,7 +3,7 @@ use Prim.Native.Nat.{ℕ, zero, suc, _+_, _-_, _^_, _<_, _≤_}
 use mathlib.Core.Path.{_≡_, refl, sym, _∙_, ap}
 use mathlib.Core.Bool.{Bool, true, false}
 use mathlib.Core.List.{List, [], _∷_}
-use mathlib.Core.Logic.{_⊎_, inl, inr, ⊎-elim}
+use mathlib.Core.Logic.{inl, inr, ⊎-elim}
 use native.Mathlib.Omega.{arith}
 use borrow.Author.Tests.{eqb-true, eq-eqb}
 use Rattle.segment.specs.Blocks.{freeAt, sizeAt}
@@ -13,7 +13,8 @@ use Rattle.storage_theorems.proofs.Walks.{over-le}
 use Rattle.storage_theorems.proofs.Counts.{hit-cases, hit-same}
 use Rattle.acceptance_storage.specs.Blocks.{blockSpan, walkFrom, startsFrom}
 use Rattle.acceptance_storage.specs.Structure.{arrays}
-use Rattle.acceptance_storage.proofs.Tests.{never, by-le, by-eq}
+use Rattle.descriptor.proofs.Truth.{by-le, by-eq}
+use Rattle.acceptance_storage.proofs.Tests.{never}
 use Rattle.acceptance_storage.proofs.Spans.{Seen, seen, array-size, a-block}
 use Rattle.acceptance_storage.proofs.Starts.{starts-end, free-hit, free-miss, array-hit, array-miss, walk-end, walk-bad, walk-past, walk-on, walk-none}
 

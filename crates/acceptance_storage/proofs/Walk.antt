@@ -16,7 +16,8 @@ use Rattle.acceptance_storage.specs.Blocks.{blockSpan, walkFrom, walkTes
 use Rattle.acceptance_storage.specs.Marks.{Clear, Marked}
 use Rattle.acceptance_storage.specs.Answer.{blocksAnswer, insideTest}
 use Rattle.acceptance_storage.proofs.Tests.{never, second-fails}
-use Rattle.acceptance_storage.proofs.Tallies.{count-le, raise-at}
+use Rattle.storage_theorems.proofs.Counts.{count-le}
+use Rattle.acceptance_storage.proofs.Tallies.{raise-at}
 use Rattle.acceptance_storage.proofs.Spans.{a-block}
 use Rattle.acceptance_storage.proofs.Starts.{starts-few, starts-end, free-hit, free-miss, array-hit, array-miss, walk-end, walk-bad, walk-past, walk-on}
 
@@ -37,23 +38,6 @@ module _ (s arrays frees : List ℕ) where
 pub dummy-bad : (s : List ℕ) (end : ℕ) → end ≡ dummy s → (getD s (end + 2) 0 ≡ 0 → ⊥) → blocksTest s ≡ false
 unfolding blocksTest
 dummy-bad s end e h = second-fails (walkTest s) (simp (ne-eqb (getD s (dummy s + 2) 0) 0 (rw e at h)))
-
--- and what a caller learns from them
-proper-answer : (b : Bool) (m n : ℕ) → Proper n ≡ cond b (Proper m) Improper → (b ≡ true) × (n ≡ m)
-proper-answer true m n e = (refl, cc)
-proper-answer false m n e = let z : _≡_ {A = ℕ} 0 1 = cc in absurd (omega arith)
-
-improper-answer : (b : Bool) (m : ℕ) → Improper ≡ cond b (Proper m) Improper → b ≡ false
-improper-answer true m e = let z : _≡_ {A = ℕ} 0 1 = cc in absurd (omega arith)
-improper-answer false m e = refl
-
-pub proper-passes : (s : List ℕ) (found : ℕ) → Proper found ≡ blocksAnswer s → (blocksTest s ≡ true) × (found ≡ length (freeStarts s))
-unfolding blocksAnswer
-proper-passes s found e = proper-answer (blocksTest s) (length (freeStarts s)) found e
-
-pub improper-fails : (s : List ℕ) → Improper ≡ blocksAnswer s → blocksTest s ≡ false
-unfolding blocksAnswer
-improper-fails s e = improper-answer (blocksTest s) (length (freeStarts s)) e
 
 -- a block that fits is stepped over by its SIZE and SLOP
 pub steps : (s : List ℕ) (a : ℕ) (before : Bool) (end : ℕ) → (blockSpan s a before ≡ 0 → ⊥) → a + blockSpan s a before ≤ end → end < 2 ^ 16 → spanAt s a ≡ blockSpan s a before

@@ -1,10 +1,11 @@
 -- Test 14, blocks: "walk, tags, sizes, two free neighbours, lengths, elements", with decisions 5–7 of docs/DECISIONS.md.
 -- Assumes nothing.
-use Prim.Native.Nat.{ℕ, zero, suc, _+_, _-_, _*_, _/_, _%_, _^_}
+use Prim.Native.Nat.{ℕ, zero, suc, _+_, _-_, _/_, _%_, _^_}
 use mathlib.Core.Bool.{Bool, true, false, cond, not}
 use mathlib.Core.List.{List, [], _∷_}
 use lib.ListN.{getD, length}
-use lib.Dec.{leb, ltb, eqb}
+use lib.Dec.{leb, eqb}
+use Rattle.descriptor.specs.Fields.{integerLimit}
 use Rattle.descriptor.specs.Kinds.{isScalar}
 use Rattle.segment.specs.State.{blockptr}
 use Rattle.segment.specs.Blocks.{freeAt, sizeAt, slopAt, spanAt, rankAt, dummy, part, product}
@@ -60,7 +61,7 @@ arrayStarts s = startsFrom false (length s) s (blockptr s) (dummy s)
 
 -- A length is an integer descriptor that is not negative.
 abbrev pub isLength : ℕ → Bool
-isLength w = leb w 8388607
+isLength w = leb w integerLimit
 
 -- Word 1 has nothing between count and rank; rank 1–15; lengths; SIZE = 2 + rank + elements, by the exact product of the
 -- lengths; every element a scalar.

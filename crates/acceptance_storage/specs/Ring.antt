@@ -1,7 +1,7 @@
 -- Test 15, ring or ROVER: "not one round of NEXT through the dummy and every free block, each once, with LAST its reverse, or
 -- ROVER not on it", with decision 7 of docs/DECISIONS.md. Assumes nothing.
 use Prim.Native.Nat.{ℕ, zero, suc}
-use mathlib.Core.Bool.{Bool, true, false, cond}
+use mathlib.Core.Bool.{Bool, cond}
 use mathlib.Core.List.{List, [], _∷_}
 use lib.ListN.{length}
 use lib.Dec.{leb, eqb}

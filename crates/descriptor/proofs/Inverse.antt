@@ -1,19 +1,18 @@
 -- Words and kinds are inverse.
 use Prim.Native.Nat.{ℕ, _+_, _-_, _*_, _/_, _%_, _^_, _≤_, _<_}
-use mathlib.Core.Path.{_≡_, refl, sym, _∙_, ap}
+use mathlib.Core.Path.{_≡_, refl, _∙_, ap}
 use mathlib.Core.Bool.{Bool, true, false, cond}
 use mathlib.Core.Logic.{_⊎_, inl, inr}
 use native.Mathlib.Omega.{arith}
 use lib.Dec.{ltb, eqb}
-use borrow.Author.Tests.{ltb-true, ltb-false, eqb-true, eqb-false, lt-ltb, le-ltb, eq-eqb, ne-eqb}
+use borrow.Author.Tests.{ltb-false, eqb-true, eqb-false, lt-ltb, le-ltb, ne-eqb}
 use Rattle.descriptor.specs.declared.Scalar.{Scalar}
 use Rattle.descriptor.specs.declared.Scalar.the-variants.{Float, Integer, Character}
-use Rattle.descriptor.specs.declared.Target.{Target}
 use Rattle.descriptor.specs.declared.Target.the-variants.{Local, Global}
 use Rattle.descriptor.specs.declared.Kind.{Kind}
 use Rattle.descriptor.specs.declared.Kind.the-variants as K
-use Rattle.descriptor.specs.Fields.{sign, isFloat, exponent, fraction, typeNumber, rest, floatWord, integerWord, characterWord, arrayWord, localWord, globalWord, undefinedWord}
-use Rattle.descriptor.specs.Kinds.{bit, segment, stack, kindOf, integerKind, characterKind, arrayKind, indirectKind, undefinedKind, unsignedKind}
+use Rattle.descriptor.specs.Fields.{integerLimit, sign, exponent, fraction, typeNumber, rest, floatWord, integerWord, globalWord}
+use Rattle.descriptor.specs.Kinds.{bit, kindOf, integerKind, characterKind, arrayKind, indirectKind, undefinedKind, unsignedKind}
 use Rattle.descriptor.specs.Inverse.{wordOf, Fits, Inverse}
 
 bit-small : (t : Bool) → bit t ≤ 1
@@ -46,17 +45,17 @@ module _ (k below : ℕ) (typed : k < 2 ^ 6) (short : below < 2 ^ 24) where
       let h = typed-fields in
       simp (ne-eqb _ _ (h .0), h .1, ne-eqb k 0 positive, h .3, h .2)
 
-integer-fields : (s m : ℕ) → s ≤ 1 → m ≤ 8388607 → (m ≡ 0 → ⊥) → (((s * 2 ^ 31 + m) / 2 ^ 30 % 2 ≡ 1) → ⊥) × (typeNumber (s * 2 ^ 31 + m) ≡ 0) × (rest (s * 2 ^ 31 + m) ≡ m) × (sign (s * 2 ^ 31 + m) ≡ s) × ((s * 2 ^ 31 + m ≡ 2 ^ 31) → ⊥)
+integer-fields : (s m : ℕ) → s ≤ 1 → m ≤ integerLimit → (m ≡ 0 → ⊥) → (((s * 2 ^ 31 + m) / 2 ^ 30 % 2 ≡ 1) → ⊥) × (typeNumber (s * 2 ^ 31 + m) ≡ 0) × (rest (s * 2 ^ 31 + m) ≡ m) × (sign (s * 2 ^ 31 + m) ≡ s) × ((s * 2 ^ 31 + m ≡ 2 ^ 31) → ⊥)
 integer-fields s m hs small some = ((λ q. omega (arith, q)), omega arith, omega arith, omega arith, (λ q. omega (arith, q, some)))
 
-integer-back : (t : Bool) (m : ℕ) → m ≤ 8388607 → (m ≡ 0 → t ≡ false) → (z : Bool) → eqb m 0 ≡ z → kindOf (cond z 0 (bit t * 2 ^ 31 + m)) ≡ K.Scalar (Integer t m)
+integer-back : (t : Bool) (m : ℕ) → m ≤ integerLimit → (m ≡ 0 → t ≡ false) → (z : Bool) → eqb m 0 ≡ z → kindOf (cond z 0 (bit t * 2 ^ 31 + m)) ≡ K.Scalar (Integer t m)
 unfolding kindOf integerKind
 integer-back t m small plain true e =
     let z : m ≡ 0 = eqb-true m 0 e in
     simp (z, plain z)
 integer-back t m small plain false e =
     let h = integer-fields (bit t) m (bit-small t) small (eqb-false m 0 e) in
-    simp (ne-eqb _ _ (h .0), h .1, h .2, le-ltb 8388607 m small, ne-eqb _ _ (h .4), h .3, bit-back t)
+    simp (ne-eqb _ _ (h .0), h .1, h .2, le-ltb integerLimit m small, ne-eqb _ _ (h .4), h .3, bit-back t)
 
 scalar-back : (s : Scalar) → Fits (K.Scalar s) → kindOf (wordOf (K.Scalar s)) ≡ K.Scalar s
 unfolding unsignedKind characterKind
@@ -117,7 +116,7 @@ module _ (w : ℕ) (fits : w < 2 ^ 32) where
     integer-again : eqb (typeNumber w) 0 ≡ true → Again (integerKind w)
     unfolding integerKind
     integer-again k =
-        pick Again (ltb 8388607 (rest w)) _ _ (λ e. inl refl) (λ l.
+        pick Again (ltb integerLimit (rest w)) _ _ (λ e. inl refl) (λ l.
         pick Again (eqb w (2 ^ 31)) _ _ (λ e. inl refl) (λ some.
         inr (ap (λ (s : ℕ). integerWord s (rest w)) (sign-bit (eqb (sign w) 1) refl)
         ∙ signed-again (eqb-true (typeNumber w) 0 k) (eqb-false w (2 ^ 31) some) (eqb (rest w) 0) refl)))

@@ -8,7 +8,7 @@ use borrow.Author.Tests.{ltb-true, ltb-false, eqb-true, eqb-false, lt-ltb, le-lt
 use Rattle.descriptor.specs.declared.Scalar.{Scalar}
 use Rattle.descriptor.specs.declared.Kind.{Kind}
 use Rattle.descriptor.specs.declared.Kind.the-variants as K
-use Rattle.descriptor.specs.Fields.{sign, typeNumber, rest}
+use Rattle.descriptor.specs.Fields.{integerLimit, sign, typeNumber, rest}
 use Rattle.descriptor.specs.Kinds.{kindOf, integerKind, characterKind, arrayKind, indirectKind, undefinedKind, unsignedKind, scalarKind, isScalar}
 
 unless : (t : Bool) (s : Scalar) → scalarKind (cond t K.Invalid (K.Scalar s)) ≡ not t
@@ -29,10 +29,10 @@ no-scalar number below e =
     (neither (eqb number 4) _ _ (neither (eqb below 0) _ _ refl refl) refl)))
 
 -- bits 30–23 clear: an integer, unless it is minus zero
-pub small-scalar : (w : ℕ) → w < 2 ^ 32 → w % 2 ^ 31 ≤ 8388607 → isScalar w ≡ not (eqb w (2 ^ 31))
+pub small-scalar : (w : ℕ) → w < 2 ^ 32 → w % 2 ^ 31 ≤ integerLimit → isScalar w ≡ not (eqb w (2 ^ 31))
 unfolding isScalar kindOf integerKind
 small-scalar w fits small =
-    simp (ne-eqb (w / 2 ^ 30 % 2) 1 (omega arith), eq-eqb (typeNumber w) 0 (omega arith), le-ltb 8388607 (rest w) (omega arith))
+    simp (ne-eqb (w / 2 ^ 30 % 2) 1 (omega arith), eq-eqb (typeNumber w) 0 (omega arith), le-ltb integerLimit (rest w) (omega arith))
     (unless (eqb w (2 ^ 31)) _)
 
 -- bits that are clear add nothing
@@ -43,7 +43,7 @@ clear-type : (w : ℕ) → typeNumber w ≡ 0 → w % 2 ^ 30 ≡ rest w
 clear-type w z = omega arith
 
 -- not a float and not so small: a character, or no scalar
-module _ (w : ℕ) (fits : w < 2 ^ 32) (plain : (w / 2 ^ 30 % 2 ≡ 1) → ⊥) (large : 8388607 < w % 2 ^ 31) where
+module _ (w : ℕ) (fits : w < 2 ^ 32) (plain : (w / 2 ^ 30 % 2 ≡ 1) → ⊥) (large : integerLimit < w % 2 ^ 31) where
   character : (t : Bool) → ltb (rest w) (2 ^ 8) ≡ t → typeNumber w ≡ 1 → sign w ≡ 0 → scalarKind (characterKind (rest w)) ≡ eqb (w / 2 ^ 8) (2 ^ 16)
   unfolding characterKind
   character true e k z = simp (e, eq-eqb (w / 2 ^ 8) (2 ^ 16) (omega (arith, ltb-true (rest w) (2 ^ 8) e)))
@@ -65,7 +65,7 @@ module _ (w : ℕ) (fits : w < 2 ^ 32) (plain : (w / 2 ^ 30 % 2 ≡ 1) → ⊥) 
   typed true e =
       let z : typeNumber w ≡ 0 = eqb-true (typeNumber w) 0 e in
       let same : w % 2 ^ 31 ≡ rest w = clear-float w (omega (arith, plain)) ∙ clear-type w z in
-      simp (ne-eqb (w / 2 ^ 30 % 2) 1 plain, e, lt-ltb 8388607 (rest w) (omega arith), ne-eqb (w / 2 ^ 8) (2 ^ 16) (λ q. omega (arith, q)))
+      simp (ne-eqb (w / 2 ^ 30 % 2) 1 plain, e, lt-ltb integerLimit (rest w) (omega arith), ne-eqb (w / 2 ^ 8) (2 ^ 16) (λ q. omega (arith, q)))
   typed false e = simp (ne-eqb (w / 2 ^ 30 % 2) 1 plain, e) (signed (eqb (sign w) 0) refl)
 
   pub large-scalar : isScalar w ≡ eqb (w / 2 ^ 8) (2 ^ 16)

@@ -2,7 +2,7 @@
 -- and a word that is a descriptor is made again from its kind. Proved in proofs/Inverse.antt. Assumes nothing.
 use Prim.Native.Nat.{ℕ, _^_, _≤_, _<_}
 use mathlib.Core.Path.{_≡_}
-use mathlib.Core.Bool.{Bool, true, false}
+use mathlib.Core.Bool.{false}
 use mathlib.Core.Logic.{_⊎_}
 use Rattle.descriptor.specs.declared.Scalar.{Scalar}
 use Rattle.descriptor.specs.declared.Scalar.the-variants.{Float, Integer, Character}
@@ -10,7 +10,7 @@ use Rattle.descriptor.specs.declared.Target.{Target}
 use Rattle.descriptor.specs.declared.Target.the-variants.{Local, Global}
 use Rattle.descriptor.specs.declared.Kind.{Kind}
 use Rattle.descriptor.specs.declared.Kind.the-variants as K
-use Rattle.descriptor.specs.Fields.{floatWord, integerWord, characterWord, arrayWord, localWord, globalWord, undefinedWord}
+use Rattle.descriptor.specs.Fields.{integerLimit, floatWord, integerWord, characterWord, arrayWord, localWord, globalWord, undefinedWord}
 use Rattle.descriptor.specs.Kinds.{bit, kindOf}
 
 abbrev pub scalarWord : Scalar → ℕ
@@ -33,7 +33,7 @@ wordOf K.Invalid = 2 ^ 31
 -- The parts fit their fields, and zero is not negative.
 abbrev pub ScalarFits : Scalar → Type 0
 ScalarFits (Float negative e f) = (e < 2 ^ 8) × (f < 2 ^ 22)
-ScalarFits (Integer negative m) = (m ≤ 8388607) × (m ≡ 0 → negative ≡ false)
+ScalarFits (Integer negative m) = (m ≤ integerLimit) × (m ≡ 0 → negative ≡ false)
 ScalarFits (Character c) = c < 2 ^ 8
 
 abbrev pub TargetFits : Target → Type 0

@@ -1,7 +1,7 @@
 // Descriptors: the words of the data segment that say what they hold, and the addresses in them.
 ghost use mathlib.Core.Path.{_≡_};
 ghost use Prim.Native.Nat.{_≤_, _<_, _^_};
-ghost use Rattle.descriptor.specs.Fields.{integerWord, characterWord, arrayWord, localWord, globalWord, undefinedWord};
+ghost use Rattle.descriptor.specs.Fields.{integerLimit, integerWord, characterWord, arrayWord, localWord, globalWord};
 ghost use Rattle.descriptor.specs.Kinds.{kindOf, isScalar, bit, unsignedKind, characterKind, arrayKind, indirectKind, undefinedKind};
 
 pub mod address;
@@ -52,7 +52,7 @@ impl Descriptor {
 
     pub const TYPE_UNDEFINED: u32 = 4;
 
-    pub const UNDEFINED: u32 = 0x0400_0000;
+    pub const UNDEFINED: u32 = Self::TYPE_UNDEFINED * 0x0100_0000;
 
     pub fn of(word: u32) -> Self
         ensures { λ r. ⌜ r .0 ≡ word ⌝ }
@@ -68,7 +68,7 @@ impl Descriptor {
 
     // Zero is never negative.
     pub fn integer(negative: bool, magnitude: u32) -> Self
-        requires { ⌜ magnitude ≤ 8388607 ⌝ }
+        requires { ⌜ magnitude ≤ integerLimit ⌝ }
         ensures { λ r. ⌜ r .0 ≡ integerWord (bit negative) magnitude ⌝ }
     {
         if magnitude == 0 {
@@ -87,6 +87,7 @@ impl Descriptor {
         Descriptor(Self::TYPE_CHARACTER * 0x0100_0000 + code as u32)
     }
 
+    // A block that a damaged segment gives may lie past 16 bits: then the word is no descriptor.
     pub fn array(block: SegmentAddress) -> Self
         requires { ⌜ block .0 < 2 ^ 24 ⌝ }
         ensures { λ r. ⌜ r .0 ≡ arrayWord (block .0) ⌝ }
@@ -95,23 +96,17 @@ impl Descriptor {
     }
 
     pub fn indirect_local(variable: StackAddress) -> Self
-        requires { ⌜ variable .0 < 2 ^ 24 ⌝ }
+        requires { ⌜ variable .0 < 2 ^ 16 ⌝ }
         ensures { λ r. ⌜ r .0 ≡ localWord (variable .0) ⌝ }
     {
         Descriptor(Self::TYPE_INDIRECT * 0x0100_0000 + variable.number())
     }
 
     pub fn indirect_global(variable: SegmentAddress) -> Self
-        requires { ⌜ variable .0 < 2 ^ 24 ⌝ }
+        requires { ⌜ variable .0 < 2 ^ 16 ⌝ }
         ensures { λ r. ⌜ r .0 ≡ globalWord (variable .0) ⌝ }
     {
         Descriptor(Self::TYPE_INDIRECT * 0x0100_0000 + 0x1_0000 + variable.number())
-    }
-
-    pub fn undefined() -> Self
-        ensures { λ r. ⌜ r .0 ≡ undefinedWord ⌝ }
-    {
-        Descriptor(Self::UNDEFINED)
     }
 
     pub fn kind(self) -> Kind
@@ -157,7 +152,7 @@ impl Descriptor {
         if w % 0x8000_0000 <= Self::INTEGER_LIMIT {
             return w != 0x8000_0000;
         }
-        w / 0x100 == 0x1_0000
+        w / 0x100 == Self::TYPE_CHARACTER * 0x1_0000
     }
 }
 
@@ -166,10 +161,10 @@ fn unsigned_kind(number: u32, rest: u32) -> Kind
     ensures { λ r. ⌜ r ≡ unsignedKind number rest ⌝ }
 {
     match number {
-        1 => character_kind(rest),
-        2 => array_kind(rest),
-        3 => indirect_kind(rest),
-        4 => undefined_kind(rest),
+        Descriptor::TYPE_CHARACTER => character_kind(rest),
+        Descriptor::TYPE_ARRAY => array_kind(rest),
+        Descriptor::TYPE_INDIRECT => indirect_kind(rest),
+        Descriptor::TYPE_UNDEFINED => undefined_kind(rest),
         _ => Kind::Invalid,
     }
 }

@@ -20,13 +20,13 @@ use Rattle.storage.specs.declared.request.Found.the-variants.{At, Full}
 use Rattle.storage.specs.Found.{found}
 use Rattle.storage.specs.Request.{findFrom, find, given, requestAt}
 use Rattle.storage.specs.Arrays.{place, placeAt, drop, drops}
+use Rattle.storage.proofs.Placing.{at-some}
 use Rattle.manual.specs.Effects.{made, Effect}
 use Rattle.effects.specs.Sources.{addressOf, heldAt}
 use Rattle.effects.specs.Perform.{bottomOf, finish, replace, storeAt, store, perform, wanted, noneFor, isFull}
 use Rattle.effects_code.specs.declared.Done.the-variants as D
 use Rattle.effects_code.specs.Done.{answer, attempt}
 
--- the two answers told apart
 full-zero : (a : ℕ) → found a ≡ Full → a ≡ 0
 unfolding found
 full-zero a full = by-test (eqb a 0) refl full
@@ -34,14 +34,6 @@ full-zero a full = by-test (eqb a 0) refl full
     by-test : (b : Bool) → eqb a 0 ≡ b → cond b Full (At (segment a)) ≡ Full → a ≡ 0
     by-test true e full = eqb-true a 0 e
     by-test false e full = let never : _≡_ {A = ℕ} 0 1 = cc in omega arith
-
-at-some : (a : ℕ) (block : SegmentAddress) → found a ≡ At block → (a ≡ 0 → ⊥) × (a ≡ block .0)
-unfolding found
-at-some a block at = by-test (eqb a 0) refl at
-  where
-    by-test : (b : Bool) → eqb a 0 ≡ b → cond b Full (At (segment a)) ≡ At block → (a ≡ 0 → ⊥) × (a ≡ block .0)
-    by-test true e at = let never : _≡_ {A = ℕ} 0 1 = cc in absurd (omega arith)
-    by-test false e at = (eqb-false a 0 e, let same : segment a ≡ block = cc in ap (λ (b : SegmentAddress). b .0) same)
 
 -- an effect by whether there is room
 module _ (s : List ℕ) (e : Effect) where

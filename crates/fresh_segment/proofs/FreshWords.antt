@@ -8,7 +8,7 @@ use lib.ListN.{getD, length}
 use lib.Seq.{ext-getD}
 use Rattle.segment.specs.State.{sbase, ltop, lbase}
 use Rattle.segment.specs.Blocks.{dummy}
-use Rattle.acceptance_storage.proofs.Tests.{by-le, by-eq}
+use Rattle.descriptor.proofs.Truth.{by-le, by-eq}
 use Rattle.fresh_segment.specs.LayOut.{Layout, startOf, baseOf, localsOf}
 use Rattle.fresh_segment.specs.FreshWords.{FreshWords, FreshSaid}
 use Rattle.fresh_segment.proofs.Words.{Room, Laid, laid}

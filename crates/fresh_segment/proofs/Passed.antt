@@ -11,7 +11,8 @@ use Rattle.segment.specs.Stack.{alternate, functionNumber}
 use Rattle.procedure.specs.Directory.{hasFunction, nargsOf}
 use Rattle.procedure.specs.Refusal.{procedureRefusal}
 use Rattle.manual.specs.Control.{frameWord}
-use Rattle.acceptance_storage.proofs.Tests.{by-eq, both, passes}
+use Rattle.descriptor.proofs.Truth.{by-eq}
+use Rattle.acceptance_storage.proofs.Tests.{both, passes}
 use Rattle.acceptance.specs.Frames.{known, arguments, variables}
 use Rattle.acceptance.specs.Refusal.{lengthTest}
 use Rattle.acceptance.proofs.Structure.{line}

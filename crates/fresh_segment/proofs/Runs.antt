@@ -9,7 +9,7 @@ use lib.Seq.{sets, getD-set-same}
 use Rattle.segment.specs.Blocks.{part}
 use Rattle.segment.specs.Stack.{downward}
 use Rattle.storage_theorems.proofs.Fill.{sets-other}
-use Rattle.acceptance_storage.proofs.Tests.{by-le}
+use Rattle.descriptor.proofs.Truth.{by-le}
 
 pub run-in : (n : ℕ) (s : List ℕ) (i c : ℕ) → i + n ≤ length s → (j : ℕ) → i ≤ j → j < i + n → getD (sets s i (replicate n c)) j 0 ≡ c
 run-in zero s i c h j l u = absurd (omega arith)

@@ -5,23 +5,18 @@ use mathlib.Core.List.{List, [], _∷_, map}
 use native.Mathlib.Omega.{arith}
 use lib.ListN.{getD, replicate}
 use borrow.Author.Tests.{le-leb}
-use Rattle.descriptor.specs.declared.Kind.the-variants as K
 use Rattle.descriptor.specs.Fields.{undefinedWord}
-use Rattle.descriptor.proofs.Inverse.{inverse}
 use Rattle.segment.specs.State.{sbase, ltop, lbase, blockptr}
 use Rattle.segment.specs.Blocks.{part}
 use Rattle.segment.specs.Stack.{lastLbaseAt, codeWordAt, downward}
 use Rattle.segment.specs.Cells.{undefined, cell}
 use Rattle.segment.specs.View.{frameAt, framesFrom, words, view}
+use Rattle.segment.proofs.Runs.{undefined-cell}
 use Rattle.fresh_segment.specs.LayOut.{Layout, baseOf}
 use Rattle.fresh_segment.specs.Fresh.{freshView}
 use Rattle.fresh_segment.proofs.Runs.{map-part, map-downward}
 use Rattle.fresh_segment.proofs.Words.{Room, Laid}
 use Rattle.fresh_segment.proofs.Storage.{laid-sbase, laid-ltop, laid-lbase}
-
-undefined-cell : (s : List ℕ) → cell s undefinedWord ≡ undefined
-unfolding cell
-undefined-cell s = rw (inverse .readBack K.Undefined tt)
 
 module _ {s : List ℕ} {n locals word : ℕ} {l : Layout} (h : Room n locals l) (t : Laid s n locals word l) where
   sbase-is : sbase s ≡ baseOf l

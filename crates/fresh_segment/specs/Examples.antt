@@ -6,7 +6,7 @@ use lib.ListN.{getD, set, replicate}
 use Rattle.procedure.specs.Bytes.{wordAt}
 use Rattle.procedure.specs.Headers.{headerAt}
 use Rattle.procedure.specs.Directory.{hasFunction}
-use Rattle.procedure.specs.Refusal.{lengthRefused, entriesRefused, headerFault, functionFault, functionsFault, contentsFault, procedureRefusal}
+use Rattle.procedure.specs.Refusal.{segmentLengthTest, entriesTest, headerTest, blockTest, blocksTest, contentsTest, procedureRefusal}
 use Rattle.storage.specs.Examples as storage
 use Rattle.fresh_segment.specs.LayOut.{Layout, functionTest, partsTest, layOutRefusal, freshStorage, freshFrame, freshHead, fresh, laidOut}
 
@@ -44,7 +44,7 @@ m1 = record { word0 = refl; word1 = refl; word12 = refl; word13 = refl; word33 =
 
 -- Of 64 lent words, whatever stood in them.
 pub m1-laid : M1 (laidOut (replicate 64 0x1234_5678) sample sample asked)
-unfolding laidOut layOutRefusal functionTest partsTest fresh freshHead freshStorage freshFrame hasFunction headerAt wordAt procedureRefusal lengthRefused contentsFault entriesRefused functionsFault functionFault headerFault
+unfolding laidOut layOutRefusal functionTest partsTest fresh freshHead freshStorage freshFrame hasFunction headerAt wordAt procedureRefusal segmentLengthTest contentsTest entriesTest blocksTest blockTest headerTest
 m1-laid = record { word0 = refl; word1 = refl; word12 = refl; word13 = refl; word33 = refl; word34 = refl; whole = refl }
 
 -- What is refused, of lent words that are zero.
@@ -69,7 +69,7 @@ pub record Refusals : Type 0 where
   pub functionFirst : refusalOf 64 0 3 4089 5 ≡ 20
 
 pub refusals : Refusals
-unfolding layOutRefusal functionTest partsTest hasFunction headerAt wordAt procedureRefusal lengthRefused contentsFault entriesRefused functionsFault functionFault headerFault
+unfolding layOutRefusal functionTest partsTest hasFunction headerAt wordAt procedureRefusal segmentLengthTest contentsTest entriesTest blocksTest blockTest headerTest
 refusals =
     record {
       words = refl;

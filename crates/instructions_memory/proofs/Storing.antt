@@ -1,5 +1,5 @@
 -- ASSIGN_INDEXED, once the variable is seen to hold an array, and its operands to be scalars.
-use Prim.Native.Nat.{ℕ, _+_, _/_, _^_, _≤_}
+use Prim.Native.Nat.{ℕ, _+_, _≤_}
 use mathlib.Core.Path.{_≡_, refl, sym, ap, _∙_}
 use mathlib.Core.Bool.{Bool, true, false, cond}
 use mathlib.Core.List.{List}
@@ -7,14 +7,14 @@ use native.Mathlib.Omega.{arith}
 use lib.Dec.{eqb}
 use lib.ListN.{length, take, getD}
 use lib.Seq.{take-take, getD-take}
-use borrow.Author.Tests.{eqb-true, eq-eqb, ne-eqb}
+use borrow.Author.Tests.{eq-eqb, ne-eqb}
 use Rattle.descriptor.specs.declared.address.SegmentAddress.{SegmentAddress}
 use Rattle.descriptor.specs.declared.Target.{Target}
 use Rattle.descriptor.specs.declared.Kind.{Kind}
 use Rattle.descriptor.specs.declared.Kind.the-variants as K
-use Rattle.descriptor.specs.Fields.{isArray, address, arrayWord}
+use Rattle.descriptor.specs.Fields.{address}
 use Rattle.descriptor.specs.Kinds.{kindOf, segment}
-use Rattle.descriptor.proofs.Arrays.{array-kind, kind-array}
+use Rattle.descriptor.proofs.Arrays.{array-of, array-kind, kind-array}
 use Rattle.segment.specs.State.{flags, iorg}
 use Rattle.segment.specs.Blocks.{product, shapeAt}
 use Rattle.manual.specs.OrTrap.{andThen}
@@ -38,12 +38,9 @@ use Rattle.instructions_memory.proofs.Indexing.{stored, elementIn, inde
 
 -- ---- the block that an array's word names
 
-word-again : (w : ℕ) → isArray w ≡ true → w ≡ arrayWord (address w)
-word-again w array = omega (arith, eqb-true (w / 2 ^ 16) 0x200 array)
-
 kind-address : (w : ℕ) (a : SegmentAddress) → kindOf w ≡ K.Array a → a .0 ≡ address w
 kind-address w a e =
-    let again = word-again w (rw e at (kind-array w)) in
+    let again = array-of w (rw e at (kind-array w)) in
     let same : K.Array a ≡ K.Array (segment (address w)) = sym e ∙ ap kindOf again ∙ array-kind (address w) (omega arith) in
     let named : a ≡ segment (address w) = cc in
     ap (λ (b : SegmentAddress). b .0) named

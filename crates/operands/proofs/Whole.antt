@@ -1,15 +1,17 @@
 -- What a whole block is, as facts; and the tests by which the code finds out.
-use Prim.Native.Nat.{ℕ, zero, suc, _+_, _-_, _^_, _≤_, _<_, min}
+use Prim.Native.Nat.{ℕ, _+_, _-_, _^_, _≤_, _<_, min}
 use native.Mathlib.Omega.{arith}
-use mathlib.Core.Path.{_≡_, refl, sym, ap, _∙_}
-use mathlib.Core.Bool.{Bool, true, false, _&&_, and-true}
+use mathlib.Core.Path.{_≡_, sym, _∙_}
+use mathlib.Core.Bool.{true, false, and-true}
 use mathlib.Core.List.{List}
 use lib.Dec.{leb, eqb}
 use lib.ListN.{length}
-use borrow.Author.Tests.{leb-true, eqb-true, eqb-false, le-leb, eq-eqb, ne-eqb}
-use Rattle.segment.specs.Blocks.{part, sizeAt, rankAt, product, shapeAt, elementsAt}
+use borrow.Author.Tests.{leb-true, eqb-true, le-leb}
+use Rattle.descriptor.proofs.Truth.{fails, both, same-test}
+use Rattle.segment.specs.Blocks.{sizeAt, rankAt, product, shapeAt, elementsAt}
 use Rattle.segment.specs.Parts.{shapePart, elementsPart}
 use Rattle.segment.proofs.Parts.{shape-part, elements-part}
+use Rattle.segment.proofs.Runs.{part-length}
 use Rattle.effects.specs.Seen.{whole}
 
 pub record Whole (s : List ℕ) (a : ℕ) : Type 0 where
@@ -21,25 +23,6 @@ pub record Whole (s : List ℕ) (a : ℕ) : Type 0 where
   pub elements : length (elementsAt s a) ≡ product (shapeAt s a)
   pub fits : length (elementsAt s a) + 2 + rankAt s a ≤ length s
   pub small : product (shapeAt s a) < 2 ^ 16
-
-part-length : (s : List ℕ) (a n : ℕ) → length (part s a n) ≡ n
-part-length s a zero = refl
-part-length s a (suc n) = ap suc (part-length s (a + 1) n)
-
-both : (p q : Bool) → (p && q) ≡ true → (p ≡ true) × (q ≡ true)
-both true q h = (refl, h)
-both false q h = (h, cc)
-
-refused : (p : Bool) → (p ≡ true → ⊥) → p ≡ false
-refused true never = absurd (never refl)
-refused false never = refl
-
-same-test : (a b x y : ℕ) → (a ≡ b → x ≡ y) → (x ≡ y → a ≡ b) → eqb a b ≡ eqb x y
-same-test a b x y to from = by-test (eqb x y) refl
-  where
-    by-test : (t : Bool) → eqb x y ≡ t → eqb a b ≡ t
-    by-test true e = eq-eqb a b (from (eqb-true x y e))
-    by-test false e = ne-eqb a b (λ same. eqb-false x y e (to same))
 
 -- A product that is capped at 2^16 is exact where the size has sixteen bits.
 capped-test : (size rank n : ℕ) → size < 2 ^ 16 → 2 + rank ≤ size → eqb (size - 2 - rank) (min n 65536) ≡ eqb size (2 + rank + n)
@@ -79,7 +62,7 @@ module _ (s : List ℕ) (a : ℕ) where
   whole-elements h = let w = whole-facts h in elements-part s a (w .sized) (w .inside)
 
   not-whole : (Whole s a → ⊥) → whole s a ≡ false
-  not-whole never = refused (whole s a) (λ h. never (whole-facts h))
+  not-whole never = fails (whole s a) (λ h. never (whole-facts h))
 
   pub unranked : rankAt s a < 1 → whole s a ≡ false
   unranked h = not-whole (λ w. omega arith)

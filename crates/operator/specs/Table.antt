@@ -8,7 +8,6 @@ use Rattle.operator.specs.declared.Monadic.{Monadic}
 use Rattle.operator.specs.declared.Monadic.the-variants.{Identity, Negative, Floor, Ceiling, Magnitude, Not, TestNumber, Convert}
 use Rattle.operator.specs.declared.Dyadic.{Dyadic}
 use Rattle.operator.specs.declared.Dyadic.the-variants.{Sum, Difference, Product, Quotient, LogicalProduct, LogicalSum, Less, Equal}
-use Rattle.operator.specs.declared.Operator.{Operator}
 use Rattle.operator.specs.declared.Operator.the-variants as O
 use Rattle.operator.specs.declared.Suboperation.{Suboperation}
 use Rattle.operator.specs.declared.Suboperation.the-variants.{Defined, Undefined}

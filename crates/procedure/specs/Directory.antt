@@ -1,7 +1,7 @@
 -- The directory of a procedure segment, and the functions in it: document 01's "Procedure segment", its first two sentences,
 -- with decision 8 of docs/DECISIONS.md. A reader must believe: where an entry stands and which half is which. Assumes nothing.
 use Prim.Native.Nat.{ℕ, _*_, _/_, _%_, _^_}
-use mathlib.Core.Bool.{Bool, true, false, cond}
+use mathlib.Core.Bool.{Bool, false, cond}
 use mathlib.Core.List.{List}
 use lib.Dec.{ltb, eqb}
 use Rattle.procedure.specs.declared.header.Header.{Header}
@@ -50,12 +50,6 @@ ncodeOf p fn = headerOfFunction p fn .ncode
 
 abbrev pub resultOf : List ℕ → ℕ → Bool
 resultOf p fn = headerOfFunction p fn .result
-
-abbrev pub calltraceOf : List ℕ → ℕ → Bool
-calltraceOf p fn = headerOfFunction p fn .calltrace
-
-abbrev pub rtntraceOf : List ℕ → ℕ → Bool
-rtntraceOf p fn = headerOfFunction p fn .rtntrace
 
 unfoldable pub functionOf : List ℕ → ℕ → Function
 functionOf p fn = cond (hasFunction p fn) (F.At (blockAt p (startOf p fn))) F.Absent

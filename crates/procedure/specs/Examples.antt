@@ -2,14 +2,14 @@
 -- Nothing rests on this file. Assumes nothing.
 use mathlib.Core.Path.{_≡_, refl}
 use mathlib.Core.Bool.{true, false}
-use mathlib.Core.List.{List, [], _∷_, _++_}
+use mathlib.Core.List.{List, [], _∷_}
 use Prim.Native.Nat.{ℕ}
 use lib.ListN.{set}
 use Rattle.procedure.specs.declared.header.Line.the-variants as L
 use Rattle.procedure.specs.Bytes.{halfAt, wordAt}
-use Rattle.procedure.specs.Headers.{headerAt, blockAt, codeOf, lineOf}
-use Rattle.procedure.specs.Directory.{hasFunction, inDirectory, nargsOf, nlocalsOf, ncodeOf, nlinesOf, resultOf}
-use Rattle.procedure.specs.Refusal.{lengthRefused, entriesRefused, headerFault, functionFault, functionsFault, contentsFault, procedureRefusal}
+use Rattle.procedure.specs.Headers.{headerAt, blockAt, lineOf}
+use Rattle.procedure.specs.Directory.{hasFunction, inDirectory, nargsOf, resultOf}
+use Rattle.procedure.specs.Refusal.{segmentLengthTest, entriesTest, headerTest, blockTest, blocksTest, contentsTest, procedureRefusal}
 
 -- Two entries; function 1 at word 2, 4 words long: RESULT, one argument, one line, one local, one word of code; line 1 at byte 8.
 abbrev sample : List ℕ
@@ -23,7 +23,7 @@ sample =
     ∷ []
 
 accepted : procedureRefusal sample sample ≡ 0
-unfolding procedureRefusal lengthRefused contentsFault entriesRefused functionsFault functionFault headerFault headerAt wordAt
+unfolding procedureRefusal segmentLengthTest contentsTest entriesTest blocksTest blockTest headerTest headerAt wordAt
 accepted = refl
 
 present : inDirectory true [] sample 1 ≡ true
@@ -48,13 +48,13 @@ first-line = refl
 
 -- Too short by two bytes; RESULT without a local; a block that starts in the directory.
 cut : procedureRefusal sample (0x00 ∷ 0x00 ∷ []) ≡ 11
-unfolding procedureRefusal lengthRefused
+unfolding procedureRefusal segmentLengthTest
 cut = refl
 
 no-local : procedureRefusal sample (set sample 13 0x00) ≡ 12
-unfolding procedureRefusal lengthRefused contentsFault entriesRefused functionsFault functionFault headerFault headerAt wordAt
+unfolding procedureRefusal segmentLengthTest contentsTest entriesTest blocksTest blockTest headerTest headerAt wordAt
 no-local = refl
 
 in-directory : procedureRefusal (set sample 5 0x01) sample ≡ 12
-unfolding procedureRefusal lengthRefused contentsFault entriesRefused functionsFault functionFault headerFault headerAt wordAt
+unfolding procedureRefusal segmentLengthTest contentsTest entriesTest blocksTest blockTest headerTest headerAt wordAt
 in-directory = refl

@@ -1,11 +1,10 @@
 -- A function's block: document 01's "Procedure segment", from "Header word 0" to "7+4·NCODE". A block is named by its
 -- first word in the segment. A reader must believe: which bits each name stands for. Assumes nothing.
 use Prim.Native.Nat.{ℕ, _+_, _-_, _*_, _/_, _%_, _^_}
-use mathlib.Core.Bool.{Bool, true, false, cond}
+use mathlib.Core.Bool.{Bool, cond}
 use mathlib.Core.List.{List}
 use lib.ListN.{take, drop}
 use lib.Dec.{ltb, eqb}
-use Rattle.descriptor.specs.declared.address.CodeAddress.{CodeAddress}
 use Rattle.procedure.specs.declared.header.Header.{Header}
 use Rattle.procedure.specs.declared.header.Block.{Block}
 use Rattle.procedure.specs.declared.header.Line.{Line}

@@ -3,5 +3,6 @@ pub mod Bytes
 pub mod Headers
 pub mod Directory
 pub mod Refusal
+pub mod Faults
 pub mod Accepted
 pub mod Examples

@@ -1,6 +1,7 @@
 // Tests 11 and 12: what refuses a procedure segment, told before anything is read through it.
 ghost use mathlib.Core.Path.{_≡_};
-ghost use Rattle.procedure.specs.Refusal.{lengthRefused, entriesRefused, resultLacksLocal, headerFault, functionFault, functionsFault, contentsFault, faultOf, procedureRefusal, refusalNumber};
+ghost use Rattle.procedure.specs.Refusal.{segmentLengthTest, entriesTest, resultHasLocal, procedureRefusal, refusalNumber};
+ghost use Rattle.procedure.specs.Faults.{headerFault, functionFault, contentsFault, faultOf};
 use crate::bytes::word_at;
 use crate::directory::entries;
 use crate::directory::length_of;
@@ -38,10 +39,10 @@ pub enum Refusal {
 pub fn judge(regular: &[u8], alternate: &[u8]) -> Refusal
     ensures { λ r. ⌜ refusalNumber r ≡ procedureRefusal (now (regular .entry)) (now (alternate .entry)) ⌝ }
 {
-    if length_refused(regular) {
+    if !length_passes(regular) {
         return Refusal::Length;
     }
-    if length_refused(alternate) {
+    if !length_passes(alternate) {
         return Refusal::Length;
     }
     let Fault::Nothing = contents_fault(regular) else {
@@ -57,32 +58,29 @@ pub fn judge(regular: &[u8], alternate: &[u8]) -> Refusal
 pub fn fault_of(p: &[u8]) -> Fault
     ensures { λ r. ⌜ r ≡ faultOf (now (p .entry)) ⌝ }
 {
-    if length_refused(p) {
-        return Fault::SegmentLength;
+    if length_passes(p) {
+        return contents_fault(p);
     }
-    contents_fault(p)
+    Fault::SegmentLength
 }
 
-pub fn length_refused(p: &[u8]) -> bool
-    ensures { λ r. ⌜ r ≡ lengthRefused (now (p .entry)) ⌝ }
+fn length_passes(p: &[u8]) -> bool
+    ensures { λ r. ⌜ r ≡ segmentLengthTest (now (p .entry)) ⌝ }
 {
     if p.len() < 4 {
-        return true;
-    }
-    if 32768 < p.len() {
-        return true;
-    }
-    if p.len() % 4 == 0 {
         return false;
     }
-    true
+    if 32768 < p.len() {
+        return false;
+    }
+    p.len() % 4 == 0
 }
 
 // The directory, then function after function.
 fn contents_fault(p: &[u8]) -> Fault
     ensures { λ r. ⌜ r ≡ contentsFault (now (p .entry)) ⌝ }
 {
-    if entries_refused(p) {
+    if !entries_pass(p) {
         return Fault::Entries;
     }
     let end = entries(p);
@@ -97,24 +95,24 @@ fn contents_fault(p: &[u8]) -> Fault
     Fault::Nothing
 }
 
-fn entries_refused(p: &[u8]) -> bool
-    ensures { λ r. ⌜ r ≡ entriesRefused (now (p .entry)) ⌝ }
+fn entries_pass(p: &[u8]) -> bool
+    ensures { λ r. ⌜ r ≡ entriesTest (now (p .entry)) ⌝ }
 {
     let word = word_at(p, 0);
     let n = word % 0x1_0000;
-    if 0 < word / 0x1_0000 {
-        return true;
+    if word / 0x1_0000 != 0 {
+        return false;
     }
     if n < 1 {
-        return true;
+        return false;
     }
     if 2048 < n {
-        return true;
+        return false;
     }
-    p.len() < 4 * n as usize
+    4 * n as usize <= p.len()
 }
 
-// Function k: it lies in the segment after the directory, and has at least a header.
+// Function k: it lies in the segment after the directory.
 fn function_fault(p: &[u8], k: u16) -> Fault
     ensures { λ r. ⌜ r ≡ functionFault (now (p .entry)) k ⌝ }
 {
@@ -126,9 +124,6 @@ fn function_fault(p: &[u8], k: u16) -> Fault
     if p.len() < 4 * (start as usize + length as usize) {
         return Fault::Function(k, FunctionFault::End);
     }
-    if length < 2 {
-        return Fault::Function(k, FunctionFault::Length);
-    }
     header_fault(k, header_at(p, start), word_at(p, 4 * start as u32), length)
 }
 
@@ -136,30 +131,30 @@ fn function_fault(p: &[u8], k: u16) -> Fault
 fn header_fault(k: u16, h: Header, word0: u32, length: u16) -> Fault
     ensures { λ r. ⌜ r ≡ headerFault k h word0 length ⌝ }
 {
-    if 0 < word0 / 0x100_0000 % 0x20 {
+    if length as u32 != 2 + h.ncode as u32 + (h.nlines as u32 + 1) / 2 {
+        return Fault::Function(k, FunctionFault::Length);
+    }
+    if word0 / 0x100_0000 % 0x20 != 0 {
         return Fault::Function(k, FunctionFault::UnnamedBits);
     }
     if 15 < h.nargs {
         return Fault::Function(k, FunctionFault::Arguments);
     }
-    if lacks_local(h.result, h.nlocals) {
+    if !result_has_local(h.result, h.nlocals) {
         return Fault::Function(k, FunctionFault::ResultLocal);
     }
     if 4096 < h.nargs as u32 + h.nlocals as u32 {
         return Fault::Function(k, FunctionFault::Variables);
     }
-    if length as u32 == 2 + h.ncode as u32 + (h.nlines as u32 + 1) / 2 {
-        return Fault::Nothing;
-    }
-    Fault::Function(k, FunctionFault::Length)
+    Fault::Nothing
 }
 
 // RESULT needs a local to take the result from.
-fn lacks_local(result: bool, nlocals: u16) -> bool
-    ensures { λ r. ⌜ r ≡ resultLacksLocal result nlocals ⌝ }
+fn result_has_local(result: bool, nlocals: u16) -> bool
+    ensures { λ r. ⌜ r ≡ resultHasLocal result nlocals ⌝ }
 {
     if result {
-        return nlocals < 1;
+        return 1 <= nlocals;
     }
-    false
+    true
 }

@@ -5,7 +5,7 @@
 --     plus-comm, plus-zero-left, plus-zero-right, plus-integers
 use mathlib.Core.Path.{_≡_, refl, sym, ap, ap₂, _∙_, subst}
 use mathlib.Core.Bool.{Bool, true, false}
-use Prim.Native.Nat.{ℕ, zero, _+_, _-_, _*_, _/_, _%_, _^_, _≤_, _<_}
+use Prim.Native.Nat.{ℕ, _+_, _-_, _*_, _/_, _%_, _^_, _≤_, _<_}
 use native.Mathlib.Nat.{add-comm, zero-add, sub-zero, add-mul, mul-sub, mul-comm, mul-one, mul-assoc, mul-le-mul-right, mul-lt-mul-of-pos-right, mul-div-cancel, div-one, eq-or-lt-of-le, le-of-lt, lt-trans, lt-of-lt-of-le, mul-pos, zero-mul, eq-zero-or-pos, mod-eq-of-lt, sub-add-cancel}
 use native.Mathlib.Decide.{ℕ-discrete, decLt}
 use native.Mathlib.Omega.{arith}

@@ -6,7 +6,7 @@ use Rattle.scalar.specs.Value.{one, units}
 use Rattle.scalar.specs.Operators.{productSign, ratioOf}
 use Rattle.scalar.specs.Parts.{Unpacked}
 use mathlib.Core.Path.{_≡_, sym, ap, ap₂, _∙_, subst}
-use Prim.Native.Nat.{ℕ, zero, _+_, _-_, _*_, _/_, _%_, _^_, _≤_, _<_}
+use Prim.Native.Nat.{ℕ, _+_, _-_, _*_, _/_, _%_, _^_, _≤_, _<_}
 use native.Mathlib.Nat.{mul-assoc, mul-comm, mul-pos, mul-lt-mul-of-pos-right, zero-mul, lt-irrefl, div-add-mod', mod-lt, le-div-iff-mul-le, pos-of-ne-zero, add-zero, zero-mod}
 use native.Mathlib.Omega.{arith}
 use lib.Pow.{pow-pos, pow-add}

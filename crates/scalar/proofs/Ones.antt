@@ -1,14 +1,14 @@
 -- Laws of rounding to a whole number of ones, down or up.
 use mathlib.Core.Path.{_≡_, refl, sym, ap, _∙_, subst}
-use Prim.Native.Nat.{ℕ, zero, _+_, _-_, _*_, _/_, _%_, _^_, _≤_, _<_}
+use Prim.Native.Nat.{ℕ, _+_, _-_, _*_, _/_, _%_, _^_, _≤_, _<_}
 use native.Mathlib.Nat.{mul-pos, mul-le-mul, mul-le-mul-right, zero-mul, mul-div-mul-right, mul-div-cancel, div-add-mod', mod-lt, div-eq-of-lt, lt-of-lt-of-le, mod-eq-of-lt, one-mul, pos-of-ne-zero, lt-irrefl}
 use native.Mathlib.Omega.{arith}
 use lib.Arith.{digits-div}
 use lib.Dec.{lit<}
 use lib.Pow.{pow-pos, pow-mono, pow-lt}
 use borrow.Author.Tests.{eq-eqb, ne-eqb, lt-ltb, le-ltb}
-use Rattle.scalar.specs.Value.{one, units}
-use Rattle.descriptor.specs.Fields.{sign, magnitude}
+use Rattle.scalar.specs.Value.{units}
+use Rattle.descriptor.specs.Fields.{sign}
 use Rattle.scalar.specs.Results.{integer}
 use Rattle.scalar.specs.Operators.{ones, wholeNear}
 use Rattle.scalar.specs.Parts.{Unpacked}

@@ -1,11 +1,12 @@
 -- The tests on operands' kinds: what a character, a float and two small words make of an operator.
 use Prim.Native.Nat.{ℕ, _/_, _%_, _^_}
 use mathlib.Core.Path.{_≡_, refl, sym, ap, _∙_}
-use mathlib.Core.Bool.{Bool, true, false, cond, _&&_, _||_}
+use mathlib.Core.Bool.{Bool, true, false, cond, _||_}
 use native.Mathlib.Omega.{arith}
 use lib.Dec.{eqb}
 use borrow.Author.Tests.{eq-eqb, ne-eqb, eqb-true, eqb-false}
 use Rattle.descriptor.specs.Fields.{isFloat, isCharacter, typeNumber}
+use Rattle.descriptor.proofs.Truth.{both}
 use Rattle.scalar.specs.Value.{oneFloat}
 use Rattle.scalar.specs.Results.{typeError}
 use Rattle.scalar.specs.Operators.{number, numbers}
@@ -64,13 +65,6 @@ first-plain a b h = ap (λ (t : Bool). t || isCharacter b) h
 
 -- ---- two words with bits 30–23 clear
 
-both-true : (p q : Bool) → (p && q) ≡ true → (p ≡ true) × (q ≡ true)
-both-true true q h = (refl, h)
-both-true false q h = let z : _≡_ {A = Bool} true false = sym h in absurd (differ z)
-  where
-    differ : _≡_ {A = Bool} true false → ⊥
-    differ z = let k : _≡_ {A = ℕ} 0 1 = cc in omega arith
-
 -- bits 30–23 of w are clear
 abbrev Small : ℕ → Type 0
 Small w = w / 2 ^ 23 % 2 ^ 8 ≡ 0
@@ -80,10 +74,10 @@ small-plain w h = sym (character-bits w) ∙ ne-eqb (w / 2 ^ 24 % 2 ^ 7) 1 (λ q
 
 module _ (a b : ℕ) (h : bothSmall a b ≡ true) where
   small-first : Small a
-  small-first = eqb-true (a / 2 ^ 23 % 2 ^ 8) 0 (both-true (eqb (a / 2 ^ 23 % 2 ^ 8) 0) (eqb (b / 2 ^ 23 % 2 ^ 8) 0) h .0)
+  small-first = eqb-true (a / 2 ^ 23 % 2 ^ 8) 0 (both (eqb (a / 2 ^ 23 % 2 ^ 8) 0) (eqb (b / 2 ^ 23 % 2 ^ 8) 0) h .0)
 
   small-second : Small b
-  small-second = eqb-true (b / 2 ^ 23 % 2 ^ 8) 0 (both-true (eqb (a / 2 ^ 23 % 2 ^ 8) 0) (eqb (b / 2 ^ 23 % 2 ^ 8) 0) h .1)
+  small-second = eqb-true (b / 2 ^ 23 % 2 ^ 8) 0 (both (eqb (a / 2 ^ 23 % 2 ^ 8) 0) (eqb (b / 2 ^ 23 % 2 ^ 8) 0) h .1)
 
   pub small-first-plain : isCharacter a ≡ false
   small-first-plain = small-plain a small-first

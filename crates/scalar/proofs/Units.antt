@@ -9,7 +9,7 @@ use lib.Count.{leadingZeros, leading-top}
 use lib.Pow.{pow-mono, pow-pos}
 use borrow.Author.Tests.{eq-eqb, ne-eqb, eqb-true}
 use Rattle.scalar.specs.Value.{one, units}
-use Rattle.descriptor.specs.Fields.{sign, magnitude, integerWord}
+use Rattle.descriptor.specs.Fields.{integerWord}
 use Rattle.scalar.specs.Operators.{withSign}
 use Rattle.scalar.specs.declared.Answer.the-variants.{Word}
 use Rattle.scalar.specs.Parts.{Unpacked, Normal}

@@ -1,6 +1,6 @@
 -- Document 01's marked examples M5 to M10, and more of them, by computation from the definitions. Assumes nothing.
 use mathlib.Core.Path.{_≡_, refl}
-use mathlib.Core.Bool.{true, false}
+use mathlib.Core.Bool.{true}
 use lib.Ieee.{size}
 use Rattle.descriptor.specs.Fields.{integerWord}
 use Rattle.scalar.specs.declared.Answer.the-variants.{Word, Trap}
@@ -9,7 +9,7 @@ use Rattle.scalar.specs.declared.Truth.the-variants as T
 use Rattle.scalar.specs.Value.{units}
 use Rattle.scalar.specs.Results.{integer, float, rounded, result}
 use Rattle.scalar.specs.Reading.{wholeUnits, wholeOf, truthUnits, truthOf}
-use Rattle.scalar.specs.Operators.{identity, negative, ones, wholeNear, floor, ceiling, magnitudeOf, notOf, testNumber, convert, sumSign, sumSize, plus, minus, times, sum, difference, product, ratioOf, quotient, logicalProduct, logicalSum, less, equal}
+use Rattle.scalar.specs.Operators.{negative, ones, wholeNear, floor, ceiling, notOf, convert, sumSign, sumSize, plus, minus, times, sum, difference, product, ratioOf, quotient, logicalProduct, logicalSum, less, equal}
 
 pub record Marked : Type 0 where
   -- 1 as a float; 1 divided by 2; 8,388,607 + 1; 4,194,304 + 0.5 and 4,194,305 + 0.5, with the floats that they are

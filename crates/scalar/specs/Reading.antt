@@ -1,7 +1,7 @@
 -- How a scalar is read where the manual wants a whole number, or wants zero or one. Each is said once, here.
 -- A reader must believe: "integral" and "equal to zero or one" are meant so. Assumes nothing.
-use Prim.Native.Nat.{ℕ, _*_, _/_, _%_, _^_, min}
-use mathlib.Core.Bool.{Bool, true, false, cond, _&&_}
+use Prim.Native.Nat.{ℕ, _/_, _%_, _^_, min}
+use mathlib.Core.Bool.{true, false, cond, _&&_}
 use lib.Dec.{ltb, eqb}
 use Rattle.descriptor.specs.Fields.{sign, isCharacter}
 use Rattle.scalar.specs.Value.{one, units}

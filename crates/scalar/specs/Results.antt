@@ -8,7 +8,7 @@ use mathlib.Core.Bool.{Bool, cond}
 use lib.Dec.{ltb, eqb}
 use lib.Ieee.{size}
 use lib.Ieee.Nearest.{closest}
-use Rattle.descriptor.specs.Fields.{integerWord, floatWord}
+use Rattle.descriptor.specs.Fields.{integerLimit, integerWord, floatWord}
 use Rattle.scalar.specs.Value.{one}
 use Rattle.scalar.specs.declared.Answer.{Answer}
 use Rattle.scalar.specs.declared.Answer.the-variants.{Word, Trap}
@@ -31,9 +31,9 @@ zeroDivisor = Trap 8 4
 abbrev pub domainError : Answer
 domainError = Trap 8 5
 
--- The integer of magnitude n, which is below 2 ^ 23.
+-- The integer of magnitude n, which is at most the integer limit.
 unfoldable pub integer : ℕ → ℕ → Answer
-integer s n = cond (ltb n (2 ^ 23)) (Word (integerWord s n)) integerOverflow
+integer s n = cond (ltb n (integerLimit + 1)) (Word (integerWord s n)) integerOverflow
 
 -- The float of m * 2 ^ e units, for an m of 23 digits: below 2 ^ 128, which is 2 ^ 278 units. Rounding may have made m
 -- 2 ^ 23; the fraction's carry then makes the exponent one more and the fraction 0.

@@ -6,11 +6,12 @@ ghost use Rattle.descriptor.specs.Kinds.{bit};
 ghost use Rattle.scalar.specs.Reading as S;
 use crate::Truth;
 use crate::Whole;
+use descriptor::Descriptor;
 
 pub fn is_character(w: u32) -> bool
     ensures { λ r. ⌜ r ≡ isCharacter w ⌝ }
 {
-    w / 0x100_0000 % 0x80 == 1
+    w / 0x100_0000 % 0x80 == Descriptor::TYPE_CHARACTER
 }
 
 pub fn whole(w: u32) -> Whole

@@ -5,6 +5,7 @@ ghost use lib.Ieee.Nearest.{closest};
 ghost use Rattle.scalar.specs.Value.{one};
 ghost use Rattle.scalar.specs.Results as S;
 use crate::Answer;
+use descriptor::Descriptor;
 
 // The integer of magnitude n; zero has no sign.
 pub fn integer(s: u32, n: u64) -> Answer
@@ -14,7 +15,7 @@ pub fn integer(s: u32, n: u64) -> Answer
     if n == 0 {
         return Answer::Word(0);
     }
-    if n < 0x80_0000 {
+    if n <= Descriptor::INTEGER_LIMIT as u64 {
         Answer::Word(s * 0x8000_0000 + n as u32)
     } else {
         Answer::Trap(8, 1)

@@ -1,3 +1,4 @@
 -- Laws of the crate.
 pub mod Copies
 pub mod Parts
+pub mod Runs

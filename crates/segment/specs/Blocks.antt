@@ -1,7 +1,7 @@
 -- The words of the blocks of array storage, as document 01 has them under "Data segment": an array's block, a free block and
 -- the dummy. A reader must believe: which word and bits each name stands for. Assumes nothing.
 use Prim.Native.Nat.{ℕ, zero, suc, _+_, _-_, _*_, _/_, _%_, _^_}
-use mathlib.Core.Bool.{Bool, true, false, cond}
+use mathlib.Core.Bool.{Bool}
 use mathlib.Core.List.{List, [], _∷_}
 use lib.ListN.{getD, length}
 use lib.Dec.{leb}

@@ -1,6 +1,6 @@
 -- The stack and its frames, as document 01 has them under "Data segment". LTOP, LBASE and last LBASE count from SBASE.
 -- A reader must believe: which word and bits each name stands for. Assumes nothing.
-use Prim.Native.Nat.{ℕ, zero, suc, _+_, _-_, _*_, _/_, _%_, _^_}
+use Prim.Native.Nat.{ℕ, zero, suc, _+_, _*_, _/_, _%_, _^_}
 use mathlib.Core.List.{List, [], _∷_}
 use lib.ListN.{getD, set}
 use Rattle.segment.specs.State.{sbase, lbase, low}

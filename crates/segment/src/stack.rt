@@ -22,12 +22,6 @@ pub fn global(seg: &[u32], at: SegmentAddress) -> u32
     word(seg, at.index())
 }
 
-pub fn set_global(seg: &mut [u32], at: SegmentAddress, w: u32)
-    ensures { λ _. ⌜ now (seg .exit) ≡ set (now (seg .entry)) (at .0) w ⌝ }
-{
-    put(seg, at.index(), w);
-}
-
 // The word of the stack at an address: a cell's, or a frame's.
 pub fn cell(seg: &[u32], at: StackAddress) -> u32
     ensures { λ r. ⌜ r ≡ frames.stackAt (now (seg .entry)) (at .0) ⌝ }

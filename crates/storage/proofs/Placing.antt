@@ -1,5 +1,5 @@
 -- An array placed, by what its request found.
-use Prim.Native.Nat.{ℕ, _+_, _^_, _<_}
+use Prim.Native.Nat.{ℕ, _^_, _<_}
 use mathlib.Core.Path.{_≡_, refl, ap}
 use mathlib.Core.Bool.{Bool, true, false, cond}
 use mathlib.Core.List.{List}
@@ -25,7 +25,7 @@ full-zero a full = by-test (eqb a 0) refl full
     by-test true e full = eqb-true a 0 e
     by-test false e full = let never : _≡_ {A = ℕ} 0 1 = cc in omega arith
 
-at-some : (a : ℕ) (block : SegmentAddress) → found a ≡ At block → (a ≡ 0 → ⊥) × (a ≡ block .0)
+pub at-some : (a : ℕ) (block : SegmentAddress) → found a ≡ At block → (a ≡ 0 → ⊥) × (a ≡ block .0)
 unfolding found
 at-some a block at = by-test (eqb a 0) refl at
   where

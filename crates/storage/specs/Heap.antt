@@ -1,9 +1,8 @@
 -- What array storage must be: blocks that tile it from BLOCKPTR to SBASE, and one ring through the dummy and every free block.
 -- This is tests 14 and 15 of document 01 as a structure, apart from what stands inside an array (Owned). Assumes nothing.
-use Prim.Native.Nat.{ℕ, _+_, _-_, _*_, _≤_, _<_, _^_}
+use Prim.Native.Nat.{ℕ, _+_, _-_, _*_, _≤_, _^_}
 use mathlib.Core.Path.{_≡_}
 use mathlib.Core.Bool.{Bool, true, false, cond}
-use mathlib.Core.Logic.{_⊎_}
 use mathlib.Core.List.{List, [], _∷_}
 use lib.ListN.{getD, length}
 use lib.Dec.{eqb}

@@ -6,7 +6,7 @@ use mathlib.Core.Bool.{true}
 use mathlib.Core.Logic.{_⊎_}
 use mathlib.Core.List.{List, [], _∷_}
 use lib.ListN.{getD, length}
-use Rattle.descriptor.specs.Fields.{arrayWord}
+use Rattle.descriptor.specs.Fields.{integerLimit, arrayWord}
 use Rattle.descriptor.specs.Kinds.{isScalar}
 use Rattle.segment.specs.State.{sbase, blockptr}
 use Rattle.segment.specs.Blocks.{countAt, rankAt, shapeAt, elementsAt, product}
@@ -24,7 +24,7 @@ pub record Inside (s : List ℕ) (x size : ℕ) : Type 0 where
   pub clear : getD s (x + 1) 0 % 2 ^ 16 ≡ rankAt s x
   pub rank : 1 ≤ rankAt s x
   pub sized : size ≡ 2 + rankAt s x + product (shapeAt s x)
-  pub lengths : (w : ℕ) → 0 < count w (shapeAt s x) → w ≤ 8388607
+  pub lengths : (w : ℕ) → 0 < count w (shapeAt s x) → w ≤ integerLimit
   pub scalars : (w : ℕ) → 0 < count w (elementsAt s x) → isScalar w ≡ true
 
 -- Array storage whose arrays are pointed to by the words of `owners`, in any order, and by nothing else.
@@ -40,7 +40,7 @@ pub record Owned (s owners : List ℕ) : Type 0 where
 pub record Proper (shape elements : List ℕ) : Type 0 where
   pub rank : (1 ≤ length shape) × (length shape ≤ 15)
   pub size : product shape ≡ length elements
-  pub lengths : (w : ℕ) → 0 < count w shape → w ≤ 8388607
+  pub lengths : (w : ℕ) → 0 < count w shape → w ≤ integerLimit
   pub scalars : (w : ℕ) → 0 < count w elements → isScalar w ≡ true
 
 -- What a step in array storage leaves: every word outside it, but for ROVER.

@@ -1,6 +1,6 @@
 -- The ring of free blocks and the tags of blocks: single fields written anew, the rest of the word kept.
 -- A reader must believe: these are the fields of document 01's "Data segment". Assumes nothing.
-use Prim.Native.Nat.{ℕ, _+_, _-_, _*_, _/_, _%_, _^_}
+use Prim.Native.Nat.{ℕ, _+_, _-_, _*_, _%_, _^_}
 use mathlib.Core.Bool.{cond}
 use mathlib.Core.List.{List}
 use lib.ListN.{getD, set}

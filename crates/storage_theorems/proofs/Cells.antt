@@ -1,12 +1,11 @@
 -- What an array holds and what a cell is seen as, over words that are the same.
-use Prim.Native.Nat.{ℕ, zero, suc, _+_, _/_, _%_, _^_, _<_}
+use Prim.Native.Nat.{ℕ, zero, suc, _+_, _%_, _^_, _<_}
 use mathlib.Core.Path.{_≡_, refl, sym, _∙_}
 use mathlib.Core.Bool.{true, false}
 use mathlib.Core.List.{List}
 use mathlib.Core.Logic.{⊎-elim}
 use native.Mathlib.Omega.{arith}
 use lib.ListN.{getD}
-use borrow.Author.Tests.{eqb-true, eq-eqb}
 use Rattle.descriptor.specs.Fields.{isArray, address, arrayWord}
 use Rattle.segment.specs.Blocks.{rankAt, part, product, shapeAt, elementsAt}
 use Rattle.segment.specs.Cells.{cell, cellOfKind, value}
@@ -14,8 +13,9 @@ use Rattle.descriptor.specs.declared.Kind.{Kind}
 use Rattle.descriptor.specs.declared.Kind.the-variants as K
 use Rattle.descriptor.specs.Kinds.{kindOf}
 use Rattle.descriptor.proofs.Arrays.{IfArray, array-kind, kind-array}
+pub use Rattle.descriptor.proofs.Arrays.{array-of}
 use Rattle.storage.specs.Owned.{Inside}
-use Rattle.storage_theorems.proofs.Ways.{decide}
+use Rattle.descriptor.proofs.Truth.{decide}
 use Rattle.storage_theorems.proofs.Walks.{Same}
 
 pub part-same : (s s′ : List ℕ) (a n : ℕ) → Same s s′ a (a + n) → part s′ a n ≡ part s a n
@@ -53,12 +53,6 @@ module _ (s s′ : List ℕ) (x z : ℕ) (h : Inside s x z) (r : getD s′ (x + 
   }
 
 -- what a word is seen as
-pub array-of : (w : ℕ) → isArray w ≡ true → w ≡ arrayWord (address w)
-array-of w e = omega (arith, eqb-true (w / 2 ^ 16) 0x200 e)
-
-pub is-array : (x : ℕ) → x < 2 ^ 16 → isArray (arrayWord x) ≡ true
-is-array x l = eq-eqb (arrayWord x / 2 ^ 16) 0x200 (omega arith)
-
 pub cell-array : (s : List ℕ) (x : ℕ) → x < 2 ^ 16 → cell s (arrayWord x) ≡ value (shapeAt s x) (elementsAt s x)
 unfolding cell
 cell-array s x l = rw (array-kind x l)

@@ -37,6 +37,10 @@ hit-eq x y e = rw e (hit-same y)
 pub hit-not : (x y : ℕ) → x ≢ y → hit x y ≡ 0
 hit-not x y n = ⊎-elim (λ e. absurd (n (e .0))) (λ e. e .1) (hit-cases x y)
 
+pub count-le : (x : ℕ) (l : List ℕ) → count x l ≤ length l
+count-le x [] = omega arith
+count-le x (y ∷ l) = ⊎-elim (λ e. omega (arith, e, count-le x l)) (λ e. omega (arith, e, count-le x l)) (hit-cases x y)
+
 pub count-append : (x : ℕ) (l m : List ℕ) → count x (l ++ m) ≡ count x l + count x m
 count-append x [] m = omega arith
 count-append x (y ∷ l) m = omega (arith, count-append x l m)

@@ -1,13 +1,8 @@
 -- M1's storage with no owner, and M2's in which one word owns the vector: the invariant holds of what examples compute.
-use Prim.Native.Nat.{ℕ, _+_}
-use mathlib.Core.Path.{_≡_, refl}
-use mathlib.Core.Bool.{true}
+use Prim.Native.Nat.{ℕ}
 use mathlib.Core.List.{List, [], _∷_}
 use mathlib.Core.Logic.{inl}
 use native.Mathlib.Omega.{arith}
-use Rattle.descriptor.specs.Fields.{arrayWord}
-use Rattle.segment.specs.Blocks.{need}
-use Rattle.storage.specs.Arrays.{placeAt, place}
 use Rattle.storage.specs.Heap.{free}
 use Rattle.storage.specs.Owned.{Owned, Proper}
 use Rattle.storage.specs.Examples.{fresh, m1-heap}

@@ -2,7 +2,7 @@
 use Prim.Native.Nat.{ℕ, _+_, _-_, _/_, _%_, _^_, _<_, _≤_}
 use mathlib.Core.Path.{_≡_, _∙_, ap}
 use mathlib.Core.List.{List}
-use mathlib.Core.Logic.{_≢_, _⊎_, inl, inr, ⊎-elim}
+use mathlib.Core.Logic.{_≢_, ⊎-elim}
 use native.Mathlib.Omega.{arith}
 use lib.ListN.{getD, length, length-set}
 use lib.Seq.{set-out, getD-set-same, getD-set-other, lt-length-set}
@@ -10,7 +10,7 @@ use Rattle.segment.specs.State.{rover, setRover}
 use Rattle.segment.specs.Blocks.{nextAt, lastAt}
 use Rattle.storage.specs.Ring.{setNext, setLast, setPrevFree, markFree, moveRover}
 use Rattle.storage.specs.Heap.{hit}
-use Rattle.storage_theorems.proofs.Ways.{moveRover-yes, moveRover-no}
+use Rattle.storage.proofs.Releases.{moveRover-on, moveRover-off}
 use Rattle.storage_theorems.proofs.Counts.{order, hit-cases}
 
 module _ (s : List ℕ) (a v : ℕ) where
@@ -114,25 +114,19 @@ module _ (s : List ℕ) (p n : ℕ) where
 
 pub moveRover-length : (s : List ℕ) (q p : ℕ) → length (moveRover s q p) ≡ length s
 moveRover-length s q p =
-    ⊎-elim (λ e. ap length (moveRover-yes s q p (e .0)) ∙ setRover-length s p) (λ e. ap length (moveRover-no s q p (e .0))) (hit-cases (rover s) q)
+    ⊎-elim (λ e. ap length (moveRover-on s q p (e .0)) ∙ setRover-length s p) (λ e. ap length (moveRover-off s q p (e .0))) (hit-cases (rover s) q)
 
 pub moveRover-other : (s : List ℕ) (q p i : ℕ) → i ≢ 1 → getD (moveRover s q p) i 0 ≡ getD s i 0
 moveRover-other s q p i h =
-    ⊎-elim (λ e. ap (λ (l : List ℕ). getD l i 0) (moveRover-yes s q p (e .0)) ∙ setRover-other s p i h)
-    (λ e. ap (λ (l : List ℕ). getD l i 0) (moveRover-no s q p (e .0))) (hit-cases (rover s) q)
+    ⊎-elim (λ e. ap (λ (l : List ℕ). getD l i 0) (moveRover-on s q p (e .0)) ∙ setRover-other s p i h)
+    (λ e. ap (λ (l : List ℕ). getD l i 0) (moveRover-off s q p (e .0))) (hit-cases (rover s) q)
 
 pub moveRover-base : (s : List ℕ) (q p : ℕ) → 1 < length s → p < 2 ^ 16 → getD (moveRover s q p) 1 0 / 2 ^ 16 ≡ getD s 1 0 / 2 ^ 16
 moveRover-base s q p l k =
-    ⊎-elim (λ e. ap (λ (u : List ℕ). getD u 1 0 / 2 ^ 16) (moveRover-yes s q p (e .0)) ∙ setRover-base s p l k)
-    (λ e. ap (λ (u : List ℕ). getD u 1 0 / 2 ^ 16) (moveRover-no s q p (e .0))) (hit-cases (rover s) q)
+    ⊎-elim (λ e. ap (λ (u : List ℕ). getD u 1 0 / 2 ^ 16) (moveRover-on s q p (e .0)) ∙ setRover-base s p l k)
+    (λ e. ap (λ (u : List ℕ). getD u 1 0 / 2 ^ 16) (moveRover-off s q p (e .0))) (hit-cases (rover s) q)
 
 -- ROVER moves exactly where it stood on the vanished block
 pub moveRover-moves : (s : List ℕ) (q p : ℕ) → 1 < length s → p < 2 ^ 16
     → (rover s ≡ q → rover (moveRover s q p) ≡ p) × (rover s ≢ q → rover (moveRover s q p) ≡ rover s)
-moveRover-moves s q p l k = (λ e. ap rover (moveRover-yes s q p e) ∙ setRover-rover s p l k, λ e. ap rover (moveRover-no s q p e))
-
-pub moveRover-rover : (s : List ℕ) (q p : ℕ) → 1 < length s → p < 2 ^ 16
-    → (rover (moveRover s q p) ≡ p) ⊎ ((rover s ≢ q) × (rover (moveRover s q p) ≡ rover s))
-moveRover-rover s q p l k =
-    let m = moveRover-moves s q p l k in
-    ⊎-elim (λ e. inl (m .0 (e .0))) (λ e. inr (e .0, m .1 (e .0))) (hit-cases (rover s) q)
+moveRover-moves s q p l k = (λ e. ap rover (moveRover-on s q p e) ∙ setRover-rover s p l k, λ e. ap rover (moveRover-off s q p e))

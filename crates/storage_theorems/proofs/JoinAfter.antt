@@ -1,5 +1,5 @@
 -- A release that joins the free block after the array keeps the heap.
-use Prim.Native.Nat.{ℕ, _+_, _-_, _/_, _%_, _^_, _<_, _≤_}
+use Prim.Native.Nat.{ℕ, _+_, _-_, _<_, _≤_}
 use mathlib.Core.Path.{_≡_, refl, sym, _∙_, ap}
 use mathlib.Core.Bool.{Bool, true, false}
 use mathlib.Core.List.{List, _∷_, _++_}
@@ -8,7 +8,7 @@ use native.Mathlib.Omega.{arith}
 use lib.ListN.{getD, length}
 use Rattle.segment.specs.State.{sbase, rover, blockptr}
 use Rattle.segment.specs.Blocks.{prevFreeAt, sizeAt, nextAt, lastAt}
-use Rattle.storage.specs.Ring.{markFree, hook, relink, moveRover}
+use Rattle.storage.specs.Ring.{hook, relink}
 use Rattle.storage.specs.Release.{joinAfter}
 use Rattle.storage.specs.Heap.{Block, Walk, over, frees, hit, count, Links, Heap, free, array}
 use Rattle.storage_theorems.specs.Words.{Inner, Quiet, Leaves}
@@ -16,7 +16,7 @@ use Rattle.storage_theorems.proofs.Walks.{over-le, walk-same, walk-repl
 use Rattle.storage_theorems.proofs.Counts.{order, hit-cases, hit-same, hit-eq, hit-not, frees-count, over-append, frees-within, frees-either}
 use Rattle.storage_theorems.proofs.Ring.{links-same, links-last}
 use Rattle.storage_theorems.proofs.Search.{members-once, free-ring}
-use Rattle.storage_theorems.proofs.Fields.{markFree-length, markFree-other, markFree-first, markFree-end, moveRover-length, moveRover-other, moveRover-base, moveRover-moves, moveRover-rover}
+use Rattle.storage_theorems.proofs.Merge.{merged, merged-length, merged-other, merged-first, merged-end, merged-base, merged-moves, merged-rover}
 use Rattle.storage_theorems.proofs.Inner.{inner-cases, inner-apart, inner-swap, inner-here}
 use Rattle.storage_theorems.proofs.Heaps.{heap-make, not-prev}
 use Rattle.storage_theorems.proofs.Hook.{hook-length, hook-other, hook-walk, relink-ring}
@@ -44,11 +44,8 @@ module _ {s : List ℕ} {t : List ℕ} (xs : List Block) (z k m : ℕ) (ys : Lis
   abbrev s1 : List ℕ
   s1 = hook s a (getD s (q + 1) 0) (lastAt s q) (nextAt s q)
 
-  abbrev s2 : List ℕ
-  s2 = markFree s1 a (z + k + m)
-
   abbrev after : List ℕ
-  after = moveRover s2 q a
+  after = merged s1 a (z + k + m) q
 
   at : (p : Bool) × Walk s a p (array z k ∷ free m ∷ ys)
   at = walk-at s (blockptr s) false xs (array z k ∷ free m ∷ ys) (g .walk)
@@ -63,6 +60,9 @@ module _ {s : List ℕ} {t : List ℕ} (xs : List Block) (z k m : ℕ) (ys : Lis
     omega (arith, g .top, g .room),
     g .short,
   )
+
+  fits : (8 ≤ a) × (3 ≤ z + k + m) × (a + (z + k + m) ≤ length s) × (length s ≤ 16384)
+  fits = omega (arith, place)
 
   q-in : 0 < count q (frees (blockptr s) old)
   q-in = omega (arith, hit-same q, frees-count q (blockptr s) xs (array z k ∷ free m ∷ ys))
@@ -118,7 +118,7 @@ module _ {s : List ℕ} {t : List ℕ} (xs : List Block) (z k m : ℕ) (ys : Lis
     s1-tag i (inr e) = hook-other s a _ _ _ i (omega (arith, e, place, others (lastAt s q) last-in .3, others (nextAt s q) next-in .3))
 
     after-other : (i : ℕ) → (i ≢ 1) × (i ≢ a) × (i ≢ a + (z + k + m) - 1) → getD after i 0 ≡ getD s1 i 0
-    after-other i w = moveRover-other s2 q a i (w .0) ∙ markFree-other s1 _ _ i (w .1, w .2)
+    after-other = merged-other s s1 a (z + k + m) q s1-length fits
 
     after-walk : Walk after (blockptr s) false new
     after-walk =
@@ -128,8 +128,8 @@ module _ {s : List ℕ} {t : List ℕ} (xs : List Block) (z k m : ℕ) (ys : Lis
           record {
             alone = not-prev p (w .0) (omega (arith, place)) (rw (s1-tag a (inl refl)) before);
             least = omega (arith, place);
-            first = moveRover-other s2 q a _ (omega (arith, place)) ∙ markFree-first s1 _ _ (omega (arith, place)) (omega (arith, place, s1-length));
-            end = moveRover-other s2 q a _ (omega (arith, place)) ∙ markFree-end s1 _ _ (omega (arith, place)) (omega (arith, place, s1-length));
+            first = merged-first s s1 a (z + k + m) q s1-length fits;
+            end = merged-end s s1 a (z + k + m) q s1-length fits;
           },
           let e : a + (z + k + m) ≡ q + m = omega arith in
               rw e (walk-same s1 after (q + m) true ys (w .1 .1) (λ i l u. after-other i (omega (arith, place)))),
@@ -153,15 +153,11 @@ module _ {s : List ℕ} {t : List ℕ} (xs : List Block) (z k m : ℕ) (ys : Lis
         ⊎-elim (λ e. after-other (x + 1) (omega (arith, place, e))) (λ e. after-other (x + 1) (omega (arith, place, others x (omega (arith, w, e)))))
         (hit-cases x a)
 
-    s2-rover : rover s2 ≡ rover s
-    s2-rover = ap (λ (w : ℕ). w % 2 ^ 16) (markFree-other s1 _ _ 1 (omega (arith, place)) ∙ s1-tag 1 (inr (omega arith)))
-
     rover-in : 0 < count (rover after) (end ∷ frees (blockptr s) new)
     rover-in =
         ⊎-elim (λ e. omega (arith, after-count (rover after), hit-eq (rover after) a e, far-q (rover after) e))
-        (λ e. let o : rover after ≡ rover s = e .1 ∙ s2-rover in
-        rw o (omega (arith, after-count (rover s), g .once (rover s), hit-same (rover s), hit-not (rover s) q (λ w. e .0 (s2-rover ∙ w)))))
-        (moveRover-rover s2 q a (omega (arith, place, markFree-length s1 a (z + k + m), s1-length)) (omega (arith, place)))
+        (λ e. rw (e .1) (omega (arith, after-count (rover s), g .once (rover s), hit-same (rover s), hit-not (rover s) q (e .0))))
+        (merged-rover s s1 a (z + k + m) q s1-length fits (s1-tag 1 (inr (omega arith))))
       where
         far-q : (x : ℕ) → x ≡ a → hit x q ≡ 0
         far-q x e = hit-not x q (omega (arith, place, e))
@@ -176,14 +172,12 @@ module _ {s : List ℕ} {t : List ℕ} (xs : List Block) (z k m : ℕ) (ys : Lis
     linked = links-same s1 after a (b ∷ vs) a ring1 member-same (member-same a (omega (arith, hit-same a)))
 
     moves : (rover s ≡ q → rover after ≡ a) × (rover s ≢ q → rover after ≡ rover s)
-    moves =
-        let r = moveRover-moves s2 q a (omega (arith, place, markFree-length s1 a (z + k + m), s1-length)) (omega (arith, place)) in
-        (λ e. r .0 (s2-rover ∙ e), λ e. r .1 (λ w. e (sym s2-rover ∙ w)) ∙ s2-rover)
+    moves = merged-moves s s1 a (z + k + m) q s1-length fits (s1-tag 1 (inr (omega arith)))
 
     made : (t′ : List ℕ) × Heap after new t′
     made =
         let e : a + (z + k + m) ≡ q + m = omega arith in
-        heap-make g after new (moveRover-length s2 q a ∙ markFree-length s1 _ _ ∙ s1-length) (after-low 0 (omega arith) (omega arith))
+        heap-make g after new (merged-length s s1 a (z + k + m) q s1-length fits) (after-low 0 (omega arith) (omega arith))
         (after-low 4 (omega arith) (omega arith)) (above (sbase s - 1) (omega (arith, g .top))) after-walk
         (over-append (blockptr s) xs (free (z + k + m) ∷ ys) ∙ ap (λ (y : ℕ). over y ys) e ∙ sym
         (over-append (blockptr s) xs (array z k ∷ free m ∷ ys)))
@@ -215,9 +209,8 @@ module _ {s : List ℕ} {t : List ℕ} (xs : List Block) (z k m : ℕ) (ys : Lis
 
     left : Leaves s after new
     left = record {
-      long = moveRover-length s2 q a ∙ markFree-length s1 _ _ ∙ s1-length;
-      base = moveRover-base s2 q a (omega (arith, place, markFree-length s1 a (z + k + m), s1-length)) (omega (arith, place)) ∙ ap
-          (λ (w : ℕ). w / 2 ^ 16) (markFree-other s1 _ _ 1 (omega (arith, place)) ∙ s1-tag 1 (inr (omega arith)));
+      long = merged-length s s1 a (z + k + m) q s1-length fits;
+      base = merged-base s s1 a (z + k + m) q s1-length fits (s1-tag 1 (inr (omega arith)));
       quiet = quiet-same;
     }
 

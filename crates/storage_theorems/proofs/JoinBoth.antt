@@ -1,5 +1,5 @@
 -- A release that joins the free blocks on both sides keeps the heap.
-use Prim.Native.Nat.{ℕ, _+_, _-_, _/_, _%_, _^_, _<_, _≤_}
+use Prim.Native.Nat.{ℕ, _+_, _-_, _<_, _≤_}
 use mathlib.Core.Path.{_≡_, sym, _∙_, ap}
 use mathlib.Core.Bool.{Bool, true, false}
 use mathlib.Core.List.{List, _∷_, _++_}
@@ -8,7 +8,7 @@ use native.Mathlib.Omega.{arith}
 use lib.ListN.{getD, length}
 use Rattle.segment.specs.State.{sbase, rover, blockptr}
 use Rattle.segment.specs.Blocks.{sizeAt, nextAt, lastAt}
-use Rattle.storage.specs.Ring.{markFree, unlink, moveRover}
+use Rattle.storage.specs.Ring.{unlink}
 use Rattle.storage.specs.Release.{joinBoth}
 use Rattle.storage.specs.Heap.{Block, Walk, over, frees, hit, count, Links, Heap, free, array}
 use Rattle.storage_theorems.specs.Words.{Inner, Quiet, Leaves}
@@ -16,7 +16,7 @@ use Rattle.storage_theorems.proofs.Walks.{over-le, walk-same, walk-repl
 use Rattle.storage_theorems.proofs.Counts.{hit-cases, hit-same, hit-eq, hit-not, frees-count, over-append, frees-within, frees-either}
 use Rattle.storage_theorems.proofs.Ring.{links-same, links-last}
 use Rattle.storage_theorems.proofs.Search.{members-once, free-ring}
-use Rattle.storage_theorems.proofs.Fields.{markFree-length, markFree-other, markFree-first, markFree-end, moveRover-length, moveRover-other, moveRover-base, moveRover-moves, moveRover-rover}
+use Rattle.storage_theorems.proofs.Merge.{merged, merged-length, merged-other, merged-first, merged-end, merged-base, merged-moves, merged-rover}
 use Rattle.storage_theorems.proofs.Inner.{inner-cases, inner-apart, inner-swap}
 use Rattle.storage_theorems.proofs.Heaps.{heap-make}
 use Rattle.storage_theorems.proofs.Unlink.{unlink-ring, unlink-length, unlink-other, unlink-walk}
@@ -43,11 +43,8 @@ module _ {s : List ℕ} {t : List ℕ} (xs : List Block) (j z k m : ℕ) (ys : L
   abbrev ring : List ℕ
   ring = end ∷ frees (blockptr s) old
 
-  abbrev s2 : List ℕ
-  s2 = markFree (unlink s q) p (j + (z + k) + m)
-
   abbrev after : List ℕ
-  after = moveRover s2 q p
+  after = merged (unlink s q) p (j + (z + k) + m) q
 
   at : (o : Bool) × Walk s p o tail
   at = walk-at s (blockptr s) false xs tail (g .walk)
@@ -63,6 +60,9 @@ module _ {s : List ℕ} {t : List ℕ} (xs : List Block) (j z k m : ℕ) (ys : L
     omega (arith, g .top, g .room),
     g .short,
   )
+
+  fits : (8 ≤ p) × (3 ≤ j + (z + k) + m) × (p + (j + (z + k) + m) ≤ length s) × (length s ≤ 16384)
+  fits = omega (arith, place)
 
   q-in : 0 < count q (frees (blockptr s) old)
   q-in = omega (arith, hit-same q, frees-count q (blockptr s) xs tail)
@@ -99,7 +99,7 @@ module _ {s : List ℕ} {t : List ℕ} (xs : List Block) (j z k m : ℕ) (ys : L
     walk1 = unlink-walk s q (blockptr s) false old (g .walk) (omega (arith, last-in, c (lastAt s q))) (omega (arith, next-in, c (nextAt s q)))
 
     after-other : (i : ℕ) → (i ≢ 1) × (i ≢ p) × (i ≢ p + (j + (z + k) + m) - 1) → getD after i 0 ≡ getD (unlink s q) i 0
-    after-other i w = moveRover-other s2 q p i (w .0) ∙ markFree-other (unlink s q) _ _ i (w .1, w .2)
+    after-other = merged-other s (unlink s q) p (j + (z + k) + m) q (unlink-length s q) fits
 
     after-walk : Walk after (blockptr s) false new
     after-walk =
@@ -109,10 +109,8 @@ module _ {s : List ℕ} {t : List ℕ} (xs : List Block) (j z k m : ℕ) (ys : L
           record {
             alone = w .0 .alone;
             least = omega (arith, place);
-            first = moveRover-other s2 q p _ (omega (arith, place)) ∙ markFree-first (unlink s q) _ _ (omega (arith, place))
-                (omega (arith, place, unlink-length s q));
-            end = moveRover-other s2 q p _ (omega (arith, place)) ∙ markFree-end (unlink s q) _ _ (omega (arith, place))
-                (omega (arith, place, unlink-length s q));
+            first = merged-first s (unlink s q) p (j + (z + k) + m) q (unlink-length s q) fits;
+            end = merged-end s (unlink s q) p (j + (z + k) + m) q (unlink-length s q) fits;
           },
           let e : p + (j + (z + k) + m) ≡ q + m = omega arith in
               rw e (walk-same (unlink s q) after (q + m) true ys (w .1 .1 .1) (λ i l u. after-other i (omega (arith, place)))),
@@ -137,18 +135,14 @@ module _ {s : List ℕ} {t : List ℕ} (xs : List Block) (j z k m : ℕ) (ys : L
     member-same : (x : ℕ) → 0 < count x (b ∷ vs) → getD after (x + 1) 0 ≡ getD (unlink s q) (x + 1) 0
     member-same x w = after-other (x + 1) (omega (arith, place, others x w))
 
-    s2-rover : rover s2 ≡ rover s
-    s2-rover = ap (λ (w : ℕ). w % 2 ^ 16) (markFree-other (unlink s q) _ _ 1 (omega (arith, place)) ∙ low 1 (omega arith))
-
     p-in : 0 < count p (frees (blockptr s) new)
     p-in = omega (arith, hit-same p, frees-count p (blockptr s) xs (free (j + (z + k) + m) ∷ ys))
 
     rover-in : 0 < count (rover after) (end ∷ frees (blockptr s) new)
     rover-in =
         ⊎-elim (λ e. rw e (omega (arith, p-in)))
-        (λ e. let o : rover after ≡ rover s = e .1 ∙ s2-rover in
-        rw o (omega (arith, after-count (rover s), g .once (rover s), hit-same (rover s), hit-not (rover s) q (λ w. e .0 (s2-rover ∙ w)))))
-        (moveRover-rover s2 q p (omega (arith, place, markFree-length (unlink s q) p (j + (z + k) + m), unlink-length s q)) (omega (arith, place)))
+        (λ e. rw (e .1) (omega (arith, after-count (rover s), g .once (rover s), hit-same (rover s), hit-not (rover s) q (e .0))))
+        (merged-rover s (unlink s q) p (j + (z + k) + m) q (unlink-length s q) fits (low 1 (omega arith)))
 
     above : (i : ℕ) → end + 2 ≤ i → getD after i 0 ≡ getD s i 0
     above i l =
@@ -160,14 +154,12 @@ module _ {s : List ℕ} {t : List ℕ} (xs : List Block) (j z k m : ℕ) (ys : L
     linked = links-same (unlink s q) after b vs b ring1 member-same (member-same b (omega (arith, hit-same b)))
 
     moves : (rover s ≡ q → rover after ≡ p) × (rover s ≢ q → rover after ≡ rover s)
-    moves =
-        let r = moveRover-moves s2 q p (omega (arith, place, markFree-length (unlink s q) p (j + (z + k) + m), unlink-length s q)) (omega (arith, place)) in
-        (λ e. r .0 (s2-rover ∙ e), λ e. r .1 (λ w. e (sym s2-rover ∙ w)) ∙ s2-rover)
+    moves = merged-moves s (unlink s q) p (j + (z + k) + m) q (unlink-length s q) fits (low 1 (omega arith))
 
     made : (t′ : List ℕ) × Heap after new t′
     made =
         let e : p + (j + (z + k) + m) ≡ q + m = omega arith in
-        heap-make g after new (moveRover-length s2 q p ∙ markFree-length (unlink s q) _ _ ∙ unlink-length s q)
+        heap-make g after new (merged-length s (unlink s q) p (j + (z + k) + m) q (unlink-length s q) fits)
         (after-low 0 (omega arith) (omega arith)) (after-low 4 (omega arith) (omega arith)) (above (sbase s - 1) (omega (arith, g .top))) after-walk
         (over-append (blockptr s) xs (free (j + (z + k) + m) ∷ ys) ∙ ap (λ (y : ℕ). over y ys) e ∙ sym (over-append (blockptr s) xs tail))
         b vs
@@ -195,9 +187,8 @@ module _ {s : List ℕ} {t : List ℕ} (xs : List Block) (j z k m : ℕ) (ys : L
 
     left : Leaves s after new
     left = record {
-      long = moveRover-length s2 q p ∙ markFree-length (unlink s q) _ _ ∙ unlink-length s q;
-      base = moveRover-base s2 q p (omega (arith, place, markFree-length (unlink s q) p (j + (z + k) + m), unlink-length s q)) (omega (arith, place))
-          ∙ ap (λ (w : ℕ). w / 2 ^ 16) (markFree-other (unlink s q) _ _ 1 (omega (arith, place)) ∙ low 1 (omega arith));
+      long = merged-length s (unlink s q) p (j + (z + k) + m) q (unlink-length s q) fits;
+      base = merged-base s (unlink s q) p (j + (z + k) + m) q (unlink-length s q) fits (low 1 (omega arith));
       quiet = quiet-same;
     }
 

@@ -16,6 +16,7 @@ pub mod Request
 pub mod JoinBefore
 pub mod Hook
 pub mod JoinNone
+pub mod Merge
 pub mod JoinAfter
 pub mod JoinBoth
 pub mod Freed

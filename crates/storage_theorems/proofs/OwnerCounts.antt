@@ -13,11 +13,11 @@ use Rattle.segment.specs.Blocks.{countAt}
 use Rattle.storage.specs.Arrays.{raise, lower, share, drop}
 use Rattle.storage.specs.Heap.{count}
 use Rattle.storage.specs.Owned.{ArrayIn, Owned}
-use Rattle.storage_theorems.proofs.Counts.{hit-same}
+use Rattle.storage_theorems.proofs.Counts.{count-le, hit-same}
 use Rattle.storage_theorems.proofs.Release.{release-theorem}
 use Rattle.storage_theorems.specs.Counts.{Share, Drop}
-use Rattle.storage_theorems.proofs.Cells.{array-of}
-use Rattle.storage_theorems.proofs.Steps.{plain, count-le, share-own, drop-own}
+use Rattle.descriptor.proofs.Arrays.{array-of}
+use Rattle.storage_theorems.proofs.Steps.{plain, share-own, drop-own}
 
 -- an owning word's array, and its count
 owner : {s ws : List ℕ} (o : Owned s ws) (w : ℕ) → isArray w ≡ true → 0 < count w ws

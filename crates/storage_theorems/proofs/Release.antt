@@ -14,7 +14,8 @@ use Rattle.storage.specs.Heap.{Block, span, isFree, ArrayBlock, Walk, over, Hea
 use Rattle.storage.specs.Owned.{ArrayIn}
 use Rattle.storage_theorems.specs.Words.{Leaves}
 use Rattle.storage_theorems.specs.Release.{Freed, Release, joinsBoth, joinsBefore, joinsAfter, joinsNone}
-use Rattle.storage_theorems.proofs.Ways.{decide, release-both, release-before, release-after, release-none}
+use Rattle.descriptor.proofs.Truth.{decide}
+use Rattle.storage.proofs.Releases.{release-both, release-before, release-after, release-none}
 use Rattle.storage_theorems.proofs.Walks.{over-le, walk-at}
 use Rattle.storage_theorems.proofs.Counts.{over-append}
 use Rattle.storage_theorems.proofs.Arrays.{array-split, array-fields}

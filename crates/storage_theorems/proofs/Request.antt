@@ -11,7 +11,7 @@ use Rattle.storage.specs.Request.{find, give, given, requestAt, request}
 use Rattle.storage.specs.Heap.{Block, Walk, over, frees, count, Heap, free, array}
 use Rattle.storage_theorems.specs.Words.{HasRoom, FreeWord, Leaves}
 use Rattle.storage_theorems.specs.Request.{Placed, Served, Request, highEnd, entire}
-use Rattle.storage_theorems.proofs.Ways.{given-split, given-whole, give-split, give-whole, request-none, requestAt-none, request-some, requestAt-some}
+use Rattle.storage.proofs.Requests.{given-split, given-whole, give-split, give-whole, request-none, requestAt-none, request-some, requestAt-some}
 use Rattle.storage_theorems.proofs.Walks.{over-le, walk-at}
 use Rattle.storage_theorems.proofs.Counts.{order, hit-same, over-append, frees-within, free-split}
 use Rattle.storage_theorems.proofs.Search.{find-cases}

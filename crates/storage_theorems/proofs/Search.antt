@@ -10,7 +10,7 @@ use Rattle.segment.specs.State.{rover, blockptr}
 use Rattle.segment.specs.Blocks.{sizeAt}
 use Rattle.storage.specs.Request.{findFrom, find}
 use Rattle.storage.specs.Heap.{Block, over, frees, hit, count, Links, Heap}
-use Rattle.storage_theorems.proofs.Ways.{find-here, find-round, find-further}
+use Rattle.storage.proofs.Requests.{find-here, find-round, find-on}
 use Rattle.storage_theorems.proofs.Walks.{over-le, walk-dummy}
 use Rattle.storage_theorems.proofs.Counts.{order, hit-cases, hit-same, hit-eq, count-length, frees-within, frees-once, frees-few}
 use Rattle.storage_theorems.proofs.Ring.{ring-at}
@@ -30,7 +30,7 @@ find-found n s size stop a [] h z l =
 find-found n s size stop a (b ∷ t) h z l =
     ⊎-elim (λ k. rw (find-here n s size stop a (omega arith) k) (here k))
     (λ k. rw (
-      find-further n s size stop a (omega arith) k (λ e. let q : hit stop b ≡ 1 = hit-eq stop b (sym e ∙ h .0 .next) in omega arith),
+      find-on n s size stop a (omega arith) k (λ e. let q : hit stop b ≡ 1 = hit-eq stop b (sym e ∙ h .0 .next) in omega arith),
       h .0 .next,
     )
     (there k (find-found (n - 1) s size stop b t (h .1) (omega arith) (omega arith))))

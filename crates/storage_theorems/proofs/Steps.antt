@@ -2,7 +2,7 @@
 use Prim.Native.Nat.{ℕ, zero, suc, _+_, _-_, _/_, _%_, _^_, _<_, _≤_}
 use mathlib.Core.Path.{_≡_, refl, sym, _∙_, ap, subst}
 use mathlib.Core.Bool.{Bool, true, false, cond}
-use mathlib.Core.List.{List, [], _∷_, _++_}
+use mathlib.Core.List.{List, _∷_, _++_}
 use mathlib.Core.Logic.{_≢_, _⊎_, inl, inr, ⊎-elim}
 use native.Mathlib.Omega.{arith}
 use lib.ListN.{getD, set, length}
@@ -16,10 +16,10 @@ use Rattle.storage.specs.Release.{release}
 use Rattle.storage.specs.Arrays.{raise, lower, share, drop, drops}
 use Rattle.storage.specs.Heap.{count}
 use Rattle.storage.specs.Owned.{ArrayIn, Owned, Kept, Step}
-use Rattle.storage_theorems.proofs.Ways.{decide}
+use Rattle.descriptor.proofs.Truth.{decide}
 use Rattle.storage_theorems.proofs.Walks.{Same, over-le}
-use Rattle.storage_theorems.proofs.Counts.{hit-cases, hit-same, count-append}
-use Rattle.storage_theorems.proofs.Cells.{array-of}
+use Rattle.storage_theorems.proofs.Counts.{count-le, hit-cases, hit-same, count-append}
+use Rattle.descriptor.proofs.Arrays.{array-of}
 use Rattle.storage_theorems.proofs.Owners.{reown, recount}
 use Rattle.storage_theorems.proofs.Gone.{gone}
 
@@ -49,10 +49,6 @@ step-on l f g m = record { own = g .own; kept = kept-on l (f .kept) (g .kept); s
 pub plain : (w : ℕ) (ws : List ℕ) → isArray w ≡ false → (x : ℕ) → x < 2 ^ 16 → count (arrayWord x) (w ∷ ws) ≡ count (arrayWord x) ws
 plain w ws n x l =
     ⊎-elim (λ e. absurd (eqb-false (w / 2 ^ 16) 0x200 n (omega (arith, e)))) (λ e. omega (arith, e)) (hit-cases (arrayWord x) w)
-
-pub count-le : (x : ℕ) (l : List ℕ) → count x l ≤ length l
-count-le x [] = omega arith
-count-le x (y ∷ l) = ⊎-elim (λ e. omega (arith, e, count-le x l)) (λ e. omega (arith, e, count-le x l)) (hit-cases x y)
 
 -- a word gets one owner more
 pub share-own : {s ws : List ℕ} (w : ℕ) → Owned s ws → length ws < 65535 → (0 < count w ws) ⊎ (isArray w ≡ false) → Step s ws (share s w) (w ∷ ws)

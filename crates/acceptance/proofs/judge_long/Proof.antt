@@ -1,6 +1,6 @@
 use borrow.Author.Needs.{needs}
 use native.Mathlib.Omega.{arith}
-use Rattle.acceptance.proofs.Table.{zeros}
+use Rattle.acceptance_storage.proofs.Tallies.{zeros}
 use Rattle.acceptance.proofs.judge_long.Statement.{statement}
 use Rattle.acceptance.proofs.judge_long.Tie as tie
 

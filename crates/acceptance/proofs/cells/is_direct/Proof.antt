@@ -9,6 +9,9 @@ use Rattle.acceptance.proofs.cells.is_direct.Tie as tie
 returns : tie.Need-returns
 returns c = (direct-small (inTable (c .before .before .args .arrays .now)) (c .before .before .args .w) (search needs) (c .if1 .taken), meet-other (c .before .before .args .arrays .now) (c .before .before .args .w) (λ z. omega arith))
 
+mul-if2 : tie.Need-mul-if2
+mul-if2 c = search needs
+
 cast-raise-marked : tie.Need-cast-raise-marked
 cast-raise-marked c = search needs
 
@@ -38,6 +41,7 @@ is-direct-spec =
     tie.close
     (tie.spec
     returns
+    mul-if2
     cast-raise-marked
     raise-marked-requires
     same-length

@@ -1,6 +1,7 @@
 use native.Mathlib.Nat.{mul-le-mul}
 use Prim.Native.Nat.{_-_, _≤_}
 use native.Mathlib.Omega.{arith}
+use Rattle.descriptor.specs.Fields.{integerLimit}
 use borrow.Author.Needs.{needs}
 use lib.ListN.{getD, length}
 use Rattle.acceptance_storage.proofs.Insides.{Counting, counting-start, counting-le, counting-end, counting-bad, counting-on}
@@ -29,7 +30,7 @@ cast-cap : tie.Need-cast-cap Inv-loop μ-loop
 cast-cap c = search needs
 
 mul-cap : tie.Need-mul-cap Inv-loop μ-loop
-mul-cap c = record { fits = omega (arith, mul-le-mul {n₁ = c .before .before .before .loop .count} {m₁ = getD (c .before .before .before .before .before .args .shape .now) (c .before .before .before .loop .i) 0} {n₂ = 65536} {m₂ = 8388607} (counting-le _ _ _ (c .before .before .before .loop .inv .1)) (omega arith)) }
+mul-cap c = record { fits = omega (arith, mul-le-mul {n₁ = c .before .before .before .loop .count} {m₁ = getD (c .before .before .before .before .before .args .shape .now) (c .before .before .before .loop .i) 0} {n₂ = 65536} {m₂ = integerLimit} (counting-le _ _ _ (c .before .before .before .loop .inv .1)) (omega arith)) }
 
 cap-requires : tie.Need-cap-requires Inv-loop μ-loop
 cap-requires c κs = search needs

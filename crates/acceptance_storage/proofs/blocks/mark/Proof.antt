@@ -1,4 +1,3 @@
-use Prim.Native.Nat.{_-_}
 use borrow.Author.Needs.{needs}
 use Rattle.acceptance_storage.proofs.blocks.mark.Statement.{statement}
 use Rattle.acceptance_storage.proofs.blocks.mark.Tie as tie

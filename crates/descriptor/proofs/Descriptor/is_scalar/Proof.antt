@@ -19,4 +19,4 @@ unfolding isScalar kindOf integerKind unsignedKind characterKind arrayKind indir
 returns-3 c = sym (large-scalar _ (search needs) (c .before .if1 .left) (c .if2 .left))
 
 pub is-scalar-spec : {M : Type 1} → statement M
-is-scalar-spec = tie.close (tie.spec returns returns-2 returns-3)
+is-scalar-spec = tie.close (tie.spec returns returns-2 (λ c. search needs) returns-3)

@@ -1,5 +1,4 @@
 use Rattle.procedure.specs.Bytes.{wordAt}
-use borrow.Author.Tests.{le-ltb}
 use borrow.Author.Needs.{needs}
 use Rattle.procedure.proofs.bytes.word_at.Statement.{statement}
 use Rattle.procedure.proofs.bytes.word_at.Tie as tie

@@ -1,5 +1,5 @@
-use Rattle.procedure.specs.Refusal.{functionFault}
-use borrow.Author.Tests.{lt-ltb, le-ltb}
+use Rattle.procedure.specs.Faults.{functionFault}
+use borrow.Author.Tests.{le-leb, lt-leb}
 use borrow.Author.Needs.{needs}
 use Rattle.procedure.proofs.refusal.function_fault.Statement.{statement}
 use Rattle.procedure.proofs.refusal.function_fault.Tie as tie
@@ -12,16 +12,15 @@ function-fault-spec =
     (λ c κs. search needs)
     (λ c κs. search needs)
     (λ c κs. search needs)
-    (λ c. simp (← c .before .before .before .start-of .ensures, ← c .before .before .length-of .ensures, ← c .before .entries .ensures, lt-ltb _ _ (c .if1 .taken)))
+    (λ c. simp (← c .before .before .before .start-of .ensures, ← c .before .before .length-of .ensures, ← c .before .entries .ensures, lt-leb _ _ (c .if1 .taken)))
     (λ c. search needs)
     (λ c. search needs)
     (λ c. search needs)
     (λ c. search needs)
-    (λ c. simp (← c .before .before .before .before .start-of .ensures, ← c .before .before .before .length-of .ensures, ← c .before .before .entries .ensures, le-ltb _ _ (c .before .if1 .left), lt-ltb _ _ (c .if2 .taken)))
-    (λ c. simp (← c .before .before .before .before .before .start-of .ensures, ← c .before .before .before .before .length-of .ensures, ← c .before .before .before .entries .ensures, le-ltb _ _ (c .before .before .if1 .left), le-ltb _ _ (c .before .if2 .left), lt-ltb _ _ (c .if3 .taken)))
+    (λ c. simp (← c .before .before .before .before .start-of .ensures, ← c .before .before .before .length-of .ensures, ← c .before .before .entries .ensures, le-leb _ _ (c .before .if1 .left), lt-leb _ _ (c .if2 .taken)))
     (λ c κs. search needs)
     (λ c. search needs)
     (λ c. search needs)
     (λ c κs. search needs)
     (λ c κs. search needs)
-    (λ c. simp (← c .before .before .before .before .before .before .before .before .start-of .ensures, ← c .before .before .before .before .before .before .before .length-of .ensures, ← c .before .before .before .before .before .before .entries .ensures, le-ltb _ _ (c .before .before .before .before .before .if1 .left), le-ltb _ _ (c .before .before .before .before .if2 .left), le-ltb _ _ (c .before .before .before .if3 .left), ← c .before .before .header-at .ensures, ← c .before .word-at .ensures, ← c .header-fault .ensures)))
+    (λ c. simp (← c .before .before .before .before .before .before .before .start-of .ensures, ← c .before .before .before .before .before .before .length-of .ensures, ← c .before .before .before .before .before .entries .ensures, le-leb _ _ (c .before .before .before .before .if1 .left), le-leb _ _ (c .before .before .before .if2 .left), ← c .before .before .header-at .ensures, ← c .before .word-at .ensures, ← c .header-fault .ensures)))

@@ -1,5 +1,6 @@
-use Rattle.procedure.proofs.Faults.{faulty-refuses}
+use Rattle.procedure.proofs.Faults.{faulty-fails, sound-passes}
 use Rattle.procedure.specs.Refusal.{procedureRefusal}
+use borrow.Author.Tests.{not-true, not-false}
 use borrow.Author.Needs.{needs}
 use Rattle.procedure.proofs.refusal.judge.Statement.{statement}
 use Rattle.procedure.proofs.refusal.judge.Tie as tie
@@ -10,13 +11,13 @@ judge-spec =
     tie.close
     (tie.spec
     (λ c κs. search needs)
-    (λ c. simp (← c .before .length-refused .ensures, c .if1 .taken))
+    (λ c. simp (← c .before .length-passes .ensures, not-true (c .before .length-passes .result) (c .if1 .taken)))
     (λ c κs. search needs)
-    (λ c. simp (← c .before .before .before .length-refused .ensures, c .before .before .if1 .left, ← c .before .length-refused2 .ensures, c .if2 .taken))
-    (λ c κs. search needs)
-    (λ c. search needs)
-    (λ c. simp (← c .before .before .before .before .before .length-refused .ensures, c .before .before .before .before .if1 .left, ← c .before .before .before .length-refused2 .ensures, c .before .before .if2 .left, ← c .before .contents-fault .ensures, faulty-refuses (c .before .contents-fault .result) (c .match .keys2)))
+    (λ c. simp (← c .before .before .before .length-passes .ensures, not-false (c .before .before .before .length-passes .result) (c .before .before .if1 .left), ← c .before .length-passes2 .ensures, not-true (c .before .length-passes2 .result) (c .if2 .taken)))
     (λ c κs. search needs)
     (λ c. search needs)
-    (λ c. simp (← c .before .before .before .before .before .before .before .before .length-refused .ensures, c .before .before .before .before .before .before .before .if1 .left, ← c .before .before .before .before .before .before .length-refused2 .ensures, c .before .before .before .before .before .if2 .left, ← c .before .before .before .before .contents-fault .ensures, c .before .before .enum-told .given .1, ← c .before .contents-fault2 .ensures, faulty-refuses (c .before .contents-fault2 .result) (c .match2 .keys2)))
-    (λ c. simp (← c .before .before .before .before .before .before .before .before .before .length-refused .ensures, c .before .before .before .before .before .before .before .before .if1 .left, ← c .before .before .before .before .before .before .before .length-refused2 .ensures, c .before .before .before .before .before .before .if2 .left, ← c .before .before .before .before .before .contents-fault .ensures, c .before .before .before .enum-told .given .1, ← c .before .before .contents-fault2 .ensures, c .enum-told2 .given .1)))
+    (λ c. simp (← c .before .before .before .before .before .length-passes .ensures, not-false (c .before .before .before .before .before .length-passes .result) (c .before .before .before .before .if1 .left), ← c .before .before .before .length-passes2 .ensures, not-false (c .before .before .before .length-passes2 .result) (c .before .before .if2 .left), faulty-fails _ _ (c .before .contents-fault .ensures) (c .match .keys2)))
+    (λ c κs. search needs)
+    (λ c. search needs)
+    (λ c. simp (← c .before .before .before .before .before .before .before .before .length-passes .ensures, not-false (c .before .before .before .before .before .before .before .before .length-passes .result) (c .before .before .before .before .before .before .before .if1 .left), ← c .before .before .before .before .before .before .length-passes2 .ensures, not-false (c .before .before .before .before .before .before .length-passes2 .result) (c .before .before .before .before .before .if2 .left), sound-passes _ _ (c .before .before .before .before .contents-fault .ensures) (c .before .before .enum-told .given .1), faulty-fails _ _ (c .before .contents-fault2 .ensures) (c .match2 .keys2)))
+    (λ c. simp (← c .before .before .before .before .before .before .before .before .before .length-passes .ensures, not-false (c .before .before .before .before .before .before .before .before .before .length-passes .result) (c .before .before .before .before .before .before .before .before .if1 .left), ← c .before .before .before .before .before .before .before .length-passes2 .ensures, not-false (c .before .before .before .before .before .before .before .length-passes2 .result) (c .before .before .before .before .before .before .if2 .left), sound-passes _ _ (c .before .before .before .before .before .contents-fault .ensures) (c .before .before .before .enum-told .given .1), sound-passes _ _ (c .before .before .contents-fault2 .ensures) (c .enum-told2 .given .1))))

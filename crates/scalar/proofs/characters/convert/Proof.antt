@@ -1,4 +1,4 @@
-use Prim.Native.Nat.{ℕ, _-_, _%_, _^_}
+use Prim.Native.Nat.{ℕ, _%_, _^_}
 use mathlib.Core.Path.{ap}
 use Rattle.scalar.specs.Operators.{negative, convert}
 use Rattle.scalar.specs.declared.Answer.the-variants.{Word}

@@ -1,4 +1,3 @@
-use Prim.Native.Nat.{_-_}
 use mathlib.Core.Path.{sym, ap, _∙_}
 use Rattle.scalar.specs.Operators.{comparison, ifZero}
 use Rattle.scalar.proofs.Operands.{small-first-plain, small-second-plain, small-integers}

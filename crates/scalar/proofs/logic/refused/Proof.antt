@@ -1,4 +1,3 @@
-use Prim.Native.Nat.{_-_}
 use borrow.Author.Needs.{needs}
 use Rattle.scalar.proofs.logic.refused.Statement.{statement}
 use Rattle.scalar.proofs.logic.refused.Tie as tie

@@ -1,4 +1,3 @@
-use Prim.Native.Nat.{_-_}
 use Rattle.scalar.proofs.Operands.{character-bits}
 use Rattle.scalar.proofs.reading.is_character.Statement.{statement}
 use Rattle.scalar.proofs.reading.is_character.Tie as tie

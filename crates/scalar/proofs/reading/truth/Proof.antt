@@ -1,4 +1,3 @@
-use Prim.Native.Nat.{_-_}
 use mathlib.Core.Path.{sym, _∙_}
 use native.Mathlib.Omega.{arith}
 use Rattle.scalar.proofs.Logical.{truth-character, truth-plain, integer-zero, integer-one, integer-minus, integer-other, float-one, float-other}

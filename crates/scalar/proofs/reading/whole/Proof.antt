@@ -1,4 +1,3 @@
-use Prim.Native.Nat.{_-_}
 use mathlib.Core.Path.{sym, _∙_}
 use native.Mathlib.Omega.{arith}
 use Rattle.scalar.proofs.Integral.{whole-character, whole-of-float, whole-of-zero, whole-of-integer}

@@ -1,4 +1,4 @@
-use Prim.Native.Nat.{_-_, _^_}
+use Prim.Native.Nat.{_^_}
 use native.Mathlib.Omega.{arith}
 use Rattle.scalar.proofs.Rounding.{closest-is}
 use borrow.Author.Needs.{needs}

@@ -1,4 +1,3 @@
-use Prim.Native.Nat.{_-_}
 use mathlib.Core.Path.{sym, _∙_}
 use Rattle.scalar.specs.Operators.{magnitudeOf}
 use Rattle.scalar.proofs.Operands.{number-character, number-plain}

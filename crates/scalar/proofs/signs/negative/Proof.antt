@@ -2,7 +2,7 @@ use mathlib.Core.Bool.{cond}
 use lib.Dec.{eqb}
 use Rattle.scalar.specs.Value.{units}
 use Rattle.scalar.specs.declared.Answer.the-variants.{Word}
-use Prim.Native.Nat.{ℕ, _-_}
+use Prim.Native.Nat.{ℕ}
 use mathlib.Core.Path.{sym, ap, _∙_}
 use native.Mathlib.Omega.{arith}
 use Rattle.scalar.specs.Operators.{negative}

@@ -1,4 +1,3 @@
-use Prim.Native.Nat.{_-_}
 use mathlib.Core.Logic.{⊎-elim}
 use Rattle.scalar.proofs.Units.{sign-none, sign-integer, sign-float}
 use borrow.Author.Needs.{needs}

@@ -1,4 +1,3 @@
-use Prim.Native.Nat.{_-_}
 use native.Mathlib.Omega.{arith}
 use Rattle.scalar.proofs.Addition.{added, place-lt}
 use borrow.Author.Needs.{needs}

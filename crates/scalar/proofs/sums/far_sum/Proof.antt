@@ -1,5 +1,4 @@
 use native.Mathlib.Omega.{arith}
-use Prim.Native.Nat.{_-_}
 use mathlib.Core.Path.{_∙_}
 use Rattle.scalar.specs.Results.{rounded}
 use Rattle.scalar.proofs.Addition.{far-like, far-unlike}

@@ -1,4 +1,3 @@
-use Prim.Native.Nat.{_-_}
 use Rattle.scalar.specs.Operators.{plus, minus}
 use borrow.Author.Needs.{needs}
 use Rattle.scalar.proofs.sums.minus.Statement.{statement}

@@ -1,4 +1,3 @@
-use Prim.Native.Nat.{_-_}
 use mathlib.Core.Path.{_∙_}
 use Rattle.scalar.specs.Results.{rounded}
 use Rattle.scalar.proofs.Addition.{added-near}

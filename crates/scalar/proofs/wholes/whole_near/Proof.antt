@@ -1,4 +1,3 @@
-use Prim.Native.Nat.{_-_}
 use mathlib.Core.Path.{ap, _∙_}
 use Rattle.descriptor.specs.Fields.{sign}
 use Rattle.scalar.specs.Results.{integer}

@@ -1,4 +1,3 @@
-use Prim.Native.Nat.{_-_}
 use mathlib.Core.Path.{sym, _∙_}
 use Rattle.scalar.proofs.Operands.{first-character, first-plain}
 use borrow.Author.Needs.{needs}
