@@ -1,5 +1,5 @@
 -- Operands taken.
-use Prim.Native.Nat.{ℕ, suc, _+_, _-_, _*_, _/_, _%_, _^_, _<_, _≤_}
+use Prim.Native.Nat.{ℕ, _+_, _-_, _*_, _/_, _%_, _^_, _<_, _≤_}
 use mathlib.Core.Path.{_≡_, sym, _∙_, ap}
 use mathlib.Core.List.{List, _++_}
 use mathlib.Core.Logic.{_≢_, inr}
@@ -8,19 +8,17 @@ use lib.ListN.{getD, set, length, drop, length-set}
 use lib.Seq.{getD-set-same, getD-set-other}
 use Rattle.descriptor.specs.Fields.{arrayWord}
 use Rattle.segment.specs.State.{sbase, ltop, lbase, blockptr, setLtop}
-use Rattle.segment.specs.Blocks.{part}
 use Rattle.segment.specs.Stack.{downward}
 use Rattle.segment.specs.Cells.{cell}
 use Rattle.storage.specs.Arrays.{drops}
 use Rattle.storage.specs.Heap.{count}
 use Rattle.storage.specs.Owned.{Owned, Step}
 use Rattle.segment.specs.Machine.{mapMachine, allCells}
-use Rattle.segment.specs.View.{framesFrom, words, owners, view}
+use Rattle.segment.specs.View.{words, owners, view}
 use Rattle.manual.specs.Effects as manual
 use Rattle.manual.proofs.Machines.{map-drop}
 use Rattle.storage_theorems.proofs.Counts.{count-append}
 use Rattle.storage_theorems.specs.Elsewhere.{Elsewhere}
-use Rattle.storage_theorems.proofs.Cells.{part-same}
 use Rattle.storage_theorems.proofs.Owners.{reown}
 use Rattle.storage_theorems.proofs.Steps.{downward-same, drops-own}
 use Rattle.storage_theorems.proofs.Elsewhere.{own-elsewhere, cell-elsewhere}
@@ -30,7 +28,7 @@ use Rattle.effects.specs.Sound.{Sound}
 use Rattle.effects_theorems.specs.Theorems.{StateKept}
 use Rattle.effects_theorems.proofs.StateWords.{state-on, state-step, state-top}
 use Rattle.effects_theorems.proofs.Counts.{machine-agree, cells-count}
-use Rattle.effects_theorems.proofs.Frames.{drop-downward, frames-same, chain-same, words-kept}
+use Rattle.effects_theorems.proofs.Frames.{drop-downward, chain-same, words-kept, words-left}
 use Rattle.effects_theorems.proofs.Sound.{Bounds, bounds, Regs, kept-regs, Done}
 use Rattle.effects_theorems.proofs.Replace.{temporaries-split}
 
@@ -61,19 +59,15 @@ module _ (s : List ℕ) (n : ℕ) (some : n ≤ ltop s - (lbase s + 1)) (low : 8
   cut-words : words s′ ≡ manual.discard n (words s)
   unfolding words
   cut-words =
-      let o1 : getD s′ 1 0 ≡ getD s 1 0 = cut-other 1 (omega arith) in
+      let lb : lbase s′ ≡ lbase s = ap (λ (w : ℕ). w / 2 ^ 16) (cut-other 1 (omega arith)) in
       let o2 : getD s′ 2 0 ≡ getD s 2 0 = cut-other 2 (omega arith) in
-      let o4 : getD s′ 4 0 ≡ getD s 4 0 = cut-other 4 (omega arith) in
-      let gl : part s′ 8 (blockptr s - 8) ≡ part s 8 (blockptr s - 8) = part-same s s′ 8 (blockptr s - 8) (λ j l u. cut-other j (omega arith)) in
-      let fr : framesFrom (suc (lbase s)) s′ (lbase s) ≡ framesFrom (suc (lbase s)) s (lbase s) = frames-same (suc (lbase s)) s s′ (lbase s) (cut-regs .0)
-      (λ j l u. cut-other j (omega arith)) in
       let e : ltop s - n - (lbase s + 1) ≡ ltop s - (lbase s + 1) - n = omega arith in
       let k : ltop s - (lbase s + 1) ≡ ltop s - (lbase s + 1) - n + n = omega arith in
       let tm : downward s′ (sbase s + lbase s + 2) (ltop s - (lbase s + 1) - n) ≡ drop n (downward s (sbase s + lbase s + 2) (ltop s - (lbase s + 1))) =
       downward-same s s′ (sbase s + lbase s + 2) (ltop s - (lbase s + 1) - n) (λ j l u. cut-other j (omega arith))
       ∙ sym
       (ap (λ (i : ℕ). drop n (downward s (sbase s + lbase s + 2) i)) k ∙ drop-downward s (sbase s + lbase s + 2) (ltop s - (lbase s + 1) - n) n) in
-      rw (cut-regs .0, cut-regs .1, o1, o2, o4, gl, fr, e, tm)
+      words-left s s′ low (cut-regs .0) lb (λ j l u. cut-other j (omega arith)) (λ j l u. cut-other j (omega arith)) ∙ rw (o2, cut-regs .1, e, tm)
 
 module _ (s : List ℕ) (g : Sound s) (n : ℕ) (some : n ≤ temporaries s) where
   abbrev b : ℕ

@@ -6,7 +6,7 @@ use mathlib.Core.Logic.{inl, inr, ⊎-elim}
 use native.Mathlib.Omega.{arith}
 use lib.ListN.{getD, length, drop, length-append}
 use borrow.Author.Tests.{le-leb, lt-leb}
-use Rattle.segment.specs.State.{sbase, ltop, lbase, blockptr}
+use Rattle.segment.specs.State.{sbase, ltop, lbase, blockptr, flags}
 use Rattle.segment.specs.Blocks.{part}
 use Rattle.segment.specs.Stack.{lastLbaseAt, codeWordAt, downward}
 use Rattle.storage.specs.Owned.{Kept}
@@ -92,22 +92,34 @@ depth-is {s} {base} (upon q c) (suc n) h =
     ap depthOfFrames (frames-next n s base _ _ _ refl refl refl (omega arith))
     ∙ omega (arith, depth-is c n (omega arith), downward-length s (sbase s + (lastLbaseAt s base + 2)) (base - (lastLbaseAt s base + 2)))
 
+-- the machine where the words of globals and frames stay
+pub words-left : (s s′ : List ℕ) → 8 ≤ blockptr s → sbase s′ ≡ sbase s → lbase s′ ≡ lbase s → Same s s′ 4 (blockptr s)
+    → Same s s′ (sbase s) (sbase s + lbase s + 2)
+    → words s′ ≡ record {
+      flags = flags s′;
+      temporaries = downward s′ (sbase s + lbase s + 2) (ltop s′ - (lbase s + 1));
+      frames = words s .frames;
+      globals = words s .globals;
+    }
+unfolding words
+words-left s s′ low base frame globals frames =
+    let start : blockptr s′ ≡ blockptr s = globals 4 (omega arith) (omega arith) in
+    rw (
+      base,
+      frame,
+      start,
+      part-same s s′ 8 (blockptr s - 8) (λ i p q. globals i (omega arith) (omega arith)),
+      frames-same (suc (lbase s)) s s′ (lbase s) base frames,
+    )
+
 -- a step in array storage leaves the cells' words
 pub words-kept : (s s′ : List ℕ) → Kept s s′ → 8 ≤ blockptr s → blockptr s ≤ sbase s → words s′ ≡ words s
 unfolding words
 words-kept s s′ h l k =
-    let b : blockptr s′ ≡ blockptr s = h .rest 4 (omega arith) (inl (omega arith)) in
-    let f : getD s′ 2 0 ≡ getD s 2 0 = h .rest 2 (omega arith) (inl (omega arith)) in
-    let st : sbase s′ ≡ sbase s = ap (λ (w : ℕ). w / 2 ^ 16) (h .first) in
-    rw (
-      b,
-      f,
-      h .first,
-      h .base,
-      downward-same s s′ (sbase s + lbase s + 2) (ltop s - (lbase s + 1)) (λ i p q. h .rest i (omega arith) (inr (omega arith))),
-      part-same s s′ 8 (blockptr s - 8) (λ i p q. h .rest i (omega arith) (inl (omega arith))),
-      frames-same (suc (lbase s)) s s′ (lbase s) st (λ i p q. h .rest i (omega arith) (inr p)),
-    )
+    let f : flags s′ ≡ flags s = h .rest 2 (omega arith) (inl (omega arith)) in
+    words-left s s′ l (ap (λ (w : ℕ). w / 2 ^ 16) (h .first)) (h .base) (λ i p q. h .rest i (omega arith) (inl (omega arith)))
+    (λ i p q. h .rest i (omega arith) (inr p))
+    ∙ rw (f, h .first, downward-same s s′ (sbase s + lbase s + 2) (ltop s - (lbase s + 1)) (λ i p q. h .rest i (omega arith) (inr (omega arith))))
 
 -- there are fewer cells than words
 frames-few : (n : ℕ) (s : List ℕ) (base : ℕ) → length (cellsOfFrames (framesFrom n s base)) ≤ base

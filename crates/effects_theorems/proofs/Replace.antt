@@ -8,19 +8,17 @@ use lib.ListN.{getD, set, length, drop, length-set}
 use lib.Seq.{getD-set-same, getD-set-other}
 use Rattle.descriptor.specs.Fields.{arrayWord}
 use Rattle.segment.specs.State.{sbase, ltop, lbase, blockptr, setLtop}
-use Rattle.segment.specs.Blocks.{part}
 use Rattle.segment.specs.Stack.{downward}
 use Rattle.segment.specs.Cells.{Cell, cell}
 use Rattle.storage.specs.Arrays.{drops}
 use Rattle.storage.specs.Heap.{count}
 use Rattle.storage.specs.Owned.{Owned, Kept, Step}
 use Rattle.segment.specs.Machine.{Machine, mapMachine, allCells}
-use Rattle.segment.specs.View.{framesFrom, words, owners, view}
+use Rattle.segment.specs.View.{words, owners, view}
 use Rattle.manual.specs.Effects as manual
 use Rattle.manual.proofs.Machines.{map-drop}
 use Rattle.storage_theorems.proofs.Counts.{count-append}
 use Rattle.storage_theorems.specs.Elsewhere.{Elsewhere}
-use Rattle.storage_theorems.proofs.Cells.{part-same}
 use Rattle.storage_theorems.proofs.Owners.{reown}
 use Rattle.storage_theorems.proofs.Steps.{kept-on, downward-same, downward-split, drops-own}
 use Rattle.storage_theorems.proofs.Elsewhere.{own-elsewhere, cell-elsewhere}
@@ -31,7 +29,7 @@ use Rattle.effects.specs.Fits.{CanReplace}
 use Rattle.effects_theorems.specs.Theorems.{StateKept}
 use Rattle.effects_theorems.proofs.StateWords.{state-on, state-step, state-set, state-top}
 use Rattle.effects_theorems.proofs.Counts.{machine-agree, cells-count}
-use Rattle.effects_theorems.proofs.Frames.{drop-downward, frames-same, chain-same, words-kept}
+use Rattle.effects_theorems.proofs.Frames.{drop-downward, chain-same, words-kept, words-left}
 use Rattle.effects_theorems.proofs.Sound.{Bounds, bounds, Regs, kept-regs, Done}
 use Rattle.effects_theorems.proofs.Sources.{Put}
 
@@ -85,15 +83,11 @@ module _ (s : List ℕ) (n w b : ℕ) (at : b + n ≡ sbase s + ltop s + 1) (som
   finish-words : words s′ ≡ manual.replace n w (words s)
   unfolding words
   finish-words =
-      let bp : blockptr s′ ≡ blockptr s = finish-elsewhere .start in
-      let st : sbase s′ ≡ sbase s = finish-elsewhere .bound in
       let lt : ltop s′ ≡ ltop s + 1 - n = omega (arith, zero-word) in
       let fl : getD s′ 2 0 ≡ getD s 2 0 = finish-other 2 (omega arith) (omega arith) in
-      let lb : lbase s′ ≡ lbase s = ap (λ (v : ℕ). v / 2 ^ 16) (finish-other 1 (omega arith) (omega arith)) in
-      let gl : part s′ 8 (blockptr s - 8) ≡ part s 8 (blockptr s - 8) = part-same s s′ 8 (blockptr s - 8) (λ i p q. finish-other i (omega arith) (omega arith)) in
-      let fr : framesFrom (suc (lbase s)) s′ (lbase s) ≡ framesFrom (suc (lbase s)) s (lbase s) = frames-same (suc (lbase s)) s s′ (lbase s) st
-      (λ i p q. finish-other i (omega arith) (omega arith)) in
-      rw (fl, st, lb, lt, bp, gl, fr, tops)
+      words-left s s′ low (finish-regs .0) (finish-regs .2) (λ i p q. finish-other i (omega arith) (omega arith))
+      (λ i p q. finish-other i (omega arith) (omega arith))
+      ∙ rw (fl, lt, tops)
     where
       tops : downward s′ (sbase s + lbase s + 2) (ltop s + 1 - n - (lbase s + 1)) ≡ w ∷ drop n (downward s (sbase s + lbase s + 2) (ltop s - (lbase s + 1)))
       tops =

@@ -23,7 +23,7 @@ use Rattle.effects.specs.Sound.{Sound}
 use Rattle.effects_theorems.specs.Theorems.{StateKept}
 use Rattle.effects_theorems.proofs.StateWords.{state-set}
 use Rattle.effects_theorems.proofs.Counts.{machine-agree}
-use Rattle.effects_theorems.proofs.Frames.{frames-bottom, frames-next, frames-same, chain-same}
+use Rattle.effects_theorems.proofs.Frames.{frames-bottom, frames-next, frames-same, chain-same, words-left}
 use Rattle.effects_theorems.proofs.Sound.{Bounds, bounds, set-elsewhere, Done}
 
 module _ (s : List ℕ) (g : Sound s) (place : ℕ) (small : place < 2 ^ 16) where
@@ -138,13 +138,10 @@ module _ (s : List ℕ) (g : Sound s) (i v : ℕ) (from : 2 ≤ i) (to : i < 4) 
   state-words =
       let o0 : getD t 0 0 ≡ getD s 0 0 = rest 0 (omega arith) in
       let o1 : getD t 1 0 ≡ getD s 1 0 = rest 1 (omega arith) in
-      let o4 : getD t 4 0 ≡ getD s 4 0 = rest 4 (omega arith) in
-      let gl : part t 8 (blockptr s - 8) ≡ part s 8 (blockptr s - 8) = part-same s t 8 (blockptr s - 8) (λ k l u. rest k (omega arith)) in
       let tm : downward t (sbase s + lbase s + 2) (ltop s - (lbase s + 1)) ≡ downward s (sbase s + lbase s + 2) (ltop s - (lbase s + 1)) = downward-same s t
       (sbase s + lbase s + 2) (ltop s - (lbase s + 1)) (λ k l u. rest k (omega arith)) in
-      let fr : framesFrom (suc (lbase s)) t (lbase s) ≡ framesFrom (suc (lbase s)) s (lbase s) = frames-same (suc (lbase s)) s t (lbase s) (settled .bound)
-      (λ k l u. rest k (omega (arith, bound))) in
-      rw (o0, o1, o4, gl, tm, fr)
+      words-left s t (bound .low) (settled .bound) (ap (λ (w : ℕ). w / 2 ^ 16) o1) (λ k l u. rest k (omega arith)) (λ k l u. rest k (omega (arith, bound)))
+      ∙ rw (o0, tm)
 
   state-sound : Sound t
   state-sound =

@@ -7,17 +7,15 @@ use native.Mathlib.Omega.{arith}
 use lib.ListN.{getD, set, length, length-set}
 use lib.Seq.{getD-set-same, getD-set-other}
 use Rattle.descriptor.specs.Fields.{arrayWord}
-use Rattle.segment.specs.State.{sbase, ltop, lbase, blockptr}
-use Rattle.segment.specs.Blocks.{part}
+use Rattle.segment.specs.State.{sbase, ltop, lbase}
 use Rattle.segment.specs.Stack.{downward}
 use Rattle.segment.specs.Cells.{cell}
 use Rattle.storage.specs.Heap.{count}
 use Rattle.segment.specs.Machine.{mapMachine, allCells}
-use Rattle.segment.specs.View.{framesFrom, words, owners, view}
+use Rattle.segment.specs.View.{words, owners, view}
 use Rattle.manual.specs.Effects as manual
 use Rattle.manual.proofs.Machines.{map-swapped}
 use Rattle.storage_theorems.specs.Elsewhere.{Elsewhere}
-use Rattle.storage_theorems.proofs.Cells.{part-same}
 use Rattle.storage_theorems.proofs.Owners.{reown}
 use Rattle.storage_theorems.proofs.Steps.{downward-same}
 use Rattle.storage_theorems.proofs.Elsewhere.{own-elsewhere, cell-elsewhere}
@@ -27,7 +25,7 @@ use Rattle.effects.specs.Seen.{temporaries}
 use Rattle.effects.specs.Sound.{Sound}
 use Rattle.effects_theorems.proofs.StateWords.{state-on, state-set}
 use Rattle.effects_theorems.proofs.Counts.{machine-agree, cells-count, swapped-count}
-use Rattle.effects_theorems.proofs.Frames.{frames-same, chain-same}
+use Rattle.effects_theorems.proofs.Frames.{chain-same, words-left}
 use Rattle.effects_theorems.proofs.Sound.{Bounds, bounds, Done}
 
 -- the two highest words of a list read from the highest down
@@ -60,12 +58,9 @@ module _ (s : List ℕ) (g : Sound s) (two : 2 ≤ temporaries s) where
       let o0 : getD s′ 0 0 ≡ getD s 0 0 = other 0 (omega (arith, low, two)) (omega (arith, low, two)) in
       let o1 : getD s′ 1 0 ≡ getD s 1 0 = other 1 (omega (arith, low, two)) (omega (arith, low, two)) in
       let o2 : getD s′ 2 0 ≡ getD s 2 0 = other 2 (omega (arith, low, two)) (omega (arith, low, two)) in
-      let o4 : getD s′ 4 0 ≡ getD s 4 0 = other 4 (omega (arith, low, two)) (omega (arith, low, two)) in
-      let gl : part s′ 8 (blockptr s - 8) ≡ part s 8 (blockptr s - 8) = part-same s s′ 8 (blockptr s - 8)
-      (λ j l u. other j (omega (arith, low, two)) (omega (arith, low, two))) in
-      let fr : framesFrom (suc (lbase s)) s′ (lbase s) ≡ framesFrom (suc (lbase s)) s (lbase s) = frames-same (suc (lbase s)) s s′ (lbase s) (moved .bound)
-      (λ j l u. other j (omega (arith, low, two)) (omega (arith, low, two))) in
-      rw (o0, o1, o2, o4, gl, fr, tops)
+      words-left s s′ (low .low) (moved .bound) (ap (λ (w : ℕ). w / 2 ^ 16) o1) (λ j l u. other j (omega (arith, low, two)) (omega (arith, low, two)))
+      (λ j l u. other j (omega (arith, low, two)) (omega (arith, low, two)))
+      ∙ rw (o0, o2, tops)
     where
       tops : downward s′ (sbase s + lbase s + 2) (ltop s - (lbase s + 1)) ≡ manual.swapped (downward s (sbase s + lbase s + 2) (ltop s - (lbase s + 1)))
       tops =

@@ -115,7 +115,8 @@ module _ (s : List ℕ) (w : ℕ) (some : 1 ≤ sbase s) where
             let j : indexIn (downward s (sbase s + (lastLbaseAt s base + 2)) (base - (lastLbaseAt s base + 2))) (framesFrom n s (lastLbaseAt s base)) a
             ≡ sbase s + (lastLbaseAt s base + 2) + (base - (lastLbaseAt s base + 2)) - 1 - i =
             let z = downward-length s (sbase s + (lastLbaseAt s base + 2)) (base - (lastLbaseAt s base + 2)) in
-            index-in (downward s (sbase s + (lastLbaseAt s base + 2)) (base - (lastLbaseAt s base + 2))) (framesFrom n s (lastLbaseAt s base)) a (omega arith) ∙ omega arith in
+            index-in (downward s (sbase s + (lastLbaseAt s base + 2)) (base - (lastLbaseAt s base + 2))) (framesFrom n s (lastLbaseAt s base)) a (omega arith)
+            ∙ omega arith in
             rw (
               downward-put s (sbase s + (lastLbaseAt s base + 2)) (base - (lastLbaseAt s base + 2)) i w (omega arith) (omega arith) (omega arith),
               frames-same n s s′ (lastLbaseAt s base) bound (λ m x y. other m (omega arith)),
@@ -231,7 +232,9 @@ module _ (s : List ℕ) (g : Sound s) where
   -- a store to a variable
   pub words-put : (w : ℕ) (t : Target) → Addressable s t → words (set s (addressOf s t) w) ≡ put t w (words s)
   unfolding words
-  words-put w (Global q) h = rw (global-in (part s 8 (blockptr s - 8)) (q .0) (h .0)) (words-global w (q .0) (h .0) (omega (arith, h, part-length s 8 (blockptr s - 8), bounds g)))
+  words-put w (Global q) h =
+      rw (global-in (part s 8 (blockptr s - 8)) (q .0) (h .0))
+      (words-global w (q .0) (h .0) (omega (arith, h, part-length s 8 (blockptr s - 8), bounds g)))
   words-put w (Local a) h = words-local w (a .0) (sbase s + a .0) h refl
 
   pub variable-chain : (w : ℕ) (t : Target) → Addressable s t → Chain (set s (addressOf s t) w) (lbase s)

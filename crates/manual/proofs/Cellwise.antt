@@ -166,6 +166,9 @@ module _ {A : Type 0} where
   index-after : (a b : ℕ) (c : A) (r : Frame A) (l : List (Frame A)) → indexIn (after a c r l .cells) l b ≡ indexIn (r .cells) l b
   index-after a b c r l = index-same (r .cells) (after a c r l .cells) l l b (length-set (r .cells) (indexIn (r .cells) l a) c) refl
 
+  global-after : (g h : ℕ) (c : A) (l : List A) → globalIndex (set l (globalIndex l g) c) h ≡ globalIndex l h
+  global-after g h c l = global-same l (set l (globalIndex l g) c) h (length-set l (globalIndex l g) c)
+
   twice-frames : (a : ℕ) (b c : A) (l : List (Frame A)) → putFrames a c (putFrames a b l) ≡ putFrames a c l
   twice-frames a b c [] = refl
   twice-frames a b c (r ∷ l) =
@@ -176,8 +179,7 @@ module _ {A : Type 0} where
       (order (depthOfFrames l) a)
 
   pub put-twice : (t : Target) (b c : A) (m : Machine A) → put t c (put t b m) ≡ put t c m
-  put-twice (Global g) b c m =
-      rw (global-same (m .globals) (set (m .globals) (globalIndex (m .globals) (g .0)) b) (g .0) (length-set (m .globals) (globalIndex (m .globals) (g .0)) b), set-set)
+  put-twice (Global g) b c m = rw (global-after (g .0) (g .0) b (m .globals), set-set)
   put-twice (Local a) b c m = rw (twice-frames (a .0) b c (m .frames))
 
   module _ (none c : A) where
@@ -195,7 +197,7 @@ module _ {A : Type 0} where
     pub look-put : (t : Target) (m : Machine A) → AddressableIn t m → look none t (put t c m) ≡ c
     look-put (Global g) m h =
         let l : globalIndex (m .globals) (g .0) < length (m .globals) = rw (global-in (m .globals) (g .0) (h .0)) (omega (arith, h)) in
-        rw (global-same (m .globals) (set (m .globals) (globalIndex (m .globals) (g .0)) c) (g .0) (length-set (m .globals) (globalIndex (m .globals) (g .0)) c), getD-set-same)
+        rw (global-after (g .0) (g .0) c (m .globals), getD-set-same)
     look-put (Local a) m h = look-putFrames (a .0) (m .frames) h
 
     -- another is looked at as before
@@ -221,7 +223,7 @@ module _ {A : Type 0} where
 
     pub look-other : (t u : Target) (m : Machine A) → u ≢ t → look none u (put t c m) ≡ look none u m
     look-other (Global g) (Global h) m n =
-        rw (global-same (m .globals) (set (m .globals) (globalIndex (m .globals) (g .0)) c) (h .0) (length-set (m .globals) (globalIndex (m .globals) (g .0)) c))
+        rw (global-after (g .0) (h .0) c (m .globals))
         (getD-set (m .globals) (globalIndex (m .globals) (h .0)) (globalIndex (m .globals) (g .0)) c none
         (global-apart (m .globals) (g .0) (h .0) (λ e. n (ap (λ (i : ℕ). Global (segment i)) e))))
     look-other (Global g) (Local b) m n = refl

@@ -12,11 +12,11 @@ use borrow.Author.Tests.{ltb-false, ne-eqb}
 use Rattle.descriptor.specs.declared.Target.{Target}
 use Rattle.descriptor.specs.declared.Target.the-variants.{Local, Global}
 use Rattle.descriptor.specs.Fields.{undefinedWord}
-use Rattle.segment.specs.State.{sbase, ltop, lbase, setLtop, setLbase}
+use Rattle.segment.specs.State.{sbase, ltop, lbase, setLtop}
 use Rattle.segment.specs.Stack.{lastLbaseAt}
 use Rattle.segment.specs.Blocks.{rankAt, countAt, product, shapeAt, elementsAt, need}
 use Rattle.storage.specs.Request.{requestAt}
-use Rattle.storage.specs.Arrays.{placeAt, share, drops}
+use Rattle.storage.specs.Arrays.{placeAt, drops}
 use Rattle.manual.specs.Effects.{Source, variable, operand, word, undefinedValue, reference, made, Effect, replaces, discards, swaps, stores, storesElement, enters, leaves, jumps, setsOrigin}
 use Rattle.manual.proofs.Tests.{none-holds}
 use Rattle.effects.specs.Sources.{addressOf, heldAt, operandAt, wordOf, placed}
@@ -30,8 +30,8 @@ use Rattle.plan_theorems.specs.Fitting.{Words}
 use Rattle.plan_theorems.proofs.Lists.{All, count-all, all-map, all-append, all-replicate}
 use Rattle.plan_theorems.proofs.Values.{Length}
 use Rattle.plan_theorems.specs.Bounded.{SmallSource, Small, AllSmall}
-use Rattle.plan_theorems.proofs.BoundedWords.{set-below, words-all, words-part, words-set, words-sets, words-ltop, words-lbase, words-pctr, words-iorg}
-use Rattle.plan_theorems.proofs.BoundedStorage.{request-below, words-share, words-drop, words-drops, words-place}
+use Rattle.plan_theorems.proofs.BoundedWords.{set-below, words-all, words-part, words-sets, Short, short-set, short-ltop, short-lbase, short-iorg, short-pctr}
+use Rattle.plan_theorems.proofs.BoundedStorage.{request-below, short-share, short-drop, short-drops, short-place}
 
 -- ---- sources
 
@@ -61,30 +61,28 @@ source-ready s (made shape ravel) a f k = (
   k,
 )
 
-module _ (s : List ℕ) (h : Words s) where
+module _ {s : List ℕ} (h : Short s) where
   word-below : (source : Source) → Ready source → wordOf s source < 2 ^ 32
   unfolding placeAt
-  word-below (variable t) r = h (addressOf s t)
-  word-below (operand i) r = h (sbase s + ltop s - i)
+  word-below (variable t) r = h .at (addressOf s t)
+  word-below (operand i) r = h .at (sbase s + ltop s - i)
   word-below (word w) r = r
   word-below undefinedValue r = omega arith
   word-below (reference (Local a)) r = omega arith
   word-below (reference (Global g)) r = omega arith
-  word-below (made shape ravel) r = omega (arith, request-below s h (need shape ravel))
+  word-below (made shape ravel) r = omega (arith, request-below h (need shape ravel))
 
-  words-placed : (source : Source) → Ready source → Words (placed s source)
-  words-placed (variable t) r = words-share s h (heldAt s t)
-  words-placed (operand i) r = words-share s h (operandAt s i)
-  words-placed (word w) r = h
-  words-placed undefinedValue r = h
-  words-placed (reference t) r = h
-  words-placed (made shape ravel) r = words-place s h shape ravel (r .0) (r .1) (r .2)
+  short-placed : (source : Source) → Ready source → Short (placed s source)
+  short-placed (variable t) r = short-share h (heldAt s t)
+  short-placed (operand i) r = short-share h (operandAt s i)
+  short-placed (word w) r = h
+  short-placed undefinedValue r = h
+  short-placed (reference t) r = h
+  short-placed (made shape ravel) r = short-place h shape ravel (r .0) (r .1) (r .2)
 
-  words-store : (i : ℕ) (source : Source) → Ready source → Words (storeAt s i source)
+  short-store : (i : ℕ) (source : Source) → Ready source → Short (storeAt s i source)
   unfolding storeAt
-  words-store i source r =
-      words-drop (set (placed s source) i (wordOf s source))
-      (words-set (placed s source) (words-placed source r) i (wordOf s source) (word-below source r)) (getD s i 0)
+  short-store i source r = short-drop (short-set (short-placed source r) i (wordOf s source) (word-below source r)) (getD s i 0)
 
 -- ---- effects
 
@@ -92,92 +90,85 @@ module _ (s : List ℕ) (h : Words s) where
 first-below : {s : List ℕ} → Sound s → getD s 0 0 < 2 ^ 32
 first-below g = omega (arith, g .fits, g .own .heap .short)
 
-words-finish : (s : List ℕ) → Words s → (b w : ℕ) → w < 2 ^ 32 → Sound (finish s b w) → (i : ℕ) → getD (finish s b w) i 0 < 2 ^ 32
+finish-below : {s : List ℕ} → Short s → (b w : ℕ) → w < 2 ^ 32 → Sound (finish s b w) → (i : ℕ) → getD (finish s b w) i 0 < 2 ^ 32
 unfolding finish setLtop
-words-finish s h b w k g zero = first-below g
-words-finish s h b w k g (suc i) =
+finish-below h b w k g zero = first-below g
+finish-below {s} h b w k g (suc i) =
     set-below (set s 0 (sbase s * 2 ^ 16 + (b - sbase s))) b w (suc i)
-    (set-below s 0 (sbase s * 2 ^ 16 + (b - sbase s)) (suc i) (h (suc i)) (λ e. absurd (omega (arith, e)))) (λ e. k)
+    (set-below s 0 (sbase s * 2 ^ 16 + (b - sbase s)) (suc i) (h .at (suc i)) (λ e. absurd (omega (arith, e)))) (λ e. k)
 
-module _ (s : List ℕ) (h : Words s) where
-  words-replace : (n : ℕ) (source : Source) → Ready source → Sound (replace s n source) → Words (replace s n source)
+module _ {s : List ℕ} (h : Short s) where
+  short-replace : (n : ℕ) (source : Source) → Ready source → Sound (replace s n source) → Short (replace s n source)
   unfolding replace
-  words-replace n source r g =
-      words-finish (drops n (placed s source) (bottomOf s n)) (words-drops n (placed s source) (words-placed s h source r) (bottomOf s n)) (bottomOf s n)
-      (wordOf s source) (word-below s h source r) g
+  short-replace n source r g =
+      record { at = finish-below (short-drops n (short-placed h source r) (bottomOf s n)) (bottomOf s n) (wordOf s source) (word-below h source r) g }
 
-  words-discard : (n : ℕ) → Words (discard s n)
+  short-discard : (n : ℕ) → Short (discard s n)
   unfolding discard
-  words-discard n = words-ltop (drops n s (bottomOf s n)) (words-drops n s h (bottomOf s n)) (ltop s - n) (omega arith)
+  short-discard n = short-ltop (short-drops n h (bottomOf s n)) (ltop s - n) (omega arith)
 
-  words-swap : Words (swap s)
+  short-swap : Short (swap s)
   unfolding swap
-  words-swap =
-      words-set (set s (sbase s + ltop s) (operandAt s 1)) (words-set s h (sbase s + ltop s) (operandAt s 1) (h (sbase s + ltop s - 1))) (sbase s + ltop s - 1)
-      (operandAt s 0) (h (sbase s + ltop s - 0))
+  short-swap =
+      short-set (short-set h (sbase s + ltop s) (operandAt s 1) (h .at (sbase s + ltop s - 1))) (sbase s + ltop s - 1) (operandAt s 0) (h .at (sbase s + ltop s - 0))
 
   words-shape : (a : ℕ) → Words (shapeAt s a)
   unfolding shapeAt
-  words-shape a = words-part s h (a + 2) (rankAt s a)
+  words-shape a = words-part s (h .at) (a + 2) (rankAt s a)
 
   words-elements : (a : ℕ) → Words (elementsAt s a)
   unfolding elementsAt
-  words-elements a = words-part s h (a + 2 + rankAt s a) (product (shapeAt s a))
+  words-elements a = words-part s (h .at) (a + 2 + rankAt s a) (product (shapeAt s a))
 
   -- the copy of the array at `a`, where one is asked for
-  words-copy : (i a : ℕ) (b : Bool)
+  short-copy : (i a : ℕ) (b : Bool)
       → cond (eqb (cond b (need (shapeAt s a) (elementsAt s a)) 0) 0) false (noneFor s (cond b (need (shapeAt s a) (elementsAt s a)) 0)) ≡ false
-      → Words (cond b (storeAt s i (made (shapeAt s a) (elementsAt s a))) s)
-  words-copy i a true e =
-      words-store s h i (made (shapeAt s a) (elementsAt s a))
+      → Short (cond b (storeAt s i (made (shapeAt s a) (elementsAt s a))) s)
+  short-copy i a true e =
+      short-store h i (made (shapeAt s a) (elementsAt s a))
       (omega (arith, short s (need (shapeAt s a) (elementsAt s a)) (omega arith) e), words-shape a, words-elements a)
-  words-copy i a false e = h
+  short-copy i a false e = h
 
-  words-unshare : (t : Target) (place w n : ℕ) → isFull s (storesElement t place w n) ≡ false → Words (unshare s (addressOf s t))
+  short-unshare : (t : Target) (place w n : ℕ) → isFull s (storesElement t place w n) ≡ false → Short (unshare s (addressOf s t))
   unfolding unshare
-  words-unshare t place w n f =
-      words-copy (addressOf s t) (blockOf s (addressOf s t)) (leb 2 (countAt s (blockOf s (addressOf s t)))) f
+  short-unshare t place w n f = short-copy (addressOf s t) (blockOf s (addressOf s t)) (leb 2 (countAt s (blockOf s (addressOf s t)))) f
 
-  words-enter : (n f : ℕ) → ltop s + n + 2 < 2 ^ 16 → f < 2 ^ 32 → Words (enter s n f)
+  short-enter : (n f : ℕ) → ltop s + n + 2 < 2 ^ 16 → f < 2 ^ 32 → Short (enter s n f)
   unfolding enter
-  words-enter n f k l =
+  short-enter n f k l =
       let ws = replicate n undefinedWord ++ (lbase s ∷ f ∷ []) in
       let all : All (λ w. w < 2 ^ 32) ws = all-append (λ (w : ℕ). w < 2 ^ 32) (replicate n undefinedWord) (lbase s ∷ f ∷ [])
-      (all-replicate (λ (w : ℕ). w < 2 ^ 32) n undefinedWord (omega arith)) (omega (arith, h 1), (l, tt)) in
-      words-lbase (setLtop (sets s (sbase s + ltop s + 1) ws) (ltop s + n + 2))
-      (words-ltop (sets s (sbase s + ltop s + 1) ws) (words-sets s h (sbase s + ltop s + 1) ws (words-all ws all)) (ltop s + n + 2) k) (ltop s + n + 1) (omega arith)
+      (all-replicate (λ (w : ℕ). w < 2 ^ 32) n undefinedWord (omega arith)) (omega (arith, h .at 1), (l, tt)) in
+      let run : Short (sets s (sbase s + ltop s + 1) ws) = record { at = words-sets s (h .at) (sbase s + ltop s + 1) ws (words-all ws all) } in
+      short-lbase (short-ltop run (ltop s + n + 2) k) (ltop s + n + 1) (omega arith)
 
-  words-leave : (n : ℕ) (result : Bool) → Words (cond result (leaveWith s n) (leaveWithout s n))
+  short-leave : (n : ℕ) (result : Bool) → Short (cond result (leaveWith s n) (leaveWithout s n))
   unfolding leaveWith leaveWithout
-  words-leave n true =
+  short-leave n true =
       let w = getD s (sbase s + lbase s - 1) 0 in
-      let t = drops n (share s w) (startOf s n) in
-      let k = words-drops n (share s w) (words-share s h w) (startOf s n) in
-      words-set (setLbase (setLtop t (lbase s - n)) (lastLbaseAt s (lbase s) % 2 ^ 16))
-      (words-lbase (setLtop t (lbase s - n)) (words-ltop t k (lbase s - n) (omega (arith, h 1))) (lastLbaseAt s (lbase s) % 2 ^ 16) (omega arith))
-      (startOf s n) w (h (sbase s + lbase s - 1))
-  words-leave n false =
-      let t = drops n s (startOf s n) in
-      let k = words-drops n s h (startOf s n) in
-      words-lbase (setLtop t (lbase s - n - 1)) (words-ltop t k (lbase s - n - 1) (omega (arith, h 1))) (lastLbaseAt s (lbase s) % 2 ^ 16) (omega arith)
+      let t = short-ltop (short-drops n (short-share h w) (startOf s n)) (lbase s - n) (omega (arith, h .at 1)) in
+      short-set (short-lbase t (lastLbaseAt s (lbase s) % 2 ^ 16) (omega arith)) (startOf s n) w (h .at (sbase s + lbase s - 1))
+  short-leave n false =
+      short-lbase (short-ltop (short-drops n h (startOf s n)) (lbase s - n - 1) (omega (arith, h .at 1))) (lastLbaseAt s (lbase s) % 2 ^ 16) (omega arith)
 
-module _ (s : List ℕ) (g : Sound s) (h : Words s) where
-  pub effect-words : (e : Effect) → Fits s e → isFull s e ≡ false → Small e → Words (perform s e)
-  unfolding store storeElement writeElement
-  effect-words (replaces n source) c f k =
-      words-replace s h n source (source-ready s source (c .1) f k) (perform-theorem s g (replaces n source) c f .sound)
-  effect-words (discards n) c f k = words-discard s h n
-  effect-words swaps c f k = words-swap s h
-  effect-words (stores t source) c f k = words-store s h (addressOf s t) source (source-ready s source (c .1) f k)
-  effect-words (storesElement t place w n) c f k =
-      let u = unshare s (addressOf s t) in
-      words-replace (writeElement u (addressOf s t) place w)
-      (words-set u (words-unshare s h t place w n f) (blockOf u (addressOf s t) + 2 + rankAt u (blockOf u (addressOf s t)) + place) w k) n (variable t) tt
-      (perform-theorem s g (storesElement t place w n) c f .sound)
-  effect-words (enters n v) c f k = words-enter s h n v (omega (arith, c, g .own .heap .short)) k
-  effect-words (leaves n result) c f k = words-leave s h n result
-  effect-words (jumps place) c f k = words-pctr s h (place % 2 ^ 16) (omega arith)
-  effect-words (setsOrigin v) c f k = words-iorg s h v k
+effect-short : (s : List ℕ) → Sound s → Short s → (e : Effect) → Fits s e → isFull s e ≡ false → Small e → Short (perform s e)
+unfolding store storeElement writeElement
+effect-short s g h (replaces n source) c f k =
+    short-replace h n source (source-ready s source (c .1) f k) (perform-theorem s g (replaces n source) c f .sound)
+effect-short s g h (discards n) c f k = short-discard h n
+effect-short s g h swaps c f k = short-swap h
+effect-short s g h (stores t source) c f k = short-store h (addressOf s t) source (source-ready s source (c .1) f k)
+effect-short s g h (storesElement t place w n) c f k =
+    let a = blockOf (unshare s (addressOf s t)) (addressOf s t) in
+    short-replace (short-set (short-unshare h t place w n f) (a + 2 + rankAt (unshare s (addressOf s t)) a + place) w k) n (variable t) tt
+    (perform-theorem s g (storesElement t place w n) c f .sound)
+effect-short s g h (enters n v) c f k = short-enter h n v (omega (arith, c, g .own .heap .short)) k
+effect-short s g h (leaves n result) c f k = short-leave h n result
+effect-short s g h (jumps place) c f k = short-pctr h (place % 2 ^ 16) (omega arith)
+effect-short s g h (setsOrigin v) c f k = short-iorg h v k
+
+pub effect-words : (s : List ℕ) → Sound s → Words s → (e : Effect) → Fits s e → isFull s e ≡ false → Small e → Words (perform s e)
+effect-words s g h e c f k = effect-short s g (record { at = h }) e c f k .at
 
 -- one after the other
 in-turn : (s : List ℕ) → Sound s → Words s → (es : List Effect) → AllServed s es → AllSmall es → Words (performs s es)

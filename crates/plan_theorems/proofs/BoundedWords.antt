@@ -23,10 +23,6 @@ set-below (x ∷ s) (suc i) w (suc j) h k = set-below s i w j h (λ e. k (ap suc
 pub words-all : (l : List ℕ) → All (λ w. w < 2 ^ 32) l → Words l
 words-all l h i = all-getD (λ (w : ℕ). w < 2 ^ 32) l i (omega arith) h
 
-pub words-cond : (b : Bool) (x y : List ℕ) → Words x → Words y → Words (cond b x y)
-words-cond true x y h k = h
-words-cond false x y h k = k
-
 module _ (s : List ℕ) (h : Words s) where
   pub words-part : (a n : ℕ) → Words (part s a n)
   words-part a zero i = omega arith
@@ -36,27 +32,39 @@ module _ (s : List ℕ) (h : Words s) where
   pub words-set : (i w : ℕ) → w < 2 ^ 32 → Words (set s i w)
   words-set i w k j = set-below s i w j (h j) (λ e. k)
 
-  pub words-ltop : (v : ℕ) → v < 2 ^ 16 → Words (setLtop s v)
-  unfolding setLtop
-  words-ltop v k = words-set 0 (sbase s * 2 ^ 16 + v) (omega (arith, h 0))
-
-  pub words-lbase : (v : ℕ) → v < 2 ^ 16 → Words (setLbase s v)
-  unfolding setLbase
-  words-lbase v k = words-set 1 (v * 2 ^ 16 + rover s) (omega arith)
-
-  pub words-rover : (v : ℕ) → v < 2 ^ 16 → Words (setRover s v)
-  unfolding setRover
-  words-rover v k = words-set 1 (lbase s * 2 ^ 16 + v) (omega (arith, h 1))
-
-  pub words-iorg : (v : ℕ) → v < 2 → Words (setIorg s v)
-  unfolding setIorg
-  words-iorg v k = words-set 2 (flags s / 2 * 2 + v) (omega (arith, h 2))
-
-  pub words-pctr : (place : ℕ) → place < 2 ^ 16 → Words (setPctr s place)
-  unfolding setPctr
-  words-pctr place k =
-      words-set (sbase s + lbase s + 1) (codeWordAt s (lbase s) / 2 ^ 16 * 2 ^ 16 + place) (omega (arith, h (sbase s + lbase s + 1)))
-
 pub words-sets : (s : List ℕ) → Words s → (i : ℕ) (ws : List ℕ) → Words ws → Words (sets s i ws)
 words-sets s h i [] k = h
 words-sets s h i (w ∷ ws) k = words-sets (set s i w) (words-set s h i w (k 0)) (suc i) ws (λ j. k (suc j))
+
+-- A segment whose words have 32 bits, by which each law below knows what it speaks of.
+pub record Short (s : List ℕ) : Type 0 where
+  pub at : Words s
+
+pub short-set : {s : List ℕ} → Short s → (i w : ℕ) → w < 2 ^ 32 → Short (set s i w)
+short-set {s} h i w k = record { at = words-set s (h .at) i w k }
+
+pub either : (b : Bool) {x y : List ℕ} → Short x → Short y → Short (cond b x y)
+either true h k = h
+either false h k = k
+
+module _ {s : List ℕ} (h : Short s) where
+  pub short-ltop : (v : ℕ) → v < 2 ^ 16 → Short (setLtop s v)
+  unfolding setLtop
+  short-ltop v k = short-set h 0 (sbase s * 2 ^ 16 + v) (omega (arith, h .at 0))
+
+  pub short-lbase : (v : ℕ) → v < 2 ^ 16 → Short (setLbase s v)
+  unfolding setLbase
+  short-lbase v k = short-set h 1 (v * 2 ^ 16 + rover s) (omega arith)
+
+  pub short-rover : (v : ℕ) → v < 2 ^ 16 → Short (setRover s v)
+  unfolding setRover
+  short-rover v k = short-set h 1 (lbase s * 2 ^ 16 + v) (omega (arith, h .at 1))
+
+  pub short-iorg : (v : ℕ) → v < 2 → Short (setIorg s v)
+  unfolding setIorg
+  short-iorg v k = short-set h 2 (flags s / 2 * 2 + v) (omega (arith, h .at 2))
+
+  pub short-pctr : (place : ℕ) → place < 2 ^ 16 → Short (setPctr s place)
+  unfolding setPctr
+  short-pctr place k =
+      short-set h (sbase s + lbase s + 1) (codeWordAt s (lbase s) / 2 ^ 16 * 2 ^ 16 + place) (omega (arith, h .at (sbase s + lbase s + 1)))
