@@ -10,12 +10,12 @@ use Rattle.descriptor.specs.declared.Target.{Target}
 use Rattle.descriptor.specs.declared.Target.the-variants.{Local, Global}
 use Rattle.descriptor.specs.declared.Kind.{Kind}
 use Rattle.descriptor.specs.declared.Kind.the-variants as K
-use Rattle.descriptor.specs.Fields.{isArray, address, undefinedWord}
+use Rattle.descriptor.specs.Fields.{isArray, address}
 use Rattle.descriptor.specs.Kinds.{segment, kindOf, scalarKind, isScalar}
 use Rattle.descriptor.specs.Inverse.{targetWord, TargetFits}
 use Rattle.descriptor.proofs.Inverse.{inverse}
-use Rattle.segment.specs.Cells.{undefined, indirect, value, cell, cellOfKind}
-use Rattle.storage_theorems.proofs.Ways.{decide}
+use Rattle.descriptor.proofs.Truth.{decide}
+use Rattle.segment.specs.Cells.{indirect, value, cell, cellOfKind}
 use Rattle.storage_theorems.proofs.Cells.{array-of}
 use Rattle.effects.specs.Sources.{referenceWord}
 
@@ -41,10 +41,6 @@ kind-scalar s w K.Invalid h = cc
 pub scalar-cell : (s : List ℕ) (w : ℕ) → isScalar w ≡ true → cell s w ≡ value [] (w ∷ [])
 unfolding cell isScalar
 scalar-cell s w h = kind-scalar s w (kindOf w) h
-
-pub undefined-cell : (s : List ℕ) → cell s undefinedWord ≡ undefined
-unfolding cell
-undefined-cell s = rw (inverse .readBack K.Undefined tt)
 
 -- an indirect word
 reference-word : (t : Target) → TargetFits t → referenceWord t ≡ targetWord t

@@ -20,6 +20,7 @@ use Rattle.storage.specs.Heap.{hit, count}
 use Rattle.storage.specs.Owned.{ArrayIn, Inside, Proper}
 use Rattle.segment.specs.Machine.{Machine, mapMachine, allCells}
 use Rattle.segment.specs.View.{words, owners, view}
+use Rattle.segment.proofs.Runs.{part-length}
 use Rattle.manual.specs.Effects as manual
 use Rattle.storage_theorems.proofs.Counts.{hit-eq, hit-same, hit-cases}
 use Rattle.storage_theorems.specs.Element.{setElement, Element}
@@ -37,7 +38,7 @@ use Rattle.effects.specs.Sound.{Sound}
 use Rattle.effects.specs.Fits.{Addressable, CanReplace}
 use Rattle.effects_theorems.proofs.StateWords.{state-none, state-on, state-step}
 use Rattle.effects_theorems.proofs.Counts.{machine-agree, count-put}
-use Rattle.effects_theorems.proofs.Frames.{part-length, chain-same, words-kept}
+use Rattle.effects_theorems.proofs.Frames.{chain-same, words-kept}
 use Rattle.effects_theorems.proofs.Sound.{Bounds, bounds, Regs, kept-regs, Done, InPlace}
 use Rattle.effects_theorems.proofs.Variables.{same-put, variable-owner, in-view}
 use Rattle.effects_theorems.proofs.Sources.{Put, put-source}

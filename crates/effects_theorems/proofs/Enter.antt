@@ -15,6 +15,7 @@ use Rattle.segment.specs.Cells.{Cell, undefined, cell}
 use Rattle.storage.specs.Heap.{count}
 use Rattle.segment.specs.Machine.{Machine, mapMachine, cellsOfFrames, allCells}
 use Rattle.segment.specs.View.{framesFrom, words, owners, view}
+use Rattle.segment.proofs.Runs.{undefined-cell}
 use Rattle.manual.specs.Effects as manual
 use Rattle.manual.proofs.Machines.{map-run}
 use Rattle.storage_theorems.proofs.Counts.{count-append}
@@ -28,7 +29,6 @@ use Rattle.effects.specs.Perform.{enter}
 use Rattle.effects.specs.Sound.{Chain, upon, Sound}
 use Rattle.effects_theorems.specs.Theorems.{StateKept}
 use Rattle.effects_theorems.proofs.Counts.{machine-agree, cells-count}
-use Rattle.effects_theorems.proofs.Cells.{undefined-cell}
 use Rattle.effects_theorems.proofs.Frames.{frames-next, frames-fuel, frames-same, chain-same}
 use Rattle.effects_theorems.proofs.Sound.{Bounds, bounds, Done}
 

@@ -7,24 +7,16 @@ use native.Mathlib.Omega.{arith}
 use lib.ListN.{getD, length, drop, length-append}
 use borrow.Author.Tests.{le-leb, lt-leb}
 use Rattle.segment.specs.State.{sbase, ltop, lbase, blockptr, flags}
-use Rattle.segment.specs.Blocks.{part}
 use Rattle.segment.specs.Stack.{lastLbaseAt, codeWordAt, downward}
 use Rattle.storage.specs.Owned.{CellsKept}
 use Rattle.segment.specs.Machine.{Frame, cellsOfFrames, depthOfFrames}
 use Rattle.segment.specs.View.{framesFrom, words}
+use Rattle.segment.proofs.Runs.{downward-length}
 use Rattle.storage_theorems.proofs.Counts.{order}
 use Rattle.storage_theorems.proofs.Walks.{Same}
 use Rattle.storage_theorems.proofs.Cells.{part-same}
 use Rattle.storage_theorems.proofs.Steps.{downward-same}
 use Rattle.effects.specs.Sound.{Chain, bottom, upon}
-
-pub downward-length : (s : List ℕ) (a n : ℕ) → length (downward s a n) ≡ n
-downward-length s a zero = refl
-downward-length s a (suc n) = ap suc (downward-length s a n)
-
-pub part-length : (s : List ℕ) (a n : ℕ) → length (part s a n) ≡ n
-part-length s a zero = refl
-part-length s a (suc n) = ap suc (part-length s (a + 1) n)
 
 pub drop-downward : (s : List ℕ) (a m k : ℕ) → drop k (downward s a (m + k)) ≡ downward s a m
 drop-downward s a m zero = let e : m + 0 ≡ m = omega arith in rw e

@@ -17,6 +17,7 @@ use Rattle.storage.specs.Heap.{count}
 use Rattle.storage.specs.Owned.{Owned, CellsKept, OwnedStep}
 use Rattle.segment.specs.Machine.{Machine, mapMachine, cellsOfFrames, allCells}
 use Rattle.segment.specs.View.{framesFrom, words, owners, view}
+use Rattle.segment.proofs.Runs.{downward-length, undefined-cell, getD-downward}
 use Rattle.manual.specs.Effects as manual
 use Rattle.manual.proofs.Machines.{map-drop, map-current, map-older}
 use Rattle.storage_theorems.proofs.Counts.{count-append}
@@ -31,10 +32,8 @@ use Rattle.effects.specs.Fits.{CanLeave}
 use Rattle.effects_theorems.specs.Theorems.{StateKept}
 use Rattle.effects_theorems.proofs.StateWords.{state-on, state-step}
 use Rattle.effects_theorems.proofs.Counts.{machine-agree, cells-count, count-getD, current-count}
-use Rattle.effects_theorems.proofs.Cells.{undefined-cell}
-use Rattle.effects_theorems.proofs.Frames.{downward-length, drop-downward, frame, frames-next, frames-fuel, frames-same, chain-same, words-kept}
+use Rattle.effects_theorems.proofs.Frames.{drop-downward, frame, frames-next, frames-fuel, frames-same, chain-same, words-kept}
 use Rattle.effects_theorems.proofs.Sound.{Bounds, bounds, owners-few, Regs, kept-regs, Done}
-use Rattle.effects_theorems.proofs.Variables.{getD-downward}
 use Rattle.effects_theorems.proofs.Sources.{Put, put-shared}
 
 -- the machine without its current frame

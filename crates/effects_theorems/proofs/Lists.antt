@@ -7,6 +7,7 @@ use mathlib.Core.List.{List, [], _∷_}
 use native.Mathlib.Omega.{arith}
 use lib.Dec.{ltb, eqb}
 use borrow.Author.Tests.{ltb-true, eqb-true, eqb-false, eq-eqb, ne-eqb, le-leb, lt-leb}
+use Rattle.descriptor.proofs.Truth.{decide}
 use Rattle.segment.specs.State.{blockptr}
 use Rattle.segment.specs.Blocks.{countAt}
 use Rattle.storage.specs.Request.{requestAt}
@@ -16,7 +17,6 @@ use Rattle.manual.specs.Effects.{Source, variable, operand, word, undefinedValu
 use Rattle.manual.proofs.Tests.{one-holds, second-holds}
 use Rattle.storage_theorems.proofs.Counts.{order}
 use Rattle.storage_theorems.proofs.Walks.{over-le}
-use Rattle.storage_theorems.proofs.Ways.{decide}
 use Rattle.storage_theorems.proofs.Request.{request-theorem}
 use Rattle.effects.specs.Sources.{addressOf}
 use Rattle.effects.specs.Perform.{blockOf, perform, performs, sourceNeed, wanted, noneFor, isFull, firstFull}

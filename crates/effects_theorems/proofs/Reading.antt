@@ -12,13 +12,13 @@ use Rattle.descriptor.specs.declared.Kind.the-variants as K
 use Rattle.descriptor.specs.Fields.{isArray, address, arrayWord}
 use Rattle.descriptor.specs.Kinds.{kindOf}
 use Rattle.descriptor.proofs.Arrays.{IfArray, array-kind, kind-array}
+use Rattle.descriptor.proofs.Truth.{decide}
 use Rattle.segment.specs.State.{blockptr}
 use Rattle.segment.specs.Blocks.{sizeAt, rankAt, shapeAt, product}
 use Rattle.segment.specs.Cells.{cell, cellOfKind}
 use Rattle.storage.specs.Heap.{Block, free, array, Walk, over, count}
 use Rattle.storage.specs.Owned.{ArrayIn, Owned}
 use Rattle.segment.specs.View.{owners}
-use Rattle.storage_theorems.proofs.Ways.{decide}
 use Rattle.storage_theorems.proofs.Walks.{over-le}
 use Rattle.storage_theorems.proofs.Arrays.{array-within, array-fields}
 use Rattle.storage_theorems.proofs.Cells.{array-of, cell-array}

@@ -16,10 +16,11 @@ use Rattle.segment.specs.Stack.{lastLbaseAt, codeWordAt}
 use Rattle.segment.specs.Cells.{Cell, undefined, indirect, value, invalid, cell}
 use Rattle.segment.specs.Machine.{Frame, mapFrames, depthOfFrames, depth}
 use Rattle.segment.specs.View.{framesFrom, words, view}
+use Rattle.segment.proofs.Runs.{downward-length, part-length, depth-map}
 use Rattle.manual.specs.OrTrap.{OrTrap, gives, trap, stopIf}
 use Rattle.manual.specs.Effects.{currentCells, lookFrames, look, indexIn, InFrames}
 use Rattle.manual.specs.Seen.{Variable, at, followed, follow, localAt, globalAt, noOlder, seenOf}
-use Rattle.manual.proofs.Machines.{depth-map, map-current}
+use Rattle.manual.proofs.Machines.{map-current}
 use Rattle.manual.proofs.Cellwise.{index-in, look-here}
 use Rattle.manual.proofs.Tests.{none-holds}
 use Rattle.storage_theorems.proofs.Counts.{order}
@@ -28,7 +29,7 @@ use Rattle.effects.specs.Seen.{read, temporaries, seen}
 use Rattle.effects.specs.Sound.{Chain, bottom, upon, Sound}
 use Rattle.effects.specs.Fits.{Addressable}
 use Rattle.effects.specs.Alike.{seenBy, HasFrame, Resolved}
-use Rattle.effects_theorems.proofs.Frames.{downward-length, part-length, frame, frames-bottom, frames-next, depth-is}
+use Rattle.effects_theorems.proofs.Frames.{frame, frames-bottom, frames-next, depth-is}
 use Rattle.effects_theorems.proofs.Sound.{bounds}
 use Rattle.effects_theorems.proofs.Variables.{variable-owner, look-view, operand-owner, operand-view}
 use Rattle.effects_theorems.proofs.Reading.{read-cell}

@@ -11,11 +11,12 @@ use Rattle.storage.specs.Owned.{CellsKept}
 use Rattle.segment.specs.Machine.{cellsOfFrames, depth, Machine}
 use Rattle.segment.specs.View.{words, owners, view}
 use Rattle.segment.specs.Cells.{Cell}
+use Rattle.segment.proofs.Runs.{downward-length, part-length}
 use Rattle.storage_theorems.proofs.Walks.{over-le}
 use Rattle.storage_theorems.specs.Elsewhere.{Elsewhere}
 use Rattle.effects.specs.Sound.{Sound}
 use Rattle.effects_theorems.specs.Theorems.{StateKept}
-use Rattle.effects_theorems.proofs.Frames.{downward-length, part-length, frames-length, depth-is}
+use Rattle.effects_theorems.proofs.Frames.{frames-length, depth-is}
 
 pub record Bounds (s : List ℕ) : Type 0 where
   pub low : 8 ≤ blockptr s

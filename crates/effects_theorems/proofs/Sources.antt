@@ -12,6 +12,7 @@ use Rattle.storage.specs.Arrays.{placeAt, share}
 use Rattle.storage.specs.Heap.{count}
 use Rattle.storage.specs.Owned.{Owned, OwnedStep}
 use Rattle.segment.specs.View.{owners, view}
+use Rattle.segment.proofs.Runs.{undefined-cell}
 use Rattle.manual.specs.Effects.{Source, variable, operand, word, undefinedValue, reference, made, meant}
 use Rattle.storage_theorems.proofs.Counts.{hit-same}
 use Rattle.storage_theorems.proofs.Steps.{step-none, plain, share-own}
@@ -19,7 +20,7 @@ use Rattle.storage_theorems.proofs.Place.{place-theorem}
 use Rattle.effects.specs.Sources.{heldAt, operandAt, referenceWord, wordOf, placed}
 use Rattle.effects.specs.Sound.{Sound}
 use Rattle.effects.specs.Fits.{Available}
-use Rattle.effects_theorems.proofs.Cells.{scalar-array, scalar-cell, undefined-cell, reference-array, reference-cell}
+use Rattle.effects_theorems.proofs.Cells.{scalar-array, scalar-cell, reference-array, reference-cell}
 use Rattle.effects_theorems.proofs.Sound.{owners-few}
 use Rattle.effects_theorems.proofs.Variables.{variable-owner, look-view, operand-owner, operand-view}
 

@@ -8,13 +8,13 @@ use native.Mathlib.Omega.{arith}
 use lib.ListN.{length}
 use Rattle.descriptor.specs.declared.Target.{Target}
 use Rattle.descriptor.specs.declared.Target.the-variants.{Local, Global}
+use Rattle.descriptor.proofs.Truth.{decide}
 use Rattle.segment.specs.Cells.{Cell, undefined}
 use Rattle.segment.specs.Machine.{Frame, Machine}
 use Rattle.segment.specs.View.{view}
 use Rattle.manual.specs.Effects as manual
 use Rattle.manual.specs.Effects.{Effect, replaces, discards, swaps, stores, storesElement, enters, leaves, jumps, setsOrigin, performOn, InFrames, AddressableIn}
 use Rattle.manual.proofs.Cellwise.{in-put}
-use Rattle.storage_theorems.proofs.Ways.{decide}
 use Rattle.effects.specs.Perform.{perform, performs, isFull, firstFull}
 use Rattle.effects.specs.Sound.{Sound}
 use Rattle.effects.specs.Fits.{Addressable, Fits}

@@ -16,6 +16,7 @@ use Rattle.segment.specs.Cells.{Cell, undefined, cell}
 use Rattle.storage.specs.Heap.{count}
 use Rattle.segment.specs.Machine.{Machine, mapMachine, allCells, depthOfFrames}
 use Rattle.segment.specs.View.{framesFrom, words, owners, view}
+use Rattle.segment.proofs.Runs.{downward-length, part-length, undefined-cell, getD-downward}
 use Rattle.manual.specs.Effects.{indexIn, look, putFrames, put, InFrames, AddressableIn}
 use Rattle.manual.proofs.Cellwise.{index-in, global-in, put-here, put-below, look-put, map-look, in-map}
 use Rattle.storage_theorems.proofs.Counts.{order, hit-same, hit-cases}
@@ -27,8 +28,7 @@ use Rattle.effects.specs.Seen.{temporaries}
 use Rattle.effects.specs.Sound.{Chain, bottom, upon, Sound}
 use Rattle.effects.specs.Fits.{Addressable}
 use Rattle.effects_theorems.proofs.Counts.{cells-count, count-getD, count-put}
-use Rattle.effects_theorems.proofs.Cells.{undefined-cell}
-use Rattle.effects_theorems.proofs.Frames.{downward-length, part-length, frame, frames-bottom, frames-next, frames-same, chain-same, depth-is}
+use Rattle.effects_theorems.proofs.Frames.{frame, frames-bottom, frames-next, frames-same, chain-same, depth-is}
 use Rattle.effects_theorems.proofs.Sound.{bounds}
 
 downward-set : (s : List ℕ) (a n j w : ℕ) → j < n → a + n ≤ length s → downward (set s (a + n - 1 - j) w) a n ≡ set (downward s a n) j w
@@ -48,11 +48,6 @@ pub downward-put : (s : List ℕ) (a n i w : ℕ) → a ≤ i → i < a + n → 
 downward-put s a n i w h k l =
     let q : a + n - 1 - (a + n - 1 - i) ≡ i = omega arith in
     rw q at (downward-set s a n (a + n - 1 - i) w (omega arith) l)
-
-pub getD-downward : (s : List ℕ) (a n i z : ℕ) → i < n → getD (downward s a n) i z ≡ getD s (a + n - 1 - i) 0
-getD-downward s a zero i z h = absurd (omega arith)
-getD-downward s a (suc n) zero z h = let e : a + suc n - 1 - 0 ≡ a + n = omega arith in rw e
-getD-downward s a (suc n) (suc i) z h = let e : a + suc n - 1 - suc i ≡ a + n - 1 - i = omega arith in rw e (getD-downward s a n i z (omega arith))
 
 -- a frame's cell lies under the frame's words
 in-base : {s : List ℕ} {base : ℕ} → Chain s base → (n a : ℕ) → base < n → InFrames a (framesFrom n s base) → a < base

@@ -2,29 +2,23 @@
 -- nothing is put there.
 use Prim.Native.Nat.{ℕ, zero, suc, _+_, _-_, _<_, _≤_}
 use mathlib.Core.Path.{_≡_, refl, _∙_, ap}
-use mathlib.Core.Bool.{Bool, true, false}
+use mathlib.Core.Bool.{true, false}
 use mathlib.Core.List.{List, [], _∷_, map}
 use mathlib.Core.Logic.{_↔_, _≢_, _⊎_, inl, inr, ⊎-elim}
 use native.Mathlib.Omega.{arith}
-use lib.Dec.{leb}
 use lib.ListN.{getD, set, length, length-set, length-map, List·getD-map}
 use lib.Seq.{getD-set-same, set-set}
-use borrow.Author.Tests.{leb-true, leb-false, lt-ltb, le-ltb, le-leb, lt-leb}
+use borrow.Author.Tests.{leb-false, lt-ltb, le-ltb, le-leb, lt-leb}
 use Rattle.descriptor.specs.declared.Target.{Target}
 use Rattle.descriptor.specs.declared.Target.the-variants.{Local, Global}
 use Rattle.descriptor.specs.Kinds.{segment, stack}
+use Rattle.descriptor.proofs.Truth.{by-le}
 use Rattle.segment.specs.Machine.{Frame, Machine, mapFrames, mapMachine, depthOfFrames}
+use Rattle.segment.proofs.Runs.{depth-map}
 use Rattle.manual.specs.Effects.{indexIn, globalIndex, lookFrames, look, putFrames, put, InFrames, AddressableIn}
-use Rattle.manual.proofs.Machines.{map-set, depth-map}
+use Rattle.manual.proofs.Machines.{map-set}
 
 -- ---- where a cell stands
-
-order : (x y : ℕ) → (x ≤ y) ⊎ (y < x)
-order x y = go (leb x y) refl
-  where
-    go : (b : Bool) → leb x y ≡ b → (x ≤ y) ⊎ (y < x)
-    go true e = inl (leb-true _ _ e)
-    go false e = inr (leb-false _ _ e)
 
 module _ {A : Type 0} (cells : List A) (l : List (Frame A)) (a : ℕ) where
   pub index-in : a < depthOfFrames l + length cells → indexIn cells l a ≡ depthOfFrames l + length cells - 1 - a
@@ -50,21 +44,15 @@ global-same x y g n = rw n
 -- Two addresses of one cell: it is none.
 index-apart : {A : Type 0} (cells : List A) (l : List (Frame A)) (a b : ℕ) → b ≢ a → indexIn cells l b ≡ indexIn cells l a
     → length cells ≤ indexIn cells l b
-index-apart cells l a b n e = go (order (depthOfFrames l + length cells) a) (order (depthOfFrames l + length cells) b)
-  where
-    go : (depthOfFrames l + length cells ≤ a) ⊎ (a < depthOfFrames l + length cells)
-        → (depthOfFrames l + length cells ≤ b) ⊎ (b < depthOfFrames l + length cells) → length cells ≤ indexIn cells l b
-    go p (inl q) = rw (index-off cells l b q) (omega arith)
-    go (inl p) (inr q) = rw (e, index-off cells l a p) (omega arith)
-    go (inr p) (inr q) = absurd (omega (arith, n, e ∙ index-in cells l a p, index-in cells l b q))
+index-apart cells l a b n e =
+    by-le (depthOfFrames l + length cells) b (λ q. rw (index-off cells l b q) (omega arith))
+    (λ q. by-le (depthOfFrames l + length cells) a (λ p. rw (e, index-off cells l a p) (omega arith))
+    (λ p. absurd (omega (arith, n, e ∙ index-in cells l a p, index-in cells l b q))))
 
 global-apart : {A : Type 0} (l : List A) (g h : ℕ) → h ≢ g → globalIndex l h ≡ globalIndex l g → length l ≤ globalIndex l h
-global-apart l g h n e = go (order 8 g) (order 8 h)
-  where
-    go : (8 ≤ g) ⊎ (g < 8) → (8 ≤ h) ⊎ (h < 8) → length l ≤ globalIndex l h
-    go p (inr q) = rw (global-off l h q) (omega arith)
-    go (inr p) (inl q) = rw (e, global-off l g p) (omega arith)
-    go (inl p) (inl q) = absurd (omega (arith, n, e ∙ global-in l g p, global-in l h q))
+global-apart l g h n e =
+    by-le 8 h (λ q. by-le 8 g (λ p. absurd (omega (arith, n, e ∙ global-in l g p, global-in l h q))) (λ p. rw (e, global-off l g p) (omega arith)))
+    (λ q. rw (global-off l h q) (omega arith))
 
 -- A cell is as before where another is written, or where there is none.
 getD-set : {A : Type 0} (l : List A) (i j : ℕ) (c none : A) → (i ≡ j → length l ≤ i) → getD (set l j c) i none ≡ getD l i none
@@ -110,7 +98,7 @@ module _ {A B : Type 0} (f : A → B) where
   map-putFrames : (a : ℕ) (c : A) (l : List (Frame A)) → mapFrames f (putFrames a c l) ≡ putFrames a (f c) (mapFrames f l)
   map-putFrames a c [] = refl
   map-putFrames a c (r ∷ l) =
-      ⊎-elim
+      by-le (depthOfFrames l) a
       (λ (h : depthOfFrames l ≤ a).
       rw (
         put-here a c r l h,
@@ -120,7 +108,6 @@ module _ {A B : Type 0} (f : A → B) where
       ))
       (λ (h : a < depthOfFrames l).
       rw (put-below a c r l h, put-below a (f c) (written r (map f (r .cells))) (mapFrames f l) (omega (arith, depth-map f l)), map-putFrames a c l))
-      (order (depthOfFrames l) a)
 
   pub put-map : (t : Target) (c : A) (m : Machine A) → mapMachine f (put t c m) ≡ put t (f c) (mapMachine f m)
   put-map (Global g) c m =
@@ -130,7 +117,7 @@ module _ {A B : Type 0} (f : A → B) where
   map-lookFrames : (none : A) (a : ℕ) (l : List (Frame A)) → lookFrames (f none) a (mapFrames f l) ≡ f (lookFrames none a l)
   map-lookFrames none a [] = refl
   map-lookFrames none a (r ∷ l) =
-      ⊎-elim
+      by-le (depthOfFrames l) a
       (λ (h : depthOfFrames l ≤ a).
       rw (
         look-here a none r l h,
@@ -141,7 +128,6 @@ module _ {A B : Type 0} (f : A → B) where
       (λ (h : a < depthOfFrames l).
       rw (look-below a none r l h, look-below a (f none) (written r (map f (r .cells))) (mapFrames f l) (omega (arith, depth-map f l)))
       (map-lookFrames none a l))
-      (order (depthOfFrames l) a)
 
   pub map-look : (none : A) (t : Target) (m : Machine A) → look (f none) t (mapMachine f m) ≡ f (look none t m)
   map-look none (Global g) m =
@@ -155,9 +141,8 @@ module _ {A : Type 0} where
   depth-put : (a : ℕ) (c : A) (l : List (Frame A)) → depthOfFrames (putFrames a c l) ≡ depthOfFrames l
   depth-put a c [] = refl
   depth-put a c (r ∷ l) =
-      ⊎-elim (λ (h : depthOfFrames l ≤ a). rw (put-here a c r l h) (omega (arith, length-set (r .cells) (indexIn (r .cells) l a) c)))
+      by-le (depthOfFrames l) a (λ (h : depthOfFrames l ≤ a). rw (put-here a c r l h) (omega (arith, length-set (r .cells) (indexIn (r .cells) l a) c)))
       (λ (h : a < depthOfFrames l). rw (put-below a c r l h) (omega (arith, depth-put a c l)))
-      (order (depthOfFrames l) a)
 
   -- the first frame's cells with one written
   abbrev after : ℕ → A → Frame A → List (Frame A) → Frame A
@@ -172,11 +157,10 @@ module _ {A : Type 0} where
   twice-frames : (a : ℕ) (b c : A) (l : List (Frame A)) → putFrames a c (putFrames a b l) ≡ putFrames a c l
   twice-frames a b c [] = refl
   twice-frames a b c (r ∷ l) =
-      ⊎-elim
+      by-le (depthOfFrames l) a
       (λ (h : depthOfFrames l ≤ a). rw (put-here a b r l h, put-here a c (after a b r l) l h, index-after a a b r l, set-set, put-here a c r l h))
       (λ (h : a < depthOfFrames l).
       rw (put-below a b r l h, put-below a c r (putFrames a b l) (omega (arith, depth-put a b l)), twice-frames a b c l, put-below a c r l h))
-      (order (depthOfFrames l) a)
 
   pub put-twice : (t : Target) (b c : A) (m : Machine A) → put t c (put t b m) ≡ put t c m
   put-twice (Global g) b c m = rw (global-after (g .0) (g .0) b (m .globals), set-set)
@@ -203,23 +187,19 @@ module _ {A : Type 0} where
     -- another is looked at as before
     other-putFrames : (a b : ℕ) (l : List (Frame A)) → b ≢ a → lookFrames none b (putFrames a c l) ≡ lookFrames none b l
     other-putFrames a b [] n = refl
-    other-putFrames a b (r ∷ l) n = go (other-putFrames a b l n) (order (depthOfFrames l) a) (order (depthOfFrames l) b)
-      where
-        go : lookFrames none b (putFrames a c l) ≡ lookFrames none b l → (depthOfFrames l ≤ a) ⊎ (a < depthOfFrames l)
-            → (depthOfFrames l ≤ b) ⊎ (b < depthOfFrames l) → lookFrames none b (putFrames a c (r ∷ l)) ≡ lookFrames none b (r ∷ l)
-        go more (inl p) (inl q) =
-            rw (put-here a c r l p, look-here b none (after a c r l) l q, index-after a b c r l, look-here b none r l q)
-            (getD-set (r .cells) (indexIn (r .cells) l b) (indexIn (r .cells) l a) c none (index-apart (r .cells) l a b n))
-        go more (inl p) (inr q) = rw (put-here a c r l p, look-below b none (after a c r l) l q, look-below b none r l q)
-        go more (inr p) (inl q) =
-            rw (
-              put-below a c r l p,
-              look-here b none r (putFrames a c l) (omega (arith, depth-put a c l)),
-              look-here b none r l q,
-              index-same (r .cells) (r .cells) l (putFrames a c l) b refl (depth-put a c l),
-            )
-        go more (inr p) (inr q) =
-            rw (put-below a c r l p, look-below b none r (putFrames a c l) (omega (arith, depth-put a c l)), look-below b none r l q, more)
+    other-putFrames a b (r ∷ l) n =
+        let d = depth-put a c l in
+        by-le (depthOfFrames l) a
+        (λ (p : depthOfFrames l ≤ a).
+        by-le (depthOfFrames l) b
+        (λ q. rw (put-here a c r l p, look-here b none (after a c r l) l q, index-after a b c r l, look-here b none r l q)
+        (getD-set (r .cells) (indexIn (r .cells) l b) (indexIn (r .cells) l a) c none (index-apart (r .cells) l a b n)))
+        (λ q. rw (put-here a c r l p, look-below b none (after a c r l) l q, look-below b none r l q)))
+        (λ (p : a < depthOfFrames l).
+        by-le (depthOfFrames l) b
+        (λ q. rw (put-below a c r l p, look-here b none r (putFrames a c l) (omega arith), look-here b none r l q,
+          index-same (r .cells) (r .cells) l (putFrames a c l) b refl d))
+        (λ q. rw (put-below a c r l p, look-below b none r (putFrames a c l) (omega arith), look-below b none r l q, other-putFrames a b l n)))
 
     pub look-other : (t u : Target) (m : Machine A) → u ≢ t → look none u (put t c m) ≡ look none u m
     look-other (Global g) (Global h) m n =
@@ -244,10 +224,9 @@ in-same a r q l k n d more = (
 in-putFrames : {A : Type 0} (c : A) (a b : ℕ) (l : List (Frame A)) → InFrames b l ↔ InFrames b (putFrames a c l)
 in-putFrames c a b [] = (λ h. h, λ h. h)
 in-putFrames c a b (r ∷ l) =
-    ⊎-elim
+    by-le (depthOfFrames l) a
     (λ (p : depthOfFrames l ≤ a). rw (put-here a c r l p) (in-same b r (after a c r l) l l (length-set (r .cells) (indexIn (r .cells) l a) c) refl (λ h. h, λ h. h)))
     (λ (p : a < depthOfFrames l). rw (put-below a c r l p) (in-same b r r l (putFrames a c l) refl (depth-put a c l) (in-putFrames c a b l)))
-    (order (depthOfFrames l) a)
 
 pub in-put : {A : Type 0} (c : A) (t u : Target) (m : Machine A) → AddressableIn u m ↔ AddressableIn u (put t c m)
 in-put c (Global g) (Global h) m = rw (length-set (m .globals) (globalIndex (m .globals) (g .0)) c) (λ k. k, λ k. k)

@@ -2,9 +2,8 @@
 use Prim.Native.Nat.{ℕ, zero, suc}
 use mathlib.Core.Path.{_≡_, refl, ap}
 use mathlib.Core.List.{List, [], _∷_, _++_, map}
-use native.Mathlib.Omega.{arith}
 use lib.ListN.{set, length, drop, replicate, length-map}
-use Rattle.segment.specs.Machine.{Frame, mapFrames, cellsOfFrames, depthOfFrames}
+use Rattle.segment.specs.Machine.{Frame, mapFrames, cellsOfFrames}
 use Rattle.manual.specs.Effects.{swapped, currentCells, older, jumpFrames}
 
 module _ {A B : Type 0} (f : A → B) where
@@ -47,10 +46,6 @@ module _ {A B : Type 0} (f : A → B) where
   pub map-older : (l : List (Frame A)) → mapFrames f (older l) ≡ older (mapFrames f l)
   map-older [] = refl
   map-older (r ∷ l) = refl
-
-  pub depth-map : (l : List (Frame A)) → depthOfFrames (mapFrames f l) ≡ depthOfFrames l
-  depth-map [] = refl
-  depth-map (r ∷ l) = omega (arith, length-map (r .cells) f, depth-map l)
 
 pub jump-cells : {A : Type 0} (place : ℕ) (l : List (Frame A)) → cellsOfFrames (jumpFrames place l) ≡ cellsOfFrames l
 jump-cells place [] = refl

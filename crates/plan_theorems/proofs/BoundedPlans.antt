@@ -4,6 +4,7 @@ use mathlib.Core.Bool.{Bool, true, false, cond}
 use mathlib.Core.List.{List}
 use native.Mathlib.Omega.{arith}
 use lib.Dec.{eqb}
+use Rattle.descriptor.proofs.Truth.{bit-below}
 use Rattle.instruction.specs.declared.Instruction.{Instruction}
 use Rattle.instruction.specs.declared.Decoded.{Decoded}
 use Rattle.instruction.specs.declared.Decoded.the-variants as D
@@ -24,7 +25,7 @@ use Rattle.plan_theorems.proofs.Lists.{all-map}
 use Rattle.plan_theorems.proofs.Values.{ValueFits}
 use Rattle.plan_theorems.proofs.Cells.{word-valid}
 use Rattle.plan_theorems.proofs.Sees.{Sees}
-use Rattle.plan_theorems.proofs.Pushed.{bit-below, valid-truth, valid-short}
+use Rattle.plan_theorems.proofs.Pushed.{valid-truth, valid-short}
 use Rattle.plan_theorems.proofs.Results.{result-fits}
 use Rattle.plan_theorems.specs.Lent.{Bytes}
 use Rattle.plan_theorems.specs.Bounded.{SmallSource, AllSmall}

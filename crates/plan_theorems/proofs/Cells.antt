@@ -15,6 +15,7 @@ use Rattle.descriptor.specs.Kinds.{segment, kindOf, scalarKind, isScalar}
 use Rattle.descriptor.proofs.Arrays.{IfArray, array-kind, kind-array}
 use Rattle.segment.specs.Blocks.{sizeAt, rankAt, part, product, shapeAt, elementsAt}
 use Rattle.segment.specs.Cells.{Cell, undefined, indirect, value, invalid, cell, cellOfKind}
+use Rattle.segment.proofs.Runs.{part-length}
 use Rattle.storage.specs.Heap.{count}
 use Rattle.storage.specs.Owned.{Owned, Inside}
 use Rattle.manual.specs.Values as values
@@ -23,7 +24,6 @@ use Rattle.manual.proofs.Tests.{both-hold}
 use Rattle.storage_theorems.proofs.Cells.{array-of}
 use Rattle.effects.specs.Seen.{whole, readKind, read}
 use Rattle.scalar_theorems.specs.Validity.{Valid}
-use Rattle.effects_theorems.proofs.Frames.{part-length}
 use Rattle.plan_theorems.specs.Fitting.{Words}
 use Rattle.plan_theorems.proofs.Given.{Given}
 use Rattle.plan_theorems.proofs.Lists.{All, all-count, count-all, all-getD}

@@ -13,13 +13,14 @@ use Rattle.segment.specs.Stack.{lastLbaseAt, codeWordAt}
 use Rattle.segment.specs.Cells.{cell}
 use Rattle.segment.specs.Machine.{Frame, mapFrames}
 use Rattle.segment.specs.View.{framesFrom, words, view}
+use Rattle.segment.proofs.Runs.{downward-length}
 use Rattle.manual.specs.Effects.{Effect, jumps, currentCells}
 use Rattle.manual.specs.Seen.{noOlder}
 use Rattle.effects.specs.Perform.{perform, wanted}
 use Rattle.effects.specs.Seen.{temporaries}
 use Rattle.effects.specs.Sound.{Chain, bottom, upon, Sound}
 use Rattle.effects.specs.Fits.{Addressable, CanReplace, CanLeave, Fits}
-use Rattle.effects_theorems.proofs.Frames.{downward-length, frames-bottom, frames-next}
+use Rattle.effects_theorems.proofs.Frames.{frames-bottom, frames-next}
 use Rattle.effects_theorems.proofs.Sound.{bounds}
 use Rattle.effects_theorems.proofs.Variables.{variable-place}
 use Rattle.plan_theorems.specs.Fitting.{Fitting}

@@ -1,6 +1,6 @@
 -- What the instructions that push give can be had.
-use Prim.Native.Nat.{ℕ, suc, _+_, _%_, _^_, _<_, _≤_}
-use mathlib.Core.Path.{_≡_, ap}
+use Prim.Native.Nat.{ℕ, _+_, _%_, _^_, _<_, _≤_}
+use mathlib.Core.Path.{_≡_}
 use mathlib.Core.Bool.{Bool, true, false, cond, not}
 use mathlib.Core.List.{List, [], _∷_}
 use native.Mathlib.Omega.{arith}
@@ -8,6 +8,7 @@ use lib.ListN.{length}
 use borrow.Author.Tests.{not-false}
 use Rattle.descriptor.specs.Fields.{integerWord}
 use Rattle.descriptor.specs.Kinds.{bit, isScalar}
+use Rattle.descriptor.proofs.Truth.{bit-below}
 use Rattle.storage.specs.Owned.{Proper}
 use Rattle.procedure.specs.Headers.{codeOf}
 use Rattle.instruction.specs.declared.Instruction.{Instruction}
@@ -29,10 +30,6 @@ use Rattle.plan_theorems.proofs.Sees.{Sees, resolved}
 use Rattle.plan_theorems.proofs.Fitting.{target-fits}
 
 -- ---- words
-
-pub bit-below : (b : Bool) → bit b < 2
-bit-below true = omega arith
-bit-below false = omega arith
 
 pub valid-truth : (b : Bool) → Valid (cond b 0 1)
 valid-truth true = valid-length 0 (omega arith)

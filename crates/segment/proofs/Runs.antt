@@ -34,6 +34,6 @@ pub undefined-cell : (s : List ℕ) → cell s undefinedWord ≡ undefined
 unfolding cell
 undefined-cell s = rw (inverse .readBack K.Undefined tt)
 
-pub depth-map : {A : Type 0} (f : ℕ → A) (l : List (Frame ℕ)) → depthOfFrames (mapFrames f l) ≡ depthOfFrames l
+pub depth-map : {A B : Type 0} (f : A → B) (l : List (Frame A)) → depthOfFrames (mapFrames f l) ≡ depthOfFrames l
 depth-map f [] = refl
 depth-map f (r ∷ l) = omega (arith, length-map (r .cells) f, depth-map f l)
