@@ -36,7 +36,7 @@ taken-away before after l g = λ i. λ x. each x i
     each : (x : ℕ) → inTable after x ≡ lacking before l x
     each x = omega (arith, g .sum x)
 
--- A run of cells that the code lends is a part of the segment, and its test that of the part's wordsWhere.
+-- A run of cells that the code lends is a part of the segment, and its test that of the part's words.
 pub lent : (s : List ℕ) (from to at n : ℕ) → from ≡ at → to ≡ at + n → to ≤ length s → take (to - from) (drop from s) ≡ part s at n
 lent s from to at n e k l = rw (e, k, add-sub-cancel-left) (sym (part-take n s at (omega arith)))
 

@@ -1,4 +1,4 @@
--- Where the wordsWhere of a run stand: tests of wordsWhere, cells from the highest down, and addresses of a range, each by position.
+-- Where the words of a run stand: tests of words, cells from the highest down, and addresses of a range, each by position.
 use Prim.Native.Nat.{ℕ, zero, suc, _+_, _<_, _≤_}
 use mathlib.Core.Path.{_≡_, refl, sym}
 use mathlib.Core.Bool.{Bool, true}

@@ -1,4 +1,4 @@
--- Test 17, a cell's kind or target: "Indirect wordsWhere stand only in arguments (target a global or a variable of an older frame)
+-- Test 17, a cell's kind or target: "Indirect words stand only in arguments (target a global or a variable of an older frame)
 -- and temporaries (own frame too), and never target a cell holding another. Undefined may stand in any cell.", with decision 9
 -- of docs/DECISIONS.md. Assumes nothing.
 use Prim.Native.Nat.{ℕ, zero, suc, _+_, _-_, _/_, _%_, _^_}

@@ -14,7 +14,7 @@ use Rattle.acceptance_storage.specs.Tests.{_and_, every, wordsWhere}
 
 -- ---- the walk
 
--- The wordsWhere that a proper free block at `a` covers, where `before` says that the block before it is free; 0 of any other.
+-- The words that a proper free block at `a` covers, where `before` says that the block before it is free; 0 of any other.
 -- Word 0 is bit 31 and SIZE of at least 3, the last word is SIZE.
 unfoldable pub freeSpan : List ℕ → ℕ → Bool → ℕ
 freeSpan s a before =

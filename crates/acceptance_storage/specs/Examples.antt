@@ -12,7 +12,7 @@ use Rattle.acceptance_storage.specs.Blocks.{freeSpan, arraySpan, blockSp
 use Rattle.acceptance_storage.specs.Ring.{linked, roundFrom, ringTest}
 use Rattle.acceptance_storage.specs.Room.{longEnough}
 
--- No globals; a free block of 5 wordsWhere at 8; at 13 the array 7 1.0 with one word of slop; the dummy at 19; the stack from 22.
+-- No globals; a free block of 5 words at 8; at 13 the array 7 1.0 with one word of slop; the dummy at 19; the stack from 22.
 abbrev pub small : List ℕ
 small =
     0x00160001 ∷ 0x00000013 ∷ 0 ∷ 0 ∷ 8 ∷ 0 ∷ 0 ∷ 0
@@ -27,7 +27,7 @@ pub record Examples : Type 0 where
   pub ring : ringTest small ≡ true
   pub free : freeStarts small ≡ 8 ∷ []
   pub arrays : arrayStarts small ≡ 13 ∷ []
-  -- a request of 5 wordsWhere can be served, of 6 not
+  -- a request of 5 words can be served, of 6 not
   pub enough : longEnough small 5 ≡ true
   pub short : longEnough small 6 ≡ false
   -- a flag that has no name, BLOCKPTR below 8, LTOP past the end

@@ -14,7 +14,7 @@ abbrev pub every : (ℕ → Bool) → List ℕ → Bool
 every test [] = true
 every test (x ∷ l) = cond (test x) (every test l) false
 
--- A test of each of the `n` wordsWhere from `i` on.
+-- A test of each of the `n` words from `i` on.
 unfoldable pub wordsWhere : ℕ → (ℕ → Bool) → List ℕ → ℕ → Bool
 wordsWhere zero test s i = true
 wordsWhere (suc n) test s i = let others = wordsWhere n test s (i + 1) in cond (test (getD s i 0)) others false

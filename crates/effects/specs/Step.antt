@@ -1,5 +1,5 @@
 -- A step on words: fetch, plan, do, and then the step and trace traps. Document 01, "Meanings fixed here": fetch traps first;
--- (1,2) last; "(2,1) and (2,2) come stepResult a finished, counted instruction; both due: (2,2). Call trace goes by FCNCTRC and the
+-- (1,2) last; "(2,1) and (2,2) come after a finished, counted instruction; both due: (2,2). Call trace goes by FCNCTRC and the
 -- called header, return trace by FCNRTRC"; decision 16 for (2,3). Assumes nothing.
 use Prim.Native.Nat.{ℕ, _%_, _^_}
 use mathlib.Core.Bool.{Bool, true, false, cond, _&&_}
@@ -19,7 +19,7 @@ use Rattle.effects.specs.Carried.{Carried, carry}
 use Rattle.effects.specs.declared.Stepped.{Stepped}
 use Rattle.effects.specs.declared.Stepped.the-variants.{Finished, Traced, Trapped}
 
--- What a step answers, and the segment stepResult it.
+-- What a step answers, and the segment after it.
 pub record StepResult : Type 0 where
   pub answer : Stepped
   pub words : List ℕ
@@ -39,7 +39,7 @@ numberOf s = functionNumber (codeWordAt s (lbase s))
 unfoldable pub currentHeader : List ℕ → List ℕ → List ℕ → Header
 currentHeader regular other s = headerOfFunction (selected (selectorOf s) regular other) (numberOf s)
 
--- ---- what is due stepResult a finished instruction
+-- ---- what is due after a finished instruction
 
 -- The number of the class 2 trap, 0 for none: a trace, where its flag and the header's bit are set, or else the step trap.
 abbrev pub dueIf : Bool → ℕ → List ℕ → ℕ
@@ -58,7 +58,7 @@ due regular other rtntrace (O.Trapped class number) s = 0
 abbrev pub trapped : List ℕ → ℕ → ℕ → StepResult
 trapped s class number = stepResult (Trapped class number) (setTrap s (class % 2 ^ 8) (number % 2 ^ 8))
 
--- It is done and counted; what is due comes stepResult.
+-- It is done and counted; what is due comes after.
 abbrev pub finished : ℕ → List ℕ → StepResult
 finished due s = cond (eqb due 0) (stepResult Finished s) (stepResult (Traced 2 due) (setTrap s 2 due))
 

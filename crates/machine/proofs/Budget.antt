@@ -1,4 +1,4 @@
--- What is left of a run, before and stepResult one step or one stretch of it.
+-- What is left of a run, before and after one step or one stretch of it.
 use Prim.Native.Nat.{ℕ, suc, _+_, _-_, _/_, _%_, _^_, _<_, _≤_}
 use native.Mathlib.Omega.{arith}
 use mathlib.Core.Path.{_≡_, refl}

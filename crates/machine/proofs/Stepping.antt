@@ -66,7 +66,7 @@ module _ (s : List ℕ) where
     unfolding stepIn
     step-done done = ap (settle (f .regular) (f .alternate) (headerOf f .rtntrace)) (rw counted at done)
 
-    -- stepResult what has changed no word
+    -- after what has changed no word
     pub step-kept : (u : List ℕ) {r : Outcome} {t : List ℕ} → u ≡ s → CarriesOut u r t (λ sees. planAt f sees place) → settled (f .regular) (f .alternate) (headerOf f .rtntrace) r t ≡ stepIn f s
     step-kept u kept done = step-done (rw kept at done)
 

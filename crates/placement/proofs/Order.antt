@@ -30,7 +30,7 @@ use Rattle.effects_theorems.proofs.Discard.{discard-own, discard-above}
 use Rattle.effects_theorems.proofs.Leave.{leave-cells, leave-own, leave-above, without-first, with-put, with-shown}
 use Rattle.placement.specs.Placement.{dropEach, operandsFrom, resultOf, replacedInOrder, storedInOrder, elementStoredInOrder, discardedInOrder, leftInOrder, leftWithoutInOrder}
 
--- a dropWord leaves the stack as it is
+-- a drop leaves the stack as it is
 pub drops-each : (n : ℕ) {s : List ℕ} (ws : List ℕ) (a : ℕ) → Owned s (downward s a n ++ ws) → sbase s ≤ a → dropWords n s a ≡ dropEach s (downward s a n)
 drops-each zero ws a o l = refl
 drops-each (suc n) {s} ws a o l =

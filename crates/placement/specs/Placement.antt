@@ -173,7 +173,7 @@ pub record Placement : Type 0 where
       → (members : List ℕ) → RingFrom s (dummy s) (dummy s ∷ members) → Released s blocks x members
   -- Cells of the stack are dropped from the highest down, each by the word that stood in it before any was dropped.
   pub downwards : (s owners : List ℕ) (n a : ℕ) → Owned s (downward s a n ++ owners) → sbase s ≤ a → dropWords n s a ≡ dropEach s (downward s a n)
-  -- So an effect places or shares its result, and then dropWords.
+  -- So an effect places or shares its result, and then drops.
   pub replaced : (s : List ℕ) → Sound s → (n : ℕ) (source : Source) → Fits s (replaces n source) → isFull s (replaces n source) ≡ false
       → perform s (replaces n source) ≡ replacedInOrder s n source
   pub stored : (s : List ℕ) (t : Target) (source : Source) → perform s (stores t source) ≡ storedInOrder s t source

@@ -1,4 +1,4 @@
--- What comes stepResult an instruction that is done: a step or trace trap, or none.
+-- What comes after an instruction that is done: a step or trace trap, or none.
 use Prim.Native.Nat.{ℕ, _^_, _<_, _≤_}
 use mathlib.Core.Path.{_≡_, refl}
 use mathlib.Core.Bool.{Bool, true, false}
