@@ -25,10 +25,10 @@ pub fn first_value(seg: &[u32], n: u32) -> First
     if count(seg) < n {
         return First::Trap(3, 4);
     }
-    match value_of(seg, operand_at(seg, 0)) {
-        Operand::Value(v) => First::Value(v),
-        Operand::Other => First::Trap(3, 5),
-    }
+    let Operand::Value(v) = value_of(seg, operand_at(seg, 0)) else {
+        return First::Trap(3, 5);
+    };
+    First::Value(v)
 }
 
 // Both of two operands.
@@ -37,9 +37,11 @@ pub fn both_values(seg: &[u32]) -> Both
 {
     match first_value(seg, 2) {
         First::Trap(class, number) => Both::Trap(class, number),
-        First::Value(a) => match value_of(seg, operand_at(seg, 1)) {
-            Operand::Value(b) => Both::Values(a, b),
-            Operand::Other => Both::Trap(3, 5),
-        },
+        First::Value(a) => {
+            let Operand::Value(b) = value_of(seg, operand_at(seg, 1)) else {
+                return Both::Trap(3, 5);
+            };
+            Both::Values(a, b)
+        }
     }
 }

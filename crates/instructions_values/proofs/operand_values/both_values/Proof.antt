@@ -4,13 +4,13 @@ use Rattle.instructions_values.proofs.operand_values.both_values.Statem
 use Rattle.instructions_values.proofs.operand_values.both_values.Tie as tie
 
 returns : tie.Need-returns
-returns c = both-stopped (c .before .before .before .first-value .ensures) (c .before .class .given .1)
+returns c = both-other (c .before .before .before .before .before .before .before .first-value .ensures) (c .before .before .before .before .before .a .given .1) (cc)
 
 returns-2 : tie.Need-returns-2
-returns-2 c = both-found (c .before .before .before .before .before .before .before .before .first-value .ensures) (c .before .before .before .before .before .before .a .given .1) (cc)
+returns-2 c = both-stopped (c .before .before .before .first-value .ensures) (c .before .class .given .1)
 
 returns-3 : tie.Need-returns-3
-returns-3 c = both-other (c .before .before .before .before .before .before .before .first-value .ensures) (c .before .before .before .before .before .a .given .1) (cc)
+returns-3 c = both-found (c .before .before .before .before .before .before .before .before .first-value .ensures) (c .before .before .before .before .before .before .a .given .1) (cc)
 
 pub both-values-spec : {M : Type 1} → statement M
 both-values-spec =

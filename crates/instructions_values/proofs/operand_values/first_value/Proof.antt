@@ -8,10 +8,10 @@ returns : tie.Need-returns
 returns c = first-missing _ _ (omega arith)
 
 returns-2 : tie.Need-returns-2
-returns-2 c = first-found _ _ (c .before .before .before .before .before .before .before .before .pre) (omega arith) _ (cc)
+returns-2 c = first-other _ _ (c .before .before .before .before .before .before .before .pre) (omega arith) (cc)
 
 returns-3 : tie.Need-returns-3
-returns-3 c = first-other _ _ (c .before .before .before .before .before .before .before .pre) (omega arith) (cc)
+returns-3 c = first-found _ _ (c .before .before .before .before .before .before .before .before .pre) (omega arith) _ (cc)
 
 pub first-value-spec : {M : Type 1} → statement M
 first-value-spec =
