@@ -197,8 +197,12 @@ module _ {A : Type 0} where
         (λ q. rw (put-here a c r l p, look-below b none (after a c r l) l q, look-below b none r l q)))
         (λ (p : a < depthOfFrames l).
         by-le (depthOfFrames l) b
-        (λ q. rw (put-below a c r l p, look-here b none r (putFrames a c l) (omega arith), look-here b none r l q,
-          index-same (r .cells) (r .cells) l (putFrames a c l) b refl d))
+        (λ q. rw (
+          put-below a c r l p,
+          look-here b none r (putFrames a c l) (omega arith),
+          look-here b none r l q,
+          index-same (r .cells) (r .cells) l (putFrames a c l) b refl d,
+        ))
         (λ q. rw (put-below a c r l p, look-below b none r (putFrames a c l) (omega arith), look-below b none r l q, other-putFrames a b l n)))
 
     pub look-other : (t u : Target) (m : Machine A) → u ≢ t → look none u (put t c m) ≡ look none u m
