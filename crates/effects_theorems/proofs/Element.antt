@@ -37,8 +37,8 @@ use Rattle.effects.specs.Perform.{replace, storeAt, unshare, writeElement, stor
 use Rattle.effects.specs.Sound.{Sound}
 use Rattle.effects.specs.Fits.{Addressable, CanReplace}
 use Rattle.effects_theorems.proofs.StateWords.{state-none, state-on, state-step}
-use Rattle.effects_theorems.proofs.Counts.{machine-agree, count-put}
-use Rattle.effects_theorems.proofs.Frames.{chain-same, words-kept}
+use Rattle.frame_theorems.proofs.Counts.{machine-agree, count-put}
+use Rattle.frame_theorems.proofs.Frames.{chain-same, words-kept}
 use Rattle.effects_theorems.proofs.Sound.{Bounds, bounds, Regs, kept-regs, Done, InPlace}
 use Rattle.effects_theorems.proofs.Variables.{same-put, variable-owner, in-view}
 use Rattle.effects_theorems.proofs.Sources.{Put, put-source}

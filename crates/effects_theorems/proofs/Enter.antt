@@ -28,8 +28,8 @@ use Rattle.storage_theorems.proofs.Elsewhere.{own-elsewhere, cell-elsewhere}
 use Rattle.effects.specs.Perform.{enter}
 use Rattle.effects.specs.Sound.{Chain, upon, Sound}
 use Rattle.effects_theorems.specs.Theorems.{StateKept}
-use Rattle.effects_theorems.proofs.Counts.{machine-agree, cells-count}
-use Rattle.effects_theorems.proofs.Frames.{frames-next, frames-fuel, frames-same, chain-same}
+use Rattle.frame_theorems.proofs.Counts.{machine-agree, cells-count}
+use Rattle.frame_theorems.proofs.Frames.{frames-next, frames-fuel, frames-same, chain-same}
 use Rattle.effects_theorems.proofs.Sound.{Bounds, bounds, Done}
 
 -- a run of equal words, and two words after it

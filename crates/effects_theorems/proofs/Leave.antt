@@ -31,8 +31,8 @@ use Rattle.effects.specs.Sound.{Chain, bottom, upon, Sound}
 use Rattle.effects.specs.Fits.{CanLeave}
 use Rattle.effects_theorems.specs.Theorems.{StateKept}
 use Rattle.effects_theorems.proofs.StateWords.{state-on, state-step}
-use Rattle.effects_theorems.proofs.Counts.{machine-agree, cells-count, count-getD, current-count}
-use Rattle.effects_theorems.proofs.Frames.{drop-downward, frame, frames-next, frames-fuel, frames-same, chain-same, words-kept}
+use Rattle.frame_theorems.proofs.Counts.{machine-agree, cells-count, count-getD, current-count}
+use Rattle.frame_theorems.proofs.Frames.{drop-downward, frame, frames-next, frames-fuel, frames-same, chain-same, words-kept}
 use Rattle.effects_theorems.proofs.Sound.{Bounds, bounds, owners-few, Regs, kept-regs, Done}
 use Rattle.effects_theorems.proofs.Sources.{Put, put-shared}
 

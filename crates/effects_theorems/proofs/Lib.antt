@@ -1,9 +1,7 @@
 -- The laws of effects on words, and the theorems of specs/.
 pub mod Tests
 pub mod StateWords
-pub mod Counts
 pub mod Cells
-pub mod Frames
 pub mod Sound
 pub mod Variables
 pub mod Sources

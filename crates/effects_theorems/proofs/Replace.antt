@@ -28,8 +28,8 @@ use Rattle.effects.specs.Sound.{Sound}
 use Rattle.effects.specs.Fits.{CanReplace}
 use Rattle.effects_theorems.specs.Theorems.{StateKept}
 use Rattle.effects_theorems.proofs.StateWords.{state-on, state-step, state-set, state-top}
-use Rattle.effects_theorems.proofs.Counts.{machine-agree, cells-count}
-use Rattle.effects_theorems.proofs.Frames.{drop-downward, chain-same, words-kept, words-left}
+use Rattle.frame_theorems.proofs.Counts.{machine-agree, cells-count}
+use Rattle.frame_theorems.proofs.Frames.{drop-downward, chain-same, words-kept, words-left}
 use Rattle.effects_theorems.proofs.Sound.{Bounds, bounds, Regs, kept-regs, Done}
 use Rattle.effects_theorems.proofs.Sources.{Put}
 

@@ -29,7 +29,7 @@ use Rattle.effects.specs.Seen.{read, temporaries, seen}
 use Rattle.effects.specs.Sound.{Chain, bottom, upon, Sound}
 use Rattle.effects.specs.Fits.{Addressable}
 use Rattle.effects.specs.Alike.{seenBy, HasFrame, Resolved}
-use Rattle.effects_theorems.proofs.Frames.{frame, frames-bottom, frames-next, depth-is}
+use Rattle.frame_theorems.proofs.Frames.{frame, frames-bottom, frames-next, depth-is}
 use Rattle.effects_theorems.proofs.Sound.{bounds}
 use Rattle.effects_theorems.proofs.Variables.{variable-owner, look-view, operand-owner, operand-view}
 use Rattle.effects_theorems.proofs.Reading.{read-cell}

@@ -16,7 +16,7 @@ use Rattle.storage_theorems.proofs.Walks.{over-le}
 use Rattle.storage_theorems.specs.Elsewhere.{Elsewhere}
 use Rattle.effects.specs.Sound.{Sound}
 use Rattle.effects_theorems.specs.Theorems.{StateKept}
-use Rattle.effects_theorems.proofs.Frames.{frames-length, depth-is}
+use Rattle.frame_theorems.proofs.Frames.{frames-length, depth-is}
 
 pub record Bounds (s : List ℕ) : Type 0 where
   pub low : 8 ≤ blockptr s

@@ -22,8 +22,8 @@ use Rattle.storage_theorems.proofs.Elsewhere.{own-elsewhere, cell-elsewhere}
 use Rattle.effects.specs.Sound.{Sound}
 use Rattle.effects_theorems.specs.Theorems.{StateKept}
 use Rattle.effects_theorems.proofs.StateWords.{state-set}
-use Rattle.effects_theorems.proofs.Counts.{machine-agree}
-use Rattle.effects_theorems.proofs.Frames.{frames-bottom, frames-next, frames-same, chain-same, words-left}
+use Rattle.frame_theorems.proofs.Counts.{machine-agree}
+use Rattle.frame_theorems.proofs.Frames.{frames-bottom, frames-next, frames-same, chain-same, words-left}
 use Rattle.effects_theorems.proofs.Sound.{Bounds, bounds, set-elsewhere, Done}
 
 module _ (s : List ℕ) (g : Sound s) (place : ℕ) (small : place < 2 ^ 16) where

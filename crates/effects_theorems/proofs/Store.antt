@@ -27,8 +27,8 @@ use Rattle.effects.specs.Sound.{Sound}
 use Rattle.effects.specs.Fits.{Addressable}
 use Rattle.effects_theorems.specs.Theorems.{StateKept}
 use Rattle.effects_theorems.proofs.StateWords.{state-on, state-step, state-set}
-use Rattle.effects_theorems.proofs.Counts.{machine-agree, count-put}
-use Rattle.effects_theorems.proofs.Frames.{chain-same, words-kept}
+use Rattle.frame_theorems.proofs.Counts.{machine-agree, count-put}
+use Rattle.frame_theorems.proofs.Frames.{chain-same, words-kept}
 use Rattle.effects_theorems.proofs.Sound.{Bounds, bounds, Regs, kept-regs, set-elsewhere, InPlace}
 use Rattle.effects_theorems.proofs.Variables.{Place, variable-place, words-put, variable-chain, same-put}
 use Rattle.effects_theorems.proofs.Sources.{Put}

@@ -24,8 +24,8 @@ use Rattle.effects.specs.Perform.{swap}
 use Rattle.effects.specs.Seen.{temporaries}
 use Rattle.effects.specs.Sound.{Sound}
 use Rattle.effects_theorems.proofs.StateWords.{state-on, state-set}
-use Rattle.effects_theorems.proofs.Counts.{machine-agree, cells-count, swapped-count}
-use Rattle.effects_theorems.proofs.Frames.{chain-same, words-left}
+use Rattle.frame_theorems.proofs.Counts.{machine-agree, cells-count, swapped-count}
+use Rattle.frame_theorems.proofs.Frames.{chain-same, words-left}
 use Rattle.effects_theorems.proofs.Sound.{Bounds, bounds, Done}
 
 -- the two highest words of a list read from the highest down

@@ -27,8 +27,8 @@ use Rattle.effects.specs.Sources.{addressOf, heldAt, operandAt}
 use Rattle.effects.specs.Seen.{temporaries}
 use Rattle.effects.specs.Sound.{Chain, bottom, upon, Sound}
 use Rattle.effects.specs.Fits.{Addressable}
-use Rattle.effects_theorems.proofs.Counts.{cells-count, count-getD, count-put}
-use Rattle.effects_theorems.proofs.Frames.{frame, frames-bottom, frames-next, frames-same, chain-same, depth-is}
+use Rattle.frame_theorems.proofs.Counts.{cells-count, count-getD, count-put}
+use Rattle.frame_theorems.proofs.Frames.{frame, frames-bottom, frames-next, frames-same, chain-same, depth-is}
 use Rattle.effects_theorems.proofs.Sound.{bounds}
 
 downward-set : (s : List ℕ) (a n j w : ℕ) → j < n → a + n ≤ length s → downward (set s (a + n - 1 - j) w) a n ≡ set (downward s a n) j w

@@ -20,7 +20,7 @@ use Rattle.effects.specs.Perform.{perform, wanted}
 use Rattle.effects.specs.Seen.{temporaries}
 use Rattle.effects.specs.Sound.{Chain, bottom, upon, Sound}
 use Rattle.effects.specs.Fits.{Addressable, CanReplace, CanLeave, Fits}
-use Rattle.effects_theorems.proofs.Frames.{frames-bottom, frames-next}
+use Rattle.frame_theorems.proofs.Frames.{frames-bottom, frames-next}
 use Rattle.effects_theorems.proofs.Sound.{bounds}
 use Rattle.effects_theorems.proofs.Variables.{variable-place}
 use Rattle.plan_theorems.specs.Fitting.{Fitting}
