@@ -20,17 +20,6 @@ use Rattle.storage_theorems.proofs.Cells.{array-of}
 use Rattle.effects.specs.Sources.{referenceWord}
 
 -- a scalar's word
-pub scalar-array : (w : ℕ) → isScalar w ≡ true → isArray w ≡ false
-unfolding isScalar
-scalar-array w h = ⊎-elim yes (λ e. e) (decide (isArray w))
-  where
-    yes : isArray w ≡ true → isArray w ≡ false
-    yes e =
-        let l : address w < 2 ^ 16 = omega arith in
-        let k : kindOf w ≡ K.Array (segment (address w)) = ap kindOf (array-of w e) ∙ inverse .readBack (K.Array (segment (address w))) l in
-        let z : scalarKind (kindOf w) ≡ false = rw k in
-        e ∙ sym h ∙ z
-
 kind-scalar : (s : List ℕ) (w : ℕ) (k : Kind) → scalarKind k ≡ true → cellOfKind s w k ≡ value [] (w ∷ [])
 kind-scalar s w (K.Scalar k) h = refl
 kind-scalar s w (K.Array a) h = cc

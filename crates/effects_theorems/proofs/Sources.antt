@@ -7,6 +7,7 @@ use mathlib.Core.List.{List, _∷_}
 use native.Mathlib.Omega.{arith}
 use lib.ListN.{length}
 use Rattle.descriptor.specs.Fields.{isArray, undefinedWord}
+use Rattle.descriptor.proofs.Arrays.{scalar-array}
 use Rattle.segment.specs.Cells.{Cell, undefined, cell}
 use Rattle.storage.specs.Arrays.{placeAt, share}
 use Rattle.storage.specs.Heap.{count}
@@ -20,7 +21,7 @@ use Rattle.storage_theorems.proofs.Place.{place-theorem}
 use Rattle.effects.specs.Sources.{heldAt, operandAt, referenceWord, wordOf, placed}
 use Rattle.effects.specs.Sound.{Sound}
 use Rattle.effects.specs.Fits.{Available}
-use Rattle.effects_theorems.proofs.Cells.{scalar-array, scalar-cell, reference-array, reference-cell}
+use Rattle.effects_theorems.proofs.Cells.{scalar-cell, reference-array, reference-cell}
 use Rattle.effects_theorems.proofs.Sound.{owners-few}
 use Rattle.effects_theorems.proofs.Variables.{variable-owner, look-view, operand-owner, operand-view}
 

@@ -10,16 +10,13 @@ use lib.ListN.{length, getD, drop}
 use lib.Seq.{drop-cons, drop-length}
 use lib.Dec.{eqb}
 use borrow.Author.Tests.{eqb-false, eq-eqb, ne-eqb}
+use Rattle.descriptor.proofs.Truth.{neither, same-test}
 use Rattle.segment.specs.Blocks.{product}
 use Rattle.acceptance_storage.proofs.Tests.{by-eq, never}
 use Rattle.manual.specs.Values.{any}
 
 abbrev pub isZero : ℕ → Bool
 isZero l = eqb l 0
-
-same-test : (a b c d : ℕ) → (a ≡ b → c ≡ d) → (c ≡ d → a ≡ b) → eqb a b ≡ eqb c d
-same-test a b c d there back =
-    by-eq a b (λ e. eq-eqb a b e ∙ sym (eq-eqb c d (there e))) (λ differ. ne-eqb a b differ ∙ sym (ne-eqb c d (λ e. differ (back e))))
 
 zero-product : (lengths : List ℕ) → any isZero lengths ≡ true → product lengths ≡ 0
 zero-product [] some = absurd (never some)
@@ -30,10 +27,6 @@ zero-product (l ∷ lengths) some =
 
 pub empty : (lengths : List ℕ) (n : ℕ) → any isZero lengths ≡ true → eqb n 0 ≡ eqb (product lengths) n
 empty lengths n some = rw (zero-product lengths some) (same-test n 0 0 n (λ e. sym e) (λ e. sym e))
-
-none : (a b : Bool) → (a || b) ≡ false → (a ≡ false) × (b ≡ false)
-none true b h = absurd (never (sym h))
-none false b h = (refl, h)
 
 -- n is the product of all lengths where `rest` is that of the lengths from i on, none of which is 0
 pub record Divided (lengths : List ℕ) (n rest i : ℕ) : Type 0 where
@@ -46,7 +39,7 @@ undivided h = record { so-far = refl; nonzero = h }
 module _ {lengths : List ℕ} {n rest i : ℕ} (d : Divided lengths n rest i) where
   module _ (inside : i < length lengths) where
     here : (isZero (getD lengths i 0) ≡ false) × (any isZero (drop (i + 1) lengths) ≡ false)
-    here = rw add-one (none _ _ (rw (drop-cons lengths i 0 inside) at (d .nonzero)))
+    here = rw add-one (neither _ _ (rw (drop-cons lengths i 0 inside) at (d .nonzero)))
 
     pub divisor : getD lengths i 0 ≡ 0 → ⊥
     divisor = eqb-false _ _ (here .0)

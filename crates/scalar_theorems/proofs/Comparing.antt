@@ -11,6 +11,7 @@ use lib.Dec.{ltb, eqb, lit<}
 use lib.Pow.{pow-pos}
 use Rattle.descriptor.specs.Fields.{sign, magnitude, isCharacter, integerWord}
 use Rattle.descriptor.specs.Kinds.{bit}
+use Rattle.descriptor.proofs.Truth.{neither}
 use Rattle.scalar.specs.Value.{one, units, oneFloat}
 use Rattle.scalar.specs.Results.{integer, rounded, typeError}
 use Rattle.scalar.specs.Operators.{sumSign, sumSize, plus, minus, difference, less, equal, comparison, ifNegative, ifZero}
@@ -78,10 +79,6 @@ module _ (m s a r b : ℕ) (p : s < 2) (q : r < 2) (i : a < m) (j : b < m) where
   ordered : Goal
   ordered = cases s a (1 - r) b Goal alike lesser greater
 
-neither : (p q : Bool) → (p || q) ≡ false → (p ≡ false) × (q ≡ false)
-neither true q h = absurd (let k : _≡_ {A = ℕ} 0 1 = ap bit (sym h) in omega arith)
-neither false q h = (refl, h)
-
 -- ---- the word of the difference
 
 -- w is 0 where the difference is, and else has its sign
@@ -91,7 +88,7 @@ pub record Told (w g d : ℕ) : Type 0 where
   pub signed : 0 < d → sign w ≡ g
 
 -- the word of an integer
-integer-none : (g d : ℕ) → d ≡ 0 → integerWord g d ≡ 0
+pub integer-none : (g d : ℕ) → d ≡ 0 → integerWord g d ≡ 0
 integer-none g d z = simp (eq-eqb d 0 z)
 
 integer-some : (g d : ℕ) → 0 < d → integerWord g d ≡ g * 2 ^ 31 + d

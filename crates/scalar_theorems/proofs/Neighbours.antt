@@ -23,6 +23,7 @@ use Rattle.scalar.proofs.Ones.{down-is, up-is}
 use Rattle.scalar_theorems.specs.Line.{middle, place}
 use Rattle.scalar_theorems.specs.Neighbours.{Greatest, Least, Neighbours}
 use Rattle.scalar_theorems.proofs.Words.{below-middle}
+use Rattle.scalar_theorems.proofs.Comparing.{integer-none}
 use Rattle.scalar_theorems.proofs.Multiples.{Below, Above, below-at, above-at, below-plus, below-minus, above-plus, above-minus, down-lo, down-hi, up-lo, up-hi, sum-multiple, difference-multiple, itself-below, itself-above}
 
 -- ---- places
@@ -44,18 +45,15 @@ place-zero : place 0 ≡ middle
 unfolding place units
 place-zero = refl
 
-zero-word : (s k : ℕ) → k ≡ 0 → integerWord s k ≡ 0
-zero-word s k z = simp (eq-eqb k 0 z)
-
 integer-plus : (k : ℕ) → k < 2 ^ 23 → place (integerWord 0 k) ≡ middle + k * one
 integer-plus k l = ⊎-elim
-    (λ (z : k ≡ 0). ap place (zero-word 0 k z) ∙ place-zero ∙ sym (ap (λ (x : ℕ). middle + x * one) z))
+    (λ (z : k ≡ 0). ap place (integer-none 0 k z) ∙ place-zero ∙ sym (ap (λ (x : ℕ). middle + x * one) z))
     (λ (z : 0 < k). let u = integer-units 0 k (lit< tt) l z in ap place (u .0) ∙ place-plus (0 * 2 ^ 31 + k) (omega arith) ∙ ap (λ (x : ℕ). middle + x) (u .1))
     (eq-zero-or-pos k)
 
 integer-minus : (k : ℕ) → k < 2 ^ 23 → place (integerWord 1 k) ≡ middle - k * one
 integer-minus k l = ⊎-elim
-    (λ (z : k ≡ 0). ap place (zero-word 1 k z) ∙ place-zero ∙ sym (ap (λ (x : ℕ). middle - x * one) z))
+    (λ (z : k ≡ 0). ap place (integer-none 1 k z) ∙ place-zero ∙ sym (ap (λ (x : ℕ). middle - x * one) z))
     (λ (z : 0 < k). let u = integer-units 1 k (lit< tt) l z in ap place (u .0) ∙ place-minus (1 * 2 ^ 31 + k) (λ y. omega arith) ∙ ap (λ (x : ℕ). middle - x) (u .1))
     (eq-zero-or-pos k)
 
