@@ -27,7 +27,7 @@ same-length-2 : tie.Need-same-length-2
 same-length-2 c = search needs
 
 returns-2 : tie.Need-returns-2
-returns-2 c = promised _ _ _ _ _ _ (has-arguments _ _ _ _ (cc) (c .before .before .before .before .block .given .0 .0) (cc) (c .if2 .taken))
+returns-2 c = promised _ _ _ _ _ _ (has-arguments _ _ _ _ (sym (c .before .before .before .before .before .before .before .if1 .left) ∙ c .before .before .before .before .before .before .before .before .segments-refusal .ensures) (c .before .before .before .before .block .given .0 .0) (sym (c .before .before .before .before .block .given .1) ∙ c .before .before .before .before .before .before .bottom-function .ensures) (c .if2 .taken))
 
 cast-parts-fit : tie.Need-cast-parts-fit
 cast-parts-fit c = search needs
@@ -39,7 +39,7 @@ same-length-3 : tie.Need-same-length-3
 same-length-3 c = search needs
 
 returns-3 : tie.Need-returns-3
-returns-3 c = promised _ _ _ _ _ _ (too-large _ _ _ _ (cc) (c .before .before .before .before .before .before .before .before .block .given .0 .0) (cc) (c .before .before .before .before .if2 .left) (sym (not-true _ (c .if3 .taken)) ∙ c .before .parts-fit .ensures))
+returns-3 c = promised _ _ _ _ _ _ (too-large _ _ _ _ (sym (c .before .before .before .before .before .before .before .before .before .before .before .if1 .left) ∙ c .before .before .before .before .before .before .before .before .before .before .before .before .segments-refusal .ensures) (c .before .before .before .before .before .before .before .before .block .given .0 .0) (sym (c .before .before .before .before .before .before .before .before .block .given .1) ∙ c .before .before .before .before .before .before .before .before .before .before .bottom-function .ensures) (c .before .before .before .before .if2 .left) (sym (not-true _ (c .if3 .taken)) ∙ c .before .parts-fit .ensures))
 
 cast-write-fresh : tie.Need-cast-write-fresh
 cast-write-fresh c = search needs
@@ -48,7 +48,7 @@ write-fresh-requires : tie.Need-write-fresh-requires
 write-fresh-requires c κs =
     let a = c .before .before .before .before .before .before .before .before .before .before .before .before .before .before .before .before .before .before .before .args in
     room (a .seg .now) (a .regular .now) (a .alternate .now) (record { selector = a .selector; function = a .function; globals = a .globals; arrayWords = a .storage })
-    (cc) (c .before .before .before .before .before .before .before .before .before .before .block .given .0 .0) (cc) (c .before .before .before .before .before .before .if2 .left) (sym (not-false _ (c .before .before .if3 .left)) ∙ c .before .before .before .parts-fit .ensures)
+    (sym (c .before .before .before .before .before .before .before .before .before .before .before .before .before .if1 .left) ∙ c .before .before .before .before .before .before .before .before .before .before .before .before .before .before .segments-refusal .ensures) (c .before .before .before .before .before .before .before .before .before .before .block .given .0 .0) (sym (c .before .before .before .before .before .before .before .before .before .before .block .given .1) ∙ c .before .before .before .before .before .before .before .before .before .before .before .before .bottom-function .ensures) (c .before .before .before .before .before .before .if2 .left) (sym (not-false _ (c .before .before .if3 .left)) ∙ c .before .before .before .parts-fit .ensures)
 
 same-length-4 : tie.Need-same-length-4
 same-length-4 c = search needs
@@ -60,7 +60,7 @@ same-length-5 : tie.Need-same-length-5
 same-length-5 c = search needs
 
 returns-5 : tie.Need-returns-5
-returns-5 c = promised _ _ _ _ _ _ (laid _ _ _ _ (cc) (c .before .before .before .before .before .before .before .before .before .before .before .before .before .block .given .0 .0) (cc) (c .before .before .before .before .before .before .before .before .before .if2 .left) (sym (not-false _ (c .before .before .before .before .before .if3 .left)) ∙ c .before .before .before .before .before .before .parts-fit .ensures) _ (c .before .before .write-fresh .ensures))
+returns-5 c = promised _ _ _ _ _ _ (laid _ _ _ _ (sym (c .before .before .before .before .before .before .before .before .before .before .before .before .before .before .before .before .if1 .left) ∙ c .before .before .before .before .before .before .before .before .before .before .before .before .before .before .before .before .before .segments-refusal .ensures) (c .before .before .before .before .before .before .before .before .before .before .before .before .before .block .given .0 .0) (sym (c .before .before .before .before .before .before .before .before .before .before .before .before .before .block .given .1) ∙ c .before .before .before .before .before .before .before .before .before .before .before .before .before .before .before .bottom-function .ensures) (c .before .before .before .before .before .before .before .before .before .if2 .left) (sym (not-false _ (c .before .before .before .before .before .if3 .left)) ∙ c .before .before .before .before .before .before .parts-fit .ensures) _ (c .before .before .write-fresh .ensures))
 
 pub lay-out-spec : {M : Type 1} → statement M
 lay-out-spec =

@@ -22,7 +22,7 @@ same-length-2 : tie.Need-same-length-2
 same-length-2 c = search needs
 
 returns-2 : tie.Need-returns-2
-returns-2 c = promised _ _ _ _ _ _ _ _ (no-global _ _ _ _ _ _ (cc) (sym (c .before .is-global .ensures) ∙ not-true _ (c .if2 .taken)))
+returns-2 c = promised _ _ _ _ _ _ _ _ (no-global _ _ _ _ _ _ (sym (c .before .before .before .if1 .left) ∙ c .before .before .before .before .refusal-of .ensures) (sym (c .before .is-global .ensures) ∙ not-true _ (c .if2 .taken)))
 
 is-value-requires : tie.Need-is-value-requires
 is-value-requires c κs = search needs
@@ -31,7 +31,7 @@ same-length-3 : tie.Need-same-length-3
 same-length-3 c = search needs
 
 returns-3 : tie.Need-returns-3
-returns-3 c = promised _ _ _ _ _ _ _ _ (no-value _ _ _ _ _ _ (cc) (sym (c .before .before .before .is-global .ensures) ∙ not-false _ (c .before .before .if2 .left)) (sym (c .before .is-value .ensures) ∙ not-true _ (c .if3 .taken)))
+returns-3 c = promised _ _ _ _ _ _ _ _ (no-value _ _ _ _ _ _ (sym (c .before .before .before .before .before .if1 .left) ∙ c .before .before .before .before .before .before .refusal-of .ensures) (sym (c .before .before .before .is-global .ensures) ∙ not-false _ (c .before .before .if2 .left)) (sym (c .before .is-value .ensures) ∙ not-true _ (c .if3 .taken)))
 
 of-requires : tie.Need-of-requires
 of-requires c κs = search needs
@@ -50,7 +50,7 @@ same-length-4 c = search needs
 returns-4 : tie.Need-returns-4
 returns-4 c =
     let v = c .before .before .before .before .before .before .before in
-    promised _ _ _ _ _ _ _ _ (scalar-stored _ _ _ _ _ _ (cc) (sym (v .before .before .before .is-global .ensures) ∙ not-false _ (v .before .before .if2 .left)) (sym (v .before .is-value .ensures) ∙ not-false _ (v .if3 .left)) _ (c .before .before .before .before .before .before .of .ensures) _ (c .before .before .before .before .before .if4 .taken) (cc))
+    promised _ _ _ _ _ _ _ _ (scalar-stored _ _ _ _ _ _ (sym (v .before .before .before .before .before .if1 .left) ∙ v .before .before .before .before .before .before .refusal-of .ensures) (sym (v .before .before .before .is-global .ensures) ∙ not-false _ (v .before .before .if2 .left)) (sym (v .before .is-value .ensures) ∙ not-false _ (v .if3 .left)) _ (c .before .before .before .before .before .before .of .ensures) _ (c .before .before .before .before .before .if4 .taken) (cc))
 
 store-array-requires : tie.Need-store-array-requires
 store-array-requires c κs = search needs
@@ -67,7 +67,7 @@ same-length-5 c = search needs
 returns-5 : tie.Need-returns-5
 returns-5 c =
     let v = c .before .before .before .before .before .before .before .before in
-    promised _ _ _ _ _ _ _ _ (full _ _ _ _ _ _ (cc) (sym (v .before .before .before .is-global .ensures) ∙ not-false _ (v .before .before .if2 .left)) (sym (v .before .is-value .ensures) ∙ not-false _ (v .if3 .left)) _ (c .before .before .before .before .before .before .before .of .ensures) _ (c .before .before .before .before .before .before .if4 .left) (cc) (cc))
+    promised _ _ _ _ _ _ _ _ (full _ _ _ _ _ _ (sym (v .before .before .before .before .before .if1 .left) ∙ v .before .before .before .before .before .before .refusal-of .ensures) (sym (v .before .before .before .is-global .ensures) ∙ not-false _ (v .before .before .if2 .left)) (sym (v .before .is-value .ensures) ∙ not-false _ (v .if3 .left)) _ (c .before .before .before .before .before .before .before .of .ensures) _ (c .before .before .before .before .before .before .if4 .left) (cc) (cc))
 
 same-length-6 : tie.Need-same-length-6
 same-length-6 c = search needs
@@ -75,7 +75,7 @@ same-length-6 c = search needs
 returns-6 : tie.Need-returns-6
 returns-6 c =
     let v = c .before .before .before .before .before .before .before .before in
-    promised _ _ _ _ _ _ _ _ (array-stored _ _ _ _ _ _ (cc) (sym (v .before .before .before .is-global .ensures) ∙ not-false _ (v .before .before .if2 .left)) (sym (v .before .is-value .ensures) ∙ not-false _ (v .if3 .left)) _ (c .before .before .before .before .before .before .before .of .ensures) _ (c .before .before .before .before .before .before .if4 .left) (cc) (cc))
+    promised _ _ _ _ _ _ _ _ (array-stored _ _ _ _ _ _ (sym (v .before .before .before .before .before .if1 .left) ∙ v .before .before .before .before .before .before .refusal-of .ensures) (sym (v .before .before .before .is-global .ensures) ∙ not-false _ (v .before .before .if2 .left)) (sym (v .before .is-value .ensures) ∙ not-false _ (v .if3 .left)) _ (c .before .before .before .before .before .before .before .of .ensures) _ (c .before .before .before .before .before .before .if4 .left) (cc) (cc))
 
 pub load-spec : {M : Type 1} → statement M
 load-spec =
