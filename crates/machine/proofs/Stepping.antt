@@ -16,6 +16,7 @@ use Rattle.manual.specs.Instructions.{Running, running, headerOf, planAt}
 use Rattle.effects.specs.declared.Outcome.{Outcome}
 use Rattle.effects.specs.Carried.{CarriesOut}
 use Rattle.effects.specs.declared.Stepped.the-variants.{Finished, Traced, Trapped}
+use Rattle.machine.specs.Stretches.{stepAt}
 use Rattle.effects.specs.Step.{stepResult, selectorOf, numberOf, trapped, finished, settled, settle, stepIn, stepFound, stepOf}
 
 -- a class and a number of eight bits are themselves
@@ -67,8 +68,9 @@ module _ (s : List ℕ) where
     step-done done = ap (settle (f .regular) (f .alternate) (headerOf f .rtntrace)) (rw counted at done)
 
     -- after what has changed no word
-    pub step-kept : (u : List ℕ) {r : Outcome} {t : List ℕ} → u ≡ s → CarriesOut u r t (λ sees. planAt f sees place) → settled (f .regular) (f .alternate) (headerOf f .rtntrace) r t ≡ stepIn f s
-    step-kept u kept done = step-done (rw kept at done)
+    pub step-kept : (u : List ℕ) → u ≡ s → stepAt f place u ≡ stepIn f s
+    unfolding stepIn
+    step-kept u kept = ap (stepAt f place) kept ∙ ap (λ (n : ℕ). stepAt f n s) counted
 
   -- the function of the current frame
   module _ (regular alternate : List ℕ) {selector : Bool} {number : ℕ} (P : selectorOf s ≡ selector) (n : numberOf s ≡ number) where

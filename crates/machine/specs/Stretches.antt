@@ -5,11 +5,17 @@ use mathlib.Core.Path.{_≡_}
 use mathlib.Core.List.{List}
 use Rattle.procedure.specs.declared.directory.Function.the-variants.{At}
 use Rattle.procedure.specs.Directory.{functionOf}
-use Rattle.manual.specs.Instructions.{Running, segmentOf}
+use Rattle.manual.specs.Instructions.{Running, segmentOf, headerOf, planAt}
 use Rattle.effects.specs.declared.Ran.{Ran}
 use Rattle.effects.specs.declared.Ran.the-variants.{Done, Trapped}
-use Rattle.effects.specs.Step.{selectorOf, numberOf}
+use Rattle.effects.specs.Seen.{seen}
+use Rattle.effects.specs.Carried.{carry}
+use Rattle.effects.specs.Step.{StepResult, selectorOf, numberOf, settle}
 use Rattle.effects.specs.Run.{RunResult, ended, stepsFrom}
+
+-- A step of the instruction at that place of the function `f`, wherever PCTR is.
+abbrev pub stepAt : Running → ℕ → List ℕ → StepResult
+stepAt f place s = settle (f .regular) (f .alternate) (headerOf f .rtntrace) (carry s (planAt f (seen s) place))
 
 -- The current frame is of the function `f`, which has that number in its directory.
 pub record Current (f : Running) (number : ℕ) (s : List ℕ) : Type 0 where

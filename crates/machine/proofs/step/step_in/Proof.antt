@@ -15,7 +15,11 @@ step-in-spec =
     (λ c. search needs)
     (λ c. let a = c .before .before .before .before .before .before .before .before .before .before .before .before .before .before .args in let q = c .before .before .before .before .before .before .before .before .before .before .before .before .before .before .pre in let f = running (a .regular .now) (a .alternate .now) (a .selector) (a .block) in c .before .before .step-trap .ensures ∙ step-done (a .seg .now) f (q .1 .1) (obeyed _ f _ (q .1 .0) refl refl (c .before .before .before .before .before .before .before .try-fast .ensures f refl .done (c .before .before .before .before .if1 .taken))))
     (λ c κs. search needs)
-    (λ c κs. search needs)
     (λ c. search needs)
     (λ c. search needs)
-    (λ c. let a = c .before .before .before .before .before .before .before .before .before .before .before .before .before .before .before .before .before .before .before .before .before .args in let q = c .before .before .before .before .before .before .before .before .before .before .before .before .before .before .before .before .before .before .before .before .before .pre in let f = running (a .regular .now) (a .alternate .now) (a .selector) (a .block) in let p = c .before .before .before .before .before .before .before .before .before .before .before .before .before .before .try-fast in c .before .before .settle .ensures ∙ step-kept (a .seg .now) f (q .1 .1) (p .last .0) (p .ensures f refl .kept (c .before .before .before .before .before .before .before .before .before .before .before .if1 .left)) (c .before .before .before .before .before .before .before .before .obey .ensures)))
+    (λ c.
+    let a = c .before .before .before .before .before .before .before .before .before .before .before .before .before .before .before .before .before .args in
+    let q = c .before .before .before .before .before .before .before .before .before .before .before .before .before .before .before .before .before .pre in
+    let p = c .before .before .before .before .before .before .before .before .before .before .try-fast in
+    let f = running (a .regular .now) (a .alternate .now) (a .selector) (a .block) in
+    c .before .before .before .before .long-step .ensures ∙ step-kept (a .seg .now) f (q .1 .1) (p .last .0) (p .ensures f refl .kept (c .before .before .before .before .before .before .before .if1 .left))))
