@@ -19,7 +19,7 @@ use Rattle.effects.specs.Sources.{addressOf, heldAt}
 use Rattle.effects.specs.Perform.{bottomOf, blockOf}
 use Rattle.effects.specs.Seen.{temporaries}
 
--- A variable of the segment.
+-- The same of a segment.
 abbrev pub Addressable : List ℕ → Target → Type 0
 Addressable s t = AddressableIn t (words s)
 

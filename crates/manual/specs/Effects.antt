@@ -93,7 +93,8 @@ abbrev pub put : {A : Type 0} → Target → A → Machine A → Machine A
 put (Global g) c m = record { flags = m .flags; temporaries = m .temporaries; frames = m .frames; globals = set (m .globals) (globalIndex (m .globals) (g .0)) c }
 put (Local a) c m = record { flags = m .flags; temporaries = m .temporaries; frames = putFrames (a .0) c (m .frames); globals = m .globals }
 
--- A variable: a global address from 8 to BLOCKPTR−1, or the stack address of a frame's cell.
+-- An address that leads to a cell: that of a global, or the stack address of a cell under a frame's two words, which is one of its
+-- locals, its arguments or the older frame's temporaries.
 abbrev pub InFrames : {A : Type 0} → ℕ → List (Frame A) → Type 0
 InFrames a [] = ⊥
 InFrames a (r ∷ older) = ((depthOfFrames older ≤ a) × (a < depthOfFrames older + length (r .cells))) ⊎ InFrames a older
