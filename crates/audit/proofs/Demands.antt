@@ -159,11 +159,28 @@ has-told : {s t : List ℕ} {p : Procedures} {g : ℕ} {a : Answer} → Did s (l
 has-told (isRefused d e) z = absurd (d z)
 has-told (hasTold e h) z = (h, refl)
 
+settled : {s t u : List ℕ} {p : Procedures} {o q : StepOutcome} → Step p s o t → Step p s q u → (o ≡ q) × (view t ≡ view u)
+settled (traps e) (traps f) = (cc, cc)
+settled (traps e) (full f w) = let z : _≡_ {A = ℕ} 0 1 = cc in absurd (omega arith)
+settled (traps e) (does f w l) = let z : _≡_ {A = ℕ} 0 1 = cc in absurd (omega arith)
+settled (full e v) (traps f) = let z : _≡_ {A = ℕ} 0 1 = cc in absurd (omega arith)
+settled (full e v) (full f w) = (refl, refl)
+settled (full e v) (does f w l) = let z : true ≡ false = cc in never z
+settled (does e v k) (traps f) = let z : _≡_ {A = ℕ} 0 1 = cc in absurd (omega arith)
+settled (does e v k) (full f w) = let z : true ≡ false = cc in never z
+settled (does e v k) (does f w l) =
+    let seen = k .seen in
+    let sees = l .seen in
+    let due = k .due in
+    let dues = l .due in
+    (cc, cc)
+
 pub demand-2 : Demand2
 demand-2 = record {
   trap = trap-told;
   full = λ e es q v. vain-traps e (es, q, v) .0;
   does = done-told;
+  settled = settled;
   layOut = laid-out;
   run = has-run;
   load = is-loaded;

@@ -9,5 +9,6 @@ pub mod Run
 pub mod Look
 pub mod Load
 pub mod Demands
+pub mod RuledOut
 pub mod ParList
 pub mod Examples

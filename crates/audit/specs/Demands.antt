@@ -6,6 +6,7 @@ use mathlib.Core.Logic.{_≢_}
 use mathlib.Core.List.{List, [], _∷_, map}
 use lib.ListN.{set}
 use Rattle.segment.specs.State as state
+use Rattle.segment.specs.View.{view}
 use Rattle.manual.specs.OrTrap.{gives, trap}
 use Rattle.manual.specs.Effects.{Effect}
 use Rattle.manual.specs.Traps.{listed}
@@ -41,6 +42,8 @@ pub record Demand2 : Type 0 where
   -- "A value that the instruction does not take, write or drop stays the same though it shares storage": `EffectsDone.others`.
   pub does : {s t : List ℕ} {p : Procedures} {o : StepOutcome} → Step p s o t → (es : List Effect)
       → planned s (p .regular) (p .alternate) ≡ gives es → inVain s es ≡ false → (d : ℕ) × (o ≡ finishes d) × EffectsDone p s es d t
+  -- and nothing else: the words before it settle the outcome and all that is seen after it
+  pub settled : {s t u : List ℕ} {p : Procedures} {o q : StepOutcome} → Step p s o t → Step p s q u → (o ≡ q) × (view t ≡ view u)
   -- and each call
   pub layOut : {s t : List ℕ} {p : Procedures} {l : Layout} {a : Answer} → Did s (layOut p l) a t → refusalOf a ≡ 0 → LaidOut s p l t
   pub run : {s t : List ℕ} {p : Procedures} {budget : ℕ} {a : Answer} → Did s (run p budget) a t → refusalOf a ≡ 0 → Ran s p budget a t

@@ -6,6 +6,7 @@ pub mod Did
 pub mod Lists
 pub mod Demands
 pub mod Accepts
+pub mod RuledOut
 pub mod ParList
 pub mod Table
 pub mod Story
