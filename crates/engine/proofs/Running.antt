@@ -42,6 +42,6 @@ module _ (s regular alternate : List ℕ) (budget : ℕ) where
     has-run r same = simp (← passed) (ap accepted same)
 
     -- from the words with word 3 zero
-    pub has-ended : (start : List ℕ) → start ≡ set s 3 0 → (r : Ran) → machine.ended r after ≡ machine.stepsFrom budget 0 regular alternate start
+    pub has-ended : (start : List ℕ) → start ≡ set s 3 0 → (told r : Ran) → told ≡ r → machine.ended told after ≡ machine.stepsFrom budget 0 regular alternate start
         → Answers (runAnswer r) after
-    has-ended start zero r same = promised (runAnswer r) after (has-run r (rw zero at same))
+    has-ended start zero told r known same = promised (runAnswer r) after (has-run r (rw (zero, known) at same))

@@ -1,4 +1,4 @@
-use mathlib.Core.Path.{ap, _∙_}
+use mathlib.Core.Path.{sym, _∙_}
 use native.Mathlib.Omega.{arith}
 use lib.ListN.{length, length-set}
 use Rattle.effects.specs.declared.Ran.the-variants.{Done, Trapped}
@@ -23,7 +23,7 @@ put-requires c κs = search needs
 run-requires : tie.Need-run-requires
 run-requires c κs =
     let a = c .before .before .before .before .before .before .before .before .before .before .before .args in
-    let h = table-sound (a .seg .now) (a .regular .now) (a .alternate .now) (cc) .longest in
+    let h = table-sound (a .seg .now) (a .regular .now) (a .alternate .now) (sym (c .before .before .before .before .before .before .refusal-of .ensures) ∙ c .before .before .before .before .before .if1 .left) .longest in
     search needs
 
 enum-known-steps : tie.Need-enum-known-steps
@@ -36,13 +36,19 @@ same-length-2 : tie.Need-same-length-2
 same-length-2 c = search needs
 
 returns-2 : tie.Need-returns-2
-returns-2 c = has-ended _ _ _ _ (cc) _ _ (c .before .before .before .before .before .before .before .before .before .put .ensures) (Done (c .before .steps .given .0 .0)) (cc)
+returns-2 c =
+    let accepted = c .before .before .before .before .before .before .before .before .before .before .before in
+    has-ended _ _ _ _ (sym (accepted .if1 .left) ∙ accepted .before .refusal-of .ensures) _ _ (c .before .before .before .before .before .before .before .before .before .put .ensures) _ (Done (c .before .steps .given .0 .0))
+    (c .before .steps .given .1) (c .before .before .before .before .before .run .ensures)
 
 same-length-3 : tie.Need-same-length-3
 same-length-3 c = search needs
 
 returns-3 : tie.Need-returns-3
-returns-3 c = has-ended _ _ _ _ (cc) _ _ (c .before .before .before .before .before .before .before .before .before .put .ensures) (Trapped (c .before .steps2 .given .0 .0)) (cc)
+returns-3 c =
+    let accepted = c .before .before .before .before .before .before .before .before .before .before .before in
+    has-ended _ _ _ _ (sym (accepted .if1 .left) ∙ accepted .before .refusal-of .ensures) _ _ (c .before .before .before .before .before .before .before .before .before .put .ensures) _ (Trapped (c .before .steps2 .given .0 .0))
+    (c .before .steps2 .given .1) (c .before .before .before .before .before .run .ensures)
 
 pub run-spec : {M : Type 1} → statement M
 run-spec =
