@@ -6,7 +6,7 @@ use mathlib.Core.List.{List, [], _∷_, _++_}
 use lib.ListN.{getD, length, replicate}
 use Rattle.segment.specs.State.{sbase, ltop, rover, trapWord}
 use Rattle.scalar.specs.Value.{units}
-use Rattle.fresh_segment.specs.LayOut.{laidOut}
+use Rattle.fresh_segment.specs.LayOut.{layout, laidOut}
 use Rattle.operations.specs.declared.Run.the-variants.{Done, Trapped}
 use Rattle.operations.specs.Run.{Ended, ran}
 
@@ -20,7 +20,7 @@ coded code =
 abbrev pub laid : List ℕ → List ℕ
 laid code =
     laidOut (replicate 64 0x1234_5678) (coded code) (coded code)
-    (record { selector = 0; function = 1; globals = 4; arrayWords = 24 })
+    (layout 0 1 4 24)
 
 -- A run of so many instructions after it.
 abbrev pub ranAfter : ℕ → List ℕ → Ended

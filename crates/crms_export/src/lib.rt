@@ -31,8 +31,10 @@ pub extern "C" fn crms_lay_out(
     globals: u32,
     array_words: u32,
 ) -> u32
-    ensures { λ r. ⌜ r ≡ layout.layOutRefusal (now (seg .entry)) (now (regular .entry)) (now (alternate .entry)) (record { selector = segment; function = function; globals = globals; arrayWords = «array_words» }) ⌝ }
-    ensures { λ _. ⌜ now (seg .exit) ≡ layout.laidOut (now (seg .entry)) (now (regular .entry)) (now (alternate .entry)) (record { selector = segment; function = function; globals = globals; arrayWords = «array_words» }) ⌝ }
+    ensures { λ r. ⌜ r ≡ layout.layOutRefusal (now (seg .entry)) (now (regular .entry)) (now (alternate .entry))
+        (layout.layout segment function globals «array_words») ⌝ }
+    ensures { λ _. ⌜ now (seg .exit) ≡ layout.laidOut (now (seg .entry)) (now (regular .entry)) (now (alternate .entry))
+        (layout.layout segment function globals «array_words») ⌝ }
 {
     status(lay_out(
         seg,
@@ -62,8 +64,10 @@ pub extern "C" fn crms_load(
     shape: &[u32],
     ravel: &[u32],
 ) -> u32
-    ensures { λ r. ⌜ r ≡ loading.loadRefusal (now (seg .entry)) (now (regular .entry)) (now (alternate .entry)) global (now (shape .entry)) (now (ravel .entry)) ⌝ }
-    ensures { λ _. ⌜ now (seg .exit) ≡ loading.loaded (now (seg .entry)) (now (regular .entry)) (now (alternate .entry)) global (now (shape .entry)) (now (ravel .entry)) ⌝ }
+    ensures { λ r. ⌜ r ≡ loading.loadRefusal (now (seg .entry)) (now (regular .entry)) (now (alternate .entry))
+        global (now (shape .entry)) (now (ravel .entry)) ⌝ }
+    ensures { λ _. ⌜ now (seg .exit) ≡ loading.loaded (now (seg .entry)) (now (regular .entry)) (now (alternate .entry))
+        global (now (shape .entry)) (now (ravel .entry)) ⌝ }
 {
     status(load(seg, regular, alternate, global, shape, ravel))
 }

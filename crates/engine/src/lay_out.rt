@@ -20,9 +20,13 @@ pub fn lay_out(
     globals: u32,
     storage: u32,
 ) -> Answer
-    ensures { λ r. ⌜ r ≡ answerOf (meaning.layOutRefusal (now (seg .entry)) (now (regular .entry)) (now (alternate .entry)) (record { selector = selector; function = function; globals = globals; arrayWords = storage })) ⌝ }
-    ensures { λ _. ⌜ now (seg .exit) ≡ meaning.laidOut (now (seg .entry)) (now (regular .entry)) (now (alternate .entry)) (record { selector = selector; function = function; globals = globals; arrayWords = storage }) ⌝ }
-    ensures { λ r. ⌜ Promised (now (seg .entry)) (call.layOut (call.procedures (now (regular .entry)) (now (alternate .entry))) (record { selector = selector; function = function; globals = globals; arrayWords = storage })) (call.answerOf r) (now (seg .exit)) ⌝ }
+    ensures { λ r. ⌜ r ≡ answerOf (meaning.layOutRefusal (now (seg .entry)) (now (regular .entry)) (now (alternate .entry))
+        (meaning.layout selector function globals storage)) ⌝ }
+    ensures { λ _. ⌜ now (seg .exit) ≡ meaning.laidOut (now (seg .entry)) (now (regular .entry)) (now (alternate .entry))
+        (meaning.layout selector function globals storage) ⌝ }
+    ensures { λ r. ⌜ Promised (now (seg .entry))
+        (call.layOut (call.procedures (now (regular .entry)) (now (alternate .entry))) (meaning.layout selector function globals storage))
+        (call.answerOf r) (now (seg .exit)) ⌝ }
 {
     let refused = segments_refusal(seg, regular, alternate);
     if refused != 0 {

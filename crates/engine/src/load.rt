@@ -22,9 +22,13 @@ pub fn load(
     lengths: &[u32],
     ravel: &[u32],
 ) -> Answer
-    ensures { λ r. ⌜ r ≡ answerOf (meaning.loadRefusal (now (seg .entry)) (now (regular .entry)) (now (alternate .entry)) global (now (lengths .entry)) (now (ravel .entry))) ⌝ }
-    ensures { λ _. ⌜ now (seg .exit) ≡ meaning.loaded (now (seg .entry)) (now (regular .entry)) (now (alternate .entry)) global (now (lengths .entry)) (now (ravel .entry)) ⌝ }
-    ensures { λ r. ⌜ Promised (now (seg .entry)) (call.load (call.procedures (now (regular .entry)) (now (alternate .entry))) global (now (lengths .entry)) (now (ravel .entry))) (call.answerOf r) (now (seg .exit)) ⌝ }
+    ensures { λ r. ⌜ r ≡ answerOf (meaning.loadRefusal (now (seg .entry)) (now (regular .entry)) (now (alternate .entry))
+        global (now (lengths .entry)) (now (ravel .entry))) ⌝ }
+    ensures { λ _. ⌜ now (seg .exit) ≡ meaning.loaded (now (seg .entry)) (now (regular .entry)) (now (alternate .entry))
+        global (now (lengths .entry)) (now (ravel .entry)) ⌝ }
+    ensures { λ r. ⌜ Promised (now (seg .entry))
+        (call.load (call.procedures (now (regular .entry)) (now (alternate .entry))) global (now (lengths .entry)) (now (ravel .entry)))
+        (call.answerOf r) (now (seg .exit)) ⌝ }
 {
     let refused = refusal_of(seg, regular, alternate);
     if refused != 0 {

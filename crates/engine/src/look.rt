@@ -16,7 +16,8 @@ use segment::word;
 
 pub fn look(seg: &[u32], regular: &[u8], alternate: &[u8], global: u32) -> Looked
     ensures { λ r. ⌜ r ≡ looked (now (seg .entry)) (now (regular .entry)) (now (alternate .entry)) global ⌝ }
-    ensures { λ r. ⌜ Promised (now (seg .entry)) (call.look (call.procedures (now (regular .entry)) (now (alternate .entry))) global) (call.lookAnswer r) (now (seg .entry)) ⌝ }
+    ensures { λ r. ⌜ Promised (now (seg .entry)) (call.look (call.procedures (now (regular .entry)) (now (alternate .entry))) global)
+        (call.lookAnswer r) (now (seg .entry)) ⌝ }
 {
     let refused = refusal_of(seg, regular, alternate);
     if refused != 0 {

@@ -10,7 +10,8 @@ use segment::put;
 
 pub fn run(seg: &mut [u32], regular: &[u8], alternate: &[u8], budget: u32) -> Run
     ensures { λ r. ⌜ ended r (now (seg .exit)) ≡ ran (now (seg .entry)) (now (regular .entry)) (now (alternate .entry)) budget ⌝ }
-    ensures { λ r. ⌜ Promised (now (seg .entry)) (call.run (call.procedures (now (regular .entry)) (now (alternate .entry))) budget) (call.runAnswer r) (now (seg .exit)) ⌝ }
+    ensures { λ r. ⌜ Promised (now (seg .entry)) (call.run (call.procedures (now (regular .entry)) (now (alternate .entry))) budget)
+        (call.runAnswer r) (now (seg .exit)) ⌝ }
 {
     let refused = refusal_of(seg, regular, alternate);
     if refused != 0 {

@@ -8,7 +8,7 @@ use Rattle.procedure.specs.Headers.{headerAt}
 use Rattle.procedure.specs.Directory.{hasFunction}
 use Rattle.procedure.specs.Refusal.{segmentLengthTest, entriesTest, headerTest, functionPasses, functionsPass, contentsTest, procedureRefusal}
 use Rattle.storage.specs.Examples as storage
-use Rattle.fresh_segment.specs.LayOut.{Layout, functionTest, partsTest, layOutRefusal, freshStorage, freshFrame, freshHead, fresh, laidOut}
+use Rattle.fresh_segment.specs.LayOut.{Layout, layout, functionTest, partsTest, layOutRefusal, freshStorage, freshFrame, freshHead, fresh, laidOut}
 
 -- Function 1 has a local and no argument, function 2 an argument and no local; each has one word of code.
 abbrev pub sample : List ℕ
@@ -26,7 +26,7 @@ sample =
 
 -- Function 1 of the regular procedure segment, 4 globals, 24 array words.
 abbrev pub asked : Layout
-asked = record { selector = 0; function = 1; globals = 4; arrayWords = 24 }
+asked = layout 0 1 4 24
 
 -- M1: 64 words, 4 globals, 24 array words, one local. `whole`: the segment with which the examples of requests begin.
 pub record M1 (s : List ℕ) : Type 0 where
@@ -50,7 +50,7 @@ m1-laid = record { word0 = refl; word1 = refl; word12 = refl; word13 = refl; wor
 -- What is refused, of lent words that are zero.
 abbrev refusalOf : ℕ → ℕ → ℕ → ℕ → ℕ → ℕ
 refusalOf n selector function globals arrayWords =
-    layOutRefusal (replicate n 0) sample sample (record { selector = selector; function = function; globals = globals; arrayWords = arrayWords })
+    layOutRefusal (replicate n 0) sample sample (layout selector function globals arrayWords)
 
 pub record Refusals : Type 0 where
   pub words : refusalOf 31 0 1 4 24 ≡ 10

@@ -21,6 +21,9 @@ pub record Layout : Type 0 where
   pub globals : ℕ
   pub arrayWords : ℕ
 
+abbrev pub layout : ℕ → ℕ → ℕ → ℕ → Layout
+layout selector function globals arrayWords = record { selector = selector; function = function; globals = globals; arrayWords = arrayWords }
+
 abbrev pub chosen : List ℕ → List ℕ → Layout → List ℕ
 chosen regular alternate l = selected (eqb (l .selector) 1) regular alternate
 

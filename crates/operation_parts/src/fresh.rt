@@ -21,7 +21,8 @@ pub fn write_fresh(
 )
     requires { ⌜ (selector ≤ 1) × (function ≤ 2047) × (6 ≤ storage) ⌝ }
     requires { ⌜ (8 + globals + storage + locals + 2 ≤ length (now seg)) × (length (now seg) ≤ 16384) ⌝ }
-    ensures { λ _. ⌜ now (seg .exit) ≡ meaning.fresh (length (now (seg .entry))) locals (frameWord (eqb selector 1) function) (record { selector = selector; function = function; globals = globals; arrayWords = storage }) ⌝ }
+    ensures { λ _. ⌜ now (seg .exit) ≡ meaning.fresh (length (now (seg .entry))) locals (frameWord (eqb selector 1) function)
+        (meaning.layout selector function globals storage) ⌝ }
 {
     let start = 8 + globals;
     let base = start + storage;

@@ -48,7 +48,8 @@ pub fn segments_refusal(seg: &[u32], regular: &[u8], alternate: &[u8]) -> u8
 
 // The function that test 20 looks at.
 pub fn bottom_function(regular: &[u8], alternate: &[u8], selector: u32, function: u32) -> Function
-    ensures { λ r. ⌜ r ≡ cond (leb selector 1 and leb function 2047) (functionOf (selected (eqb selector 1) (now (regular .entry)) (now (alternate .entry))) function) found.Absent ⌝ }
+    ensures { λ r. ⌜ r ≡ cond (leb selector 1 and leb function 2047)
+        (functionOf (selected (eqb selector 1) (now (regular .entry)) (now (alternate .entry))) function) found.Absent ⌝ }
 {
     if 1 < selector {
         return Function::Absent;

@@ -1,5 +1,6 @@
 use mathlib.Core.Path.{sym, _∙_}
 use borrow.Author.Tests.{not-true, not-false}
+use Rattle.fresh_segment.specs.LayOut.{layout}
 use Rattle.engine.proofs.LayingOut.{segments-refused, absent, has-arguments, too-large, laid, room, promised}
 use borrow.Author.Needs.{needs}
 use Rattle.engine.proofs.lay_out.lay_out.Statement.{statement}
@@ -47,7 +48,7 @@ cast-write-fresh c = search needs
 write-fresh-requires : tie.Need-write-fresh-requires
 write-fresh-requires c κs =
     let a = c .before .before .before .before .before .before .before .before .before .before .before .before .before .before .before .before .before .before .before .args in
-    room (a .seg .now) (a .regular .now) (a .alternate .now) (record { selector = a .selector; function = a .function; globals = a .globals; arrayWords = a .storage })
+    room (a .seg .now) (a .regular .now) (a .alternate .now) (layout (a .selector) (a .function) (a .globals) (a .storage))
     (sym (c .before .before .before .before .before .before .before .before .before .before .before .before .before .if1 .left) ∙ c .before .before .before .before .before .before .before .before .before .before .before .before .before .before .segments-refusal .ensures) (c .before .before .before .before .before .before .before .before .before .before .block .given .0 .0) (sym (c .before .before .before .before .before .before .before .before .before .before .block .given .1) ∙ c .before .before .before .before .before .before .before .before .before .before .before .before .bottom-function .ensures) (c .before .before .before .before .before .before .if2 .left) (sym (not-false _ (c .before .before .if3 .left)) ∙ c .before .before .before .parts-fit .ensures)
 
 same-length-4 : tie.Need-same-length-4

@@ -1,6 +1,6 @@
 use native.Mathlib.Omega.{arith}
 use Rattle.fresh_segment.proofs.Passed.{word-made}
-use Rattle.fresh_segment.specs.LayOut.{fresh}
+use Rattle.fresh_segment.specs.LayOut.{layout, fresh}
 use borrow.Author.Needs.{needs}
 use Rattle.operation_parts.proofs.fresh.write_fresh.Statement.{statement}
 use Rattle.operation_parts.proofs.fresh.write_fresh.Tie as tie
@@ -43,7 +43,7 @@ same-length c = search needs
 
 returns : tie.Need-returns
 unfolding fresh
-returns c = let a = c .before .before .before .before .before .before .before .before .before .before .before .before .before .before .before .before .before .before .before .before .before .args in (cc (word-made (record { selector = a .selector; function = a .function; globals = a .globals; arrayWords = a .storage }) (omega arith)))
+returns c = let a = c .before .before .before .before .before .before .before .before .before .before .before .before .before .before .before .before .before .before .before .before .before .args in (cc (word-made (layout (a .selector) (a .function) (a .globals) (a .storage)) (omega arith)))
 
 pub write-fresh-spec : {M : Type 1} → statement M
 write-fresh-spec =
