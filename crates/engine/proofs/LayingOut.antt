@@ -28,7 +28,7 @@ use Rattle.audit.proofs.LayOut.{lay-out-did}
 -- ---- the bottom function
 
 abbrev bottom : List ℕ → List ℕ → Layout → Function
-bottom regular other l = cond (leb (l .selector) 1 and leb (l .function) 2047) (functionOf (chosen regular other l) (l .function)) F.Absent
+bottom regular alternate l = cond (leb (l .selector) 1 and leb (l .function) 2047) (functionOf (chosen regular alternate l) (l .function)) F.Absent
 
 abbrev niladic : Function → Bool
 niladic F.Absent = false
@@ -45,40 +45,40 @@ same-block true true x block at = cc
 same-block true false x block at = cc
 same-block false c x block at = cc
 
-module _ (regular other : List ℕ) (l : Layout) where
-  by-function : (f : Function) → f ≡ bottom regular other l → functionTest regular other l ≡ niladic f
+module _ (regular alternate : List ℕ) (l : Layout) where
+  by-function : (f : Function) → f ≡ bottom regular alternate l → functionTest regular alternate l ≡ niladic f
   unfolding functionTest functionOf
   by-function f same =
-      by-tests (leb (l .selector) 1) (leb (l .function) 2047) (hasFunction (chosen regular other l) (l .function)) (blockAt (chosen regular other l) (startOf (chosen regular other l) (l .function)))
+      by-tests (leb (l .selector) 1) (leb (l .function) 2047) (hasFunction (chosen regular alternate l) (l .function)) (blockAt (chosen regular alternate l) (startOf (chosen regular alternate l) (l .function)))
       ∙ ap niladic (sym same)
 
-  by-block : (block : Block) → F.At block ≡ bottom regular other l → block .header .nlocals ≡ localsOf regular other l
+  by-block : (block : Block) → F.At block ≡ bottom regular alternate l → block .header .nlocals ≡ localsOf regular alternate l
   unfolding functionOf
-  by-block block at = ap (λ (b : Block). b .header .nlocals) (same-block (leb (l .selector) 1 and leb (l .function) 2047) (hasFunction (chosen regular other l) (l .function)) _ block at)
+  by-block block at = ap (λ (b : Block). b .header .nlocals) (same-block (leb (l .selector) 1 and leb (l .function) 2047) (hasFunction (chosen regular alternate l) (l .function)) _ block at)
 
 -- ---- the table
 
-module _ (s regular other : List ℕ) (l : Layout) where
+module _ (s regular alternate : List ℕ) (l : Layout) where
   -- what lay out answers, and what it leaves
   abbrev pub Answers : Answer → List ℕ → Type 0
-  Answers answer after = (answer ≡ answerOf (layOutRefusal s regular other l)) × (after ≡ laidOut s regular other l)
+  Answers answer after = (answer ≡ answerOf (layOutRefusal s regular alternate l)) × (after ≡ laidOut s regular alternate l)
 
-  refused : (n : ℕ) → (n ≡ 0 → ⊥) → layOutRefusal s regular other l ≡ n → Answers (Refused n) s
+  refused : (n : ℕ) → (n ≡ 0 → ⊥) → layOutRefusal s regular alternate l ≡ n → Answers (Refused n) s
   unfolding laidOut
   refused n some e = (simp (e, ne-eqb n 0 some), simp (e, ne-eqb n 0 some))
 
-  done : layOutRefusal s regular other l ≡ 0
-      → Answers Done (fresh (length s) (localsOf regular other l) (frameWord (eqb (l .selector) 1) (l .function)) l)
+  done : layOutRefusal s regular alternate l ≡ 0
+      → Answers Done (fresh (length s) (localsOf regular alternate l) (frameWord (eqb (l .selector) 1) (l .function)) l)
   unfolding laidOut
   done e = (simp e, simp e)
 
   -- tests 10, 11 and 12
   abbrev pub segments : ℕ
-  segments = cond (lengthTest s) (procedureRefusal regular other) 10
+  segments = cond (lengthTest s) (procedureRefusal regular alternate) 10
 
-  by-segments : layOutRefusal s regular other l ≡ cond (eqb segments 0) (cond (functionTest regular other l) (cond (partsTest s regular other l) 0 19) 20) segments
+  by-segments : layOutRefusal s regular alternate l ≡ cond (eqb segments 0) (cond (functionTest regular alternate l) (cond (partsTest s regular alternate l) 0 19) 20) segments
   unfolding layOutRefusal
-  by-segments = by-length (lengthTest s) (procedureRefusal regular other) (cond (functionTest regular other l) (cond (partsTest s regular other l) 0 19) 20)
+  by-segments = by-length (lengthTest s) (procedureRefusal regular alternate) (cond (functionTest regular alternate l) (cond (partsTest s regular alternate l) 0 19) 20)
     where
       by-length : (b : Bool) (n rest : ℕ) → cond b (cond (eqb n 0) rest n) 10 ≡ cond (eqb (cond b n 10) 0) rest (cond b n 10)
       by-length true n rest = refl
@@ -88,13 +88,13 @@ module _ (s regular other : List ℕ) (l : Layout) where
   segments-refused n same some = refused n some (by-segments ∙ simp (← same, ne-eqb n 0 some))
 
   module _ (passed : 0 ≡ segments) where
-    by-parts : (f : Function) → f ≡ bottom regular other l → layOutRefusal s regular other l ≡ cond (niladic f) (cond (partsTest s regular other l) 0 19) 20
-    by-parts f same = by-segments ∙ simp (← passed, by-function regular other l f same)
+    by-parts : (f : Function) → f ≡ bottom regular alternate l → layOutRefusal s regular alternate l ≡ cond (niladic f) (cond (partsTest s regular alternate l) 0 19) 20
+    by-parts f same = by-segments ∙ simp (← passed, by-function regular alternate l f same)
 
-    pub absent : F.Absent ≡ bottom regular other l → Answers (Refused 20) s
+    pub absent : F.Absent ≡ bottom regular alternate l → Answers (Refused 20) s
     absent same = refused 20 (λ e. omega (arith, e)) (by-parts F.Absent same)
 
-    module _ (block : Block) (at : F.At block ≡ bottom regular other l) where
+    module _ (block : Block) (at : F.At block ≡ bottom regular alternate l) where
       pub has-arguments : 0 < block .header .nargs → Answers (Refused 20) s
       has-arguments some = refused 20 (λ e. omega (arith, e)) (by-parts (F.At block) at ∙ simp (ne-eqb (block .header .nargs) 0 (λ e. omega (arith, e))))
 
@@ -102,9 +102,9 @@ module _ (s regular other : List ℕ) (l : Layout) where
       parts = leb (l .globals) 4088 and leb 6 (l .arrayWords) and leb (baseOf l + block .header .nlocals + 2) (length s)
 
       module _ (none : block .header .nargs ≤ 0) where
-        judged : (b : Bool) → b ≡ parts → layOutRefusal s regular other l ≡ cond b 0 19
+        judged : (b : Bool) → b ≡ parts → layOutRefusal s regular alternate l ≡ cond b 0 19
         unfolding partsTest
-        judged b same = by-parts (F.At block) at ∙ simp (eq-eqb (block .header .nargs) 0 (omega arith), ← by-block regular other l block at, ← same)
+        judged b same = by-parts (F.At block) at ∙ simp (eq-eqb (block .header .nargs) 0 (omega arith), ← by-block regular alternate l block at, ← same)
 
         pub too-large : false ≡ parts → Answers (Refused 19) s
         too-large same = refused 19 (λ e. omega (arith, e)) (judged false same)
@@ -113,13 +113,13 @@ module _ (s regular other : List ℕ) (l : Layout) where
           pub laid : (after : List ℕ) → after ≡ fresh (length s) (block .header .nlocals) (frameWord (eqb (l .selector) 1) (l .function)) l → Answers Done after
           laid after left =
               let same = done (judged true fit) in
-              (same .0, left ∙ rw (by-block regular other l block at) (same .1))
+              (same .0, left ∙ rw (by-block regular alternate l block at) (same .1))
 
           -- what the writer of a fresh segment asks for
           pub room : ((l .selector ≤ 1) × (l .function ≤ 2047) × (6 ≤ l .arrayWords)) × ((baseOf l + block .header .nlocals + 2 ≤ length s) × (length s ≤ 16384))
           room =
-              let p = passes regular other l s (judged true fit) in
-              ((p .function .selector, p .function .number, p .room .storage), (rw (by-block regular other l block at) (p .room .stack), p .room .longest))
+              let p = passes regular alternate l s (judged true fit) in
+              ((p .function .selector, p .function .number, p .room .storage), (rw (by-block regular alternate l block at) (p .room .stack), p .room .longest))
 
 -- ---- the promise
 

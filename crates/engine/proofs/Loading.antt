@@ -60,24 +60,24 @@ told-done : (b : Bool) → D.Done ≡ cond b D.Full D.Done → b ≡ false
 told-done true same = cc
 told-done false same = refl
 
-module _ (s regular other : List ℕ) (g : ℕ) (lengths ravel : List ℕ) where
+module _ (s regular alternate : List ℕ) (g : ℕ) (lengths ravel : List ℕ) where
   -- what load answers, and what it leaves
   abbrev pub Answers : Answer → List ℕ → Type 0
-  Answers answer after = (answer ≡ answerOf (loadRefusal s regular other g lengths ravel)) × (after ≡ loaded s regular other g lengths ravel)
+  Answers answer after = (answer ≡ answerOf (loadRefusal s regular alternate g lengths ravel)) × (after ≡ loaded s regular alternate g lengths ravel)
 
-  refused : (n : ℕ) → (n ≡ 0 → ⊥) → loadRefusal s regular other g lengths ravel ≡ n → Answers (Refused n) s
+  refused : (n : ℕ) → (n ≡ 0 → ⊥) → loadRefusal s regular alternate g lengths ravel ≡ n → Answers (Refused n) s
   unfolding loaded
   refused n some e = (simp (e, ne-eqb n 0 some), simp (e, ne-eqb n 0 some))
 
-  done : loadRefusal s regular other g lengths ravel ≡ 0 → Answers Done (storeAt s g (sourceOf lengths ravel))
+  done : loadRefusal s regular alternate g lengths ravel ≡ 0 → Answers Done (storeAt s g (sourceOf lengths ravel))
   unfolding loaded
   done e = (simp e, simp e)
 
-  pub unaccepted : (n : ℕ) → n ≡ refusal s regular other → (n ≡ 0 → ⊥) → Answers (Refused n) s
+  pub unaccepted : (n : ℕ) → n ≡ refusal s regular alternate → (n ≡ 0 → ⊥) → Answers (Refused n) s
   unfolding loadRefusal
   unaccepted n same some = refused n some (simp (← same, ne-eqb n 0 some))
 
-  module _ (accepted : 0 ≡ refusal s regular other) where
+  module _ (accepted : 0 ≡ refusal s regular alternate) where
     pub no-global : isGlobal s g ≡ false → Answers (Refused 21) s
     unfolding loadRefusal
     no-global none = refused 21 (λ e. omega (arith, e)) (simp (← accepted, none))
@@ -88,7 +88,7 @@ module _ (s regular other : List ℕ) (g : ℕ) (lengths ravel : List ℕ) where
       no-value none = refused 23 (λ e. omega (arith, e)) (simp (← accepted, global, none))
 
       module _ (value : isValue lengths ravel ≡ true) where
-        judged : (b : Bool) → meaning.lacksRoom s lengths ravel ≡ b → loadRefusal s regular other g lengths ravel ≡ cond b 24 0
+        judged : (b : Bool) → meaning.lacksRoom s lengths ravel ≡ b → loadRefusal s regular alternate g lengths ravel ≡ cond b 24 0
         unfolding loadRefusal
         judged b full = simp (← accepted, global, value, full)
 
