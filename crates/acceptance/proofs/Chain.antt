@@ -1,7 +1,7 @@
 -- Test 16 at one frame, by what the code reads of it: what the frames from there down come to.
 use Prim.Native.Nat.{ℕ, zero, suc, _+_, _-_, _<_, _≤_}
 use mathlib.Core.Path.{_≡_, refl, sym, _∙_}
-use mathlib.Core.Bool.{Bool, true, false, cond}
+use mathlib.Core.Bool.{Bool, true, false, cond, _&&_}
 use mathlib.Core.List.{List}
 use native.Mathlib.Omega.{arith}
 use lib.ListN.{length}
@@ -11,7 +11,6 @@ use Rattle.segment.specs.State.{lbase, ltop}
 use Rattle.segment.specs.Stack.{lastLbaseAt, codeWordAt, functionNumber}
 use Rattle.procedure.specs.declared.header.Header.{Header}
 use Rattle.procedure.specs.Directory.{headerOfFunction}
-use Rattle.acceptance_storage.specs.Tests.{_and_}
 use Rattle.descriptor.proofs.Truth.{by-le, by-eq}
 use Rattle.acceptance_storage.proofs.Tests.{both}
 use Rattle.acceptance.specs.Frames.{frameSegment, known, arguments, variables, framesPass, framesTest, FrameAt}
@@ -24,16 +23,16 @@ module _ (has : ℕ → Bool) (size : ℕ → ℕ) (s : List ℕ) (base : ℕ) w
 
   pub frames-step : (n : ℕ) → 0 < n → framesPass n has size s base
       ≡ has (codeWordAt s base)
-      and cond (eqb (lastLbaseAt s base) base) (eqb (size (codeWordAt s base)) base)
-      (leb (lastLbaseAt s base + 2 + size (codeWordAt s base)) base and framesPass (n - 1) has size s (lastLbaseAt s base))
+      && cond (eqb (lastLbaseAt s base) base) (eqb (size (codeWordAt s base)) base)
+      (leb (lastLbaseAt s base + 2 + size (codeWordAt s base)) base && framesPass (n - 1) has size s (lastLbaseAt s base))
   unfolding framesPass
   frames-step zero h = absurd (omega arith)
   frames-step (suc n) h = let e : suc n - 1 ≡ n = omega arith in rw e
 
 module _ (s regular alternate : List ℕ) (base n : ℕ) (pos : 0 < n) {last code args size : ℕ} (f : FrameAt s regular alternate base last code args size) where
   step : framesPass n (known regular alternate) (variables regular alternate) s base
-      ≡ known regular alternate code and cond (eqb last base) (eqb size base)
-      (leb (last + 2 + size) base and framesPass (n - 1) (known regular alternate) (variables regular alternate) s last)
+      ≡ known regular alternate code && cond (eqb last base) (eqb size base)
+      (leb (last + 2 + size) base && framesPass (n - 1) (known regular alternate) (variables regular alternate) s last)
   step = frames-step (known regular alternate) (variables regular alternate) s base n pos ∙ rw (f .code, f .variables, f .last)
 
   pub absent : known regular alternate code ≡ false → framesPass n (known regular alternate) (variables regular alternate) s base ≡ false
@@ -58,7 +57,7 @@ module _ (s regular alternate : List ℕ) (base n : ℕ) (pos : 0 < n) {last cod
   unfolding variables
   few-arguments = omega (arith, f .arguments, f .variables)
 
-  rest : cond (eqb last base) (eqb size base) (leb (last + 2 + size) base and framesPass (n - 1) (known regular alternate) (variables regular alternate) s last) ≡ true
+  rest : cond (eqb last base) (eqb size base) (leb (last + 2 + size) base && framesPass (n - 1) (known regular alternate) (variables regular alternate) s last) ≡ true
   rest = both (known regular alternate code) _ (sym (step s regular alternate base n pos f) ∙ t) .1
 
   pub above : last < base → (last + 2 + size ≤ base) × (framesPass (n - 1) (known regular alternate) (variables regular alternate) s last ≡ true)

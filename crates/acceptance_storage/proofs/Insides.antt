@@ -28,15 +28,15 @@ module _ (s : List ℕ) (a : ℕ) where
   unfolding arrayTest shapeAt elementsAt
   array-sound h =
       let count : ℕ = product (part s (a + 2) (rankAt s a)) in
-      let p = both (eqb (getD s (a + 1) 0 % 2 ^ 16) (rankAt s a)) _ h in
-      let q = both (leb 1 (rankAt s a)) _ (p .1) in
-      let r = both (wordsWhere (rankAt s a) isLength s (a + 2)) _ (q .1) in
-      let t = both (eqb (sizeAt s a) (2 + rankAt s a + count)) _ (r .1) in
+      let t = both _ (wordsWhere count isScalar s (a + 2 + rankAt s a)) h in
+      let r = both _ (eqb (sizeAt s a) (2 + rankAt s a + count)) (t .0) in
+      let q = both _ (wordsWhere (rankAt s a) isLength s (a + 2)) (r .0) in
+      let p = both (eqb (getD s (a + 1) 0 % 2 ^ 16) (rankAt s a)) (leb 1 (rankAt s a)) (q .0) in
       record {
         clear = eqb-true _ _ (p .0);
-        rank = leb-true _ _ (q .0);
-        sized = eqb-true _ _ (t .0);
-        lengths = λ w k. leb-true _ _ (every-at isLength (shapeAt s a) (sym (words-every (rankAt s a) isLength s (a + 2)) ∙ r .0) w k);
+        rank = leb-true _ _ (p .1);
+        sized = eqb-true _ _ (r .1);
+        lengths = λ w k. leb-true _ _ (every-at isLength (shapeAt s a) (sym (words-every (rankAt s a) isLength s (a + 2)) ∙ q .1) w k);
         scalars = λ w k. every-at isScalar (elementsAt s a) (sym (words-every count isScalar s (a + 2 + rankAt s a)) ∙ t .1) w k;
       }
 
@@ -44,10 +44,10 @@ module _ (s : List ℕ) (a : ℕ) where
   unfolding arrayTest shapeAt elementsAt
   array-complete h =
       let count : ℕ = product (part s (a + 2) (rankAt s a)) in
-      passes (eq-eqb _ _ (h .clear))
-      (passes (le-leb _ _ (h .rank))
-      (passes (words-every (rankAt s a) isLength s (a + 2) ∙ every-all isLength (shapeAt s a) (λ w k. le-leb _ _ (h .lengths w k)))
-      (passes (eq-eqb _ _ (h .sized)) (words-every count isScalar s (a + 2 + rankAt s a) ∙ every-all isScalar (elementsAt s a) (h .scalars)))))
+      passes (passes (passes (passes (eq-eqb _ _ (h .clear)) (le-leb _ _ (h .rank)))
+      (words-every (rankAt s a) isLength s (a + 2) ∙ every-all isLength (shapeAt s a) (λ w k. le-leb _ _ (h .lengths w k))))
+      (eq-eqb _ _ (h .sized)))
+      (words-every count isScalar s (a + 2 + rankAt s a) ∙ every-all isScalar (elementsAt s a) (h .scalars))
 
   -- where all else is right, the elements decide
   array-open : getD s (a + 1) 0 % 2 ^ 16 ≡ rankAt s a → 1 ≤ rankAt s a → every isLength (shapeAt s a) ≡ true

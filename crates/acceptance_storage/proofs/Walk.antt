@@ -1,7 +1,7 @@
 -- The loop of the walk: what it has marked and what is left make up the whole.
 use Prim.Native.Nat.{ℕ, _+_, _-_, _^_, _<_, _≤_}
 use mathlib.Core.Path.{_≡_, refl, sym, _∙_, ap}
-use mathlib.Core.Bool.{Bool, true, false, cond}
+use mathlib.Core.Bool.{Bool, true, false, cond, _&&_, and-true, and-false}
 use mathlib.Core.List.{List}
 use native.Mathlib.Omega.{arith}
 use lib.ListN.{getD, set, length, length-set}
@@ -11,7 +11,7 @@ use Rattle.segment.specs.State.{blockptr}
 use Rattle.segment.specs.Blocks.{freeAt, sizeAt, spanAt, dummy}
 use Rattle.storage.specs.Heap.{count, prevFreeBit}
 use Rattle.acceptance_storage.specs.declared.blocks.Blocks.the-variants.{Improper, Proper}
-use Rattle.acceptance_storage.specs.Tests.{_and_, every}
+use Rattle.acceptance_storage.specs.Tests.{every}
 use Rattle.acceptance_storage.specs.Blocks.{blockSpan, walkFrom, walkTest, startsFrom, freeStarts, arrayStarts, arrayTest, blocksTest}
 use Rattle.acceptance_storage.specs.Marks.{Clear, Marked}
 use Rattle.acceptance_storage.specs.Answer.{blocksAnswer, insideTest}
@@ -37,7 +37,7 @@ module _ (s arrays frees : List ℕ) where
 
 pub dummy-bad : (s : List ℕ) (end : ℕ) → end ≡ dummy s → (getD s (end + 2) 0 ≡ 0 → ⊥) → blocksTest s ≡ false
 unfolding blocksTest
-dummy-bad s end e h = second-fails (walkTest s) (simp (ne-eqb (getD s (dummy s + 2) 0) 0 (rw e at h)))
+dummy-bad s end e h = simp (ne-eqb (getD s (dummy s + 2) 0) 0 (rw e at h), and-false (walkTest s))
 
 -- a block that fits is stepped over by its SIZE and SLOP
 pub steps : (s : List ℕ) (a : ℕ) (before : Bool) (end : ℕ) → (blockSpan s a before ≡ 0 → ⊥) → a + blockSpan s a before ≤ end → end < 2 ^ 16 → spanAt s a ≡ blockSpan s a before
@@ -50,7 +50,7 @@ pub record Walking (s arrays frees : List ℕ) (a : ℕ) (before : Bool) (found 
   pub near : a ≤ dummy s
   pub arraysLong : length s ≤ length arrays
   pub freesLong : length s ≤ length frees
-  pub same : blocksTest s ≡ (walkFrom left s a before (dummy s) and every (arrayTest s) (startsFrom false left s a (dummy s)))
+  pub same : blocksTest s ≡ (walkFrom left s a before (dummy s) && every (arrayTest s) (startsFrom false left s a (dummy s)))
   pub number : found + length (startsFrom true left s a (dummy s)) ≡ length (freeStarts s)
   pub arrayMarks : (x : ℕ) → getD arrays x 0 + count x (startsFrom false left s a (dummy s)) ≡ count x (arrayStarts s)
   pub freeMarks : (x : ℕ) → getD frees x 0 + count x (startsFrom true left s a (dummy s)) ≡ count x (freeStarts s)
@@ -68,7 +68,7 @@ module _ (s arrays frees : List ℕ) where
         near = omega arith;
         arraysLong = p .long;
         freesLong = q .long;
-        same = simp (eq-eqb (getD s (dummy s + 2) 0) 0 z);
+        same = simp (eq-eqb (getD s (dummy s + 2) 0) 0 z, and-true);
         number = omega arith;
         arrayMarks = λ x. omega (arith, p .empty x);
         freeMarks = λ x. omega (arith, q .empty x);
@@ -93,11 +93,7 @@ module _ (s arrays frees : List ℕ) where
           let e : a ≡ dummy s = omega (arith, h .near) in
           let n : 0 < h .left = omega (arith, h .enough) in
           h .same
-          ∙ rw (walk-end s a (dummy s) (h .left) n before e, starts-end s a (dummy s) (h .left) n false over) (all (eqb (getD s a 0) (prevFreeBit before)))
-        where
-          all : (b : Bool) → (b and true) ≡ b
-          all true = refl
-          all false = refl
+          ∙ rw (walk-end s a (dummy s) (h .left) n before e, starts-end s a (dummy s) (h .left) n false over) (and-true (eqb (getD s a 0) (prevFreeBit before)))
 
       pub walking-no : (end bit : ℕ) → end ≡ dummy s → bit ≡ prevFreeBit before → (getD s end 0 ≡ bit → ⊥) → blocksTest s ≡ false
       walking-no end bit e b n =
@@ -124,11 +120,11 @@ module _ (s arrays frees : List ℕ) where
       on e = omega arith
 
       pub walking-bad : blockSpan s a before ≡ 0 → blocksTest s ≡ false
-      walking-bad e = h .same ∙ ap (λ (b : Bool). b and every (arrayTest s) (startsFrom false (h .left) s a (dummy s))) (walk-bad s a (dummy s) (h .left) some before on e)
+      walking-bad e = h .same ∙ ap (λ (b : Bool). b && every (arrayTest s) (startsFrom false (h .left) s a (dummy s))) (walk-bad s a (dummy s) (h .left) some before on e)
 
       module _ (covers : blockSpan s a before ≡ 0 → ⊥) where
         pub walking-past : dummy s < a + blockSpan s a before → blocksTest s ≡ false
-        walking-past l = h .same ∙ ap (λ (b : Bool). b and every (arrayTest s) (startsFrom false (h .left) s a (dummy s))) (walk-past s a (dummy s) (h .left) some before on covers l)
+        walking-past l = h .same ∙ ap (λ (b : Bool). b && every (arrayTest s) (startsFrom false (h .left) s a (dummy s))) (walk-past s a (dummy s) (h .left) some before on covers l)
 
         module _ (fits : a + blockSpan s a before ≤ dummy s) (short : length s ≤ 16384) (room : dummy s + 2 < length s) where
           stepped : spanAt s a ≡ blockSpan s a before
@@ -138,23 +134,23 @@ module _ (s arrays frees : List ℕ) where
           walking-fits = let e = stepped in (omega arith, omega arith)
 
           -- what an array's inside says of the arrays that are left
-          arrays-step : every (arrayTest s) (startsFrom false (h .left) s a (dummy s)) ≡ (insideTest s a and every (arrayTest s) (startsFrom false (h .left - 1) s (a + blockSpan s a before) (dummy s)))
+          arrays-step : every (arrayTest s) (startsFrom false (h .left) s a (dummy s)) ≡ (insideTest s a && every (arrayTest s) (startsFrom false (h .left - 1) s (a + blockSpan s a before) (dummy s)))
           arrays-step = rw (← stepped) (go (freeAt s a) refl)
             where
-              go : (f : Bool) → freeAt s a ≡ f → every (arrayTest s) (startsFrom false (h .left) s a (dummy s)) ≡ (insideTest s a and every (arrayTest s) (startsFrom false (h .left - 1) s (a + spanAt s a) (dummy s)))
+              go : (f : Bool) → freeAt s a ≡ f → every (arrayTest s) (startsFrom false (h .left) s a (dummy s)) ≡ (insideTest s a && every (arrayTest s) (startsFrom false (h .left - 1) s (a + spanAt s a) (dummy s)))
               go true f = ap (every (arrayTest s)) (array-miss s a (dummy s) (h .left) some low f) ∙ simp f
               go false f = ap (every (arrayTest s)) (array-hit s a (dummy s) (h .left) some low f) ∙ simp f
 
           pub walking-inside : insideTest s a ≡ false → blocksTest s ≡ false
           walking-inside e =
               h .same
-              ∙ second-fails (walkFrom (h .left) s a before (dummy s)) (arrays-step ∙ ap (λ (b : Bool). b and every (arrayTest s) (startsFrom false (h .left - 1) s (a + blockSpan s a before) (dummy s))) e)
+              ∙ second-fails (walkFrom (h .left) s a before (dummy s)) (arrays-step ∙ ap (λ (b : Bool). b && every (arrayTest s) (startsFrom false (h .left - 1) s (a + blockSpan s a before) (dummy s))) e)
 
           module _ (inside : insideTest s a ≡ true) where
-            same-on : blocksTest s ≡ (walkFrom (h .left - 1) s (a + blockSpan s a before) (freeAt s a) (dummy s) and every (arrayTest s) (startsFrom false (h .left - 1) s (a + blockSpan s a before) (dummy s)))
+            same-on : blocksTest s ≡ (walkFrom (h .left - 1) s (a + blockSpan s a before) (freeAt s a) (dummy s) && every (arrayTest s) (startsFrom false (h .left - 1) s (a + blockSpan s a before) (dummy s)))
             same-on =
                 h .same
-                ∙ rw (walk-on s a (dummy s) (h .left) some before on covers fits, arrays-step) (ap (λ (b : Bool). walkFrom (h .left - 1) s (a + blockSpan s a before) (freeAt s a) (dummy s) and (b and every (arrayTest s) (startsFrom false (h .left - 1) s (a + blockSpan s a before) (dummy s)))) inside)
+                ∙ rw (walk-on s a (dummy s) (h .left) some before on covers fits, arrays-step) (ap (λ (b : Bool). walkFrom (h .left - 1) s (a + blockSpan s a before) (freeAt s a) (dummy s) && (b && every (arrayTest s) (startsFrom false (h .left - 1) s (a + blockSpan s a before) (dummy s)))) inside)
 
             free-on : freeAt s a ≡ true → Walking s arrays (set frees a (getD frees a 0 + 1)) (a + blockSpan s a before) true (found + 1)
             free-on f =
