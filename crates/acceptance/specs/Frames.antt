@@ -9,6 +9,7 @@ use lib.ListN.{length}
 use lib.Dec.{leb, ltb, eqb}
 use Rattle.segment.specs.State.{ltop, lbase}
 use Rattle.segment.specs.Stack.{lastLbaseAt, codeWordAt, alternate, functionNumber}
+use Rattle.acceptance.specs.declared.frames.Frame.{Frame}
 use Rattle.procedure.specs.Directory.{selected, hasFunction, nargsOf, nlocalsOf}
 
 -- The procedure segment of the function that a frame's second word names.
@@ -36,13 +37,16 @@ framesPass (suc fuel) has size s base =
     && cond (eqb (lastLbaseAt s base) base) (eqb (size (codeWordAt s base)) base)
     (leb (lastLbaseAt s base + 2 + size (codeWordAt s base)) base && older)
 
+-- The frames from the one at `base` down, with functions by their directories.
+abbrev pub chainTest : List ℕ → List ℕ → List ℕ → ℕ → Bool
+chainTest s regular other base = framesPass (length s) (known regular other) (variables regular other) s base
+
 unfoldable pub framesTest : List ℕ → List ℕ → List ℕ → Bool
-framesTest s regular other =
-    leb (lbase s + 1) (ltop s) && framesPass (length s) (known regular other) (variables regular other) s (lbase s)
+framesTest s regular other = leb (lbase s + 1) (ltop s) && chainTest s regular other (lbase s)
 
 -- What the code reads of the frame at `base`: its two words, and how many arguments and variables its function has.
-pub record FrameAt (s regular other : List ℕ) (base first second args size : ℕ) : Type 0 where
-  pub last : first ≡ lastLbaseAt s base
-  pub code : second ≡ codeWordAt s base
-  pub arguments : args ≡ arguments regular other (codeWordAt s base)
-  pub variables : size ≡ variables regular other (codeWordAt s base)
+pub record FrameAt (s regular other : List ℕ) (base : ℕ) (frame : Frame) : Type 0 where
+  pub last : frame .last .0 ≡ lastLbaseAt s base
+  pub code : frame .code ≡ codeWordAt s base
+  pub arguments : frame .arguments ≡ arguments regular other (codeWordAt s base)
+  pub variables : frame .variables ≡ variables regular other (codeWordAt s base)

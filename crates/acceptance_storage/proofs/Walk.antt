@@ -13,7 +13,7 @@ use Rattle.storage.specs.Heap.{count, prevFreeBit}
 use Rattle.acceptance_storage.specs.declared.blocks.Blocks.the-variants.{Improper, Proper}
 use Rattle.acceptance_storage.specs.Tests.{every}
 use Rattle.acceptance_storage.specs.Blocks.{blockSpan, walkFrom, walkTest, startsFrom, freeStarts, arrayStarts, arrayTest, blocksTest}
-use Rattle.acceptance_storage.specs.Marks.{Clear, Marked}
+use Rattle.acceptance_storage.specs.Marks.{BeforeWalk, Marked}
 use Rattle.acceptance_storage.specs.Answer.{blocksAnswer, insideTest}
 use Rattle.acceptance_storage.proofs.Tests.{never, second-fails}
 use Rattle.storage_theorems.proofs.Counts.{count-le}
@@ -56,22 +56,21 @@ pub record Walking (s arrays frees : List ℕ) (a : ℕ) (before : Bool) (found 
   pub freeMarks : (x : ℕ) → getD frees x 0 + count x (startsFrom true left s a (dummy s)) ≡ count x (freeStarts s)
 
 module _ (s arrays frees : List ℕ) where
-  pub walking-start : (from : ℕ) → from ≡ blockptr s → from ≤ dummy s → dummy s + 2 < length s → getD s (dummy s + 2) 0 ≡ 0
-      → Clear arrays (length s) → Clear frees (length s) → Walking s arrays frees from false 0
+  pub walking-start : {from end : ℕ} → BeforeWalk s arrays frees from end → Walking s arrays frees from false 0
   unfolding blocksTest walkTest freeStarts arrayStarts
-  walking-start from e l h z p q =
-      rw e
+  walking-start h =
+      rw (h .first)
       (record {
         left = length s;
         few = omega arith;
-        enough = omega arith;
-        near = omega arith;
-        arraysLong = p .long;
-        freesLong = q .long;
-        same = simp (eq-eqb (getD s (dummy s + 2) 0) 0 z, and-true);
+        enough = omega (arith, h .inside, h .dummy);
+        near = omega (arith, h .first, h .order, h .dummy);
+        arraysLong = h .arrayTable .long;
+        freesLong = h .freeTable .long;
+        same = simp (eq-eqb (getD s (dummy s + 2) 0) 0 (rw (h .dummy) at (h .last)), and-true);
         number = omega arith;
-        arrayMarks = λ x. omega (arith, p .empty x);
-        freeMarks = λ x. omega (arith, q .empty x);
+        arrayMarks = λ x. omega (arith, h .arrayTable .empty x);
+        freeMarks = λ x. omega (arith, h .freeTable .empty x);
       })
 
   module _ (a : ℕ) (before : Bool) (found : ℕ) (h : Walking s arrays frees a before found) where

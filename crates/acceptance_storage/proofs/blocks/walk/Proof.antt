@@ -16,7 +16,7 @@ abbrev μ-loop : tie.MeasureT-loop
 μ-loop seg from end arrays₀ frees₀ a₀ before₀ found₀ arrays frees a before found = end - a
 
 loop-holds : tie.Need-loop-holds Inv-loop μ-loop
-loop-holds c = (c .before .before .before .pre .1, omega arith, omega arith, refl, refl, walking-start _ _ _ _ (c .before .before .before .pre .0) (omega arith) (omega arith) (rw (c .before .before .before .pre .1) at (c .before .before .before .pre .5)) (c .before .before .before .pre .6) (c .before .before .before .pre .7))
+loop-holds c = let h = c .before .before .before .pre in (h .dummy, h .inside, h .longest, refl, refl, walking-start _ _ _ h)
 
 block-span-requires : tie.Need-block-span-requires Inv-loop μ-loop
 block-span-requires c κs = omega arith
