@@ -13,7 +13,8 @@ use Rattle.procedure.specs.Directory.{headerOfFunction}
 use Rattle.descriptor.proofs.Truth.{by-le, by-eq}
 use Rattle.acceptance_storage.proofs.Tests.{both}
 use Rattle.acceptance.specs.declared.frames.Frame.{Frame}
-use Rattle.acceptance.specs.Frames.{frameSegment, known, arguments, variables, framesPass, chainTest, framesTest, FrameAt}
+use Rattle.acceptance.specs.Frames.{frameSegment, known, arguments, variables, framesPass, framesTest, FrameAt}
+use Rattle.acceptance.specs.Tables.{chainTest}
 
 module _ (has : ℕ → Bool) (size : ℕ → ℕ) (s : List ℕ) (base : ℕ) where
   pub frames-none : (n : ℕ) → n ≤ 0 → framesPass n has size s base ≡ false

@@ -8,9 +8,9 @@ use Rattle.segment.specs.State.{sbase}
 use Rattle.acceptance_storage.specs.Head.{headTest, Head}
 use Rattle.acceptance_storage.specs.Blocks.{arrayStarts, freeStarts, blocksTest}
 use Rattle.acceptance_storage.specs.Marks.{Tally, Clear, Marked}
-use Rattle.acceptance.specs.Frames.{chainTest, framesTest}
-use Rattle.acceptance.specs.Cells.{range, chainVariables}
-use Rattle.acceptance.specs.Tables.{Holds, CanRise}
+use Rattle.acceptance.specs.Frames.{framesTest}
+use Rattle.acceptance.specs.Cells.{range}
+use Rattle.acceptance.specs.Tables.{Holds, CanRise, chainTest, chainVariables}
 
 -- Before test 15: tests 13 and 14 have passed; the arrays are marked in one table, the free blocks, `count` of them, in the other.
 pub record BeforeRing (s arrays marks : List ℕ) (count : ℕ) : Type 0 where

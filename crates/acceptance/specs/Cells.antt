@@ -61,9 +61,6 @@ variablesFrom (suc fuel) size s base =
     let start = base - size (codeWordAt s base) in
     range start (base - start) ++ cond (leb base (lastLbaseAt s base)) [] older
 
-abbrev pub chainVariables : List ℕ → List ℕ → List ℕ → ℕ → List ℕ
-chainVariables s regular alternate base = variablesFrom (length s) (variables regular alternate) s base
-
 -- The cells of the frame at `base` that starts at `start`: its temporaries below `top`, which may name its own variables, its
 -- arguments, which may name those of older frames, and its locals.
 unfoldable pub frameCells : List ℕ → (ℕ → ℕ) → (ℕ → ℕ) → (ℕ → ℕ) → ℕ → ℕ → ℕ → ℕ → Bool
@@ -84,10 +81,7 @@ cellsFrom (suc fuel) args size s arrays base top =
     frameCells s arrays (inList (variablesFrom (suc fuel) size s base)) (inList older) (args w) start base top
     && cond bottom true further
 
-abbrev pub stackTest : List ℕ → List ℕ → List ℕ → (ℕ → ℕ) → ℕ → ℕ → Bool
-stackTest s regular alternate arrays base top = cellsFrom (length s) (arguments regular alternate) (variables regular alternate) s arrays base top
-
 unfoldable pub cellsTest : List ℕ → List ℕ → List ℕ → Bool
 cellsTest s regular alternate =
     wordsWhere (blockptr s - 8) (plainCell (inList (arrayStarts s))) s 8
-    && stackTest s regular alternate (inList (arrayStarts s)) (lbase s) (ltop s + 1)
+    && cellsFrom (length s) (arguments regular alternate) (variables regular alternate) s (inList (arrayStarts s)) (lbase s) (ltop s + 1)

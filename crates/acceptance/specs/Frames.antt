@@ -37,12 +37,9 @@ framesPass (suc fuel) has size s base =
     && cond (eqb (lastLbaseAt s base) base) (eqb (size (codeWordAt s base)) base)
     (leb (lastLbaseAt s base + 2 + size (codeWordAt s base)) base && older)
 
--- The frames from the one at `base` down, with functions by their directories.
-abbrev pub chainTest : List ℕ → List ℕ → List ℕ → ℕ → Bool
-chainTest s regular other base = framesPass (length s) (known regular other) (variables regular other) s base
-
 unfoldable pub framesTest : List ℕ → List ℕ → List ℕ → Bool
-framesTest s regular other = leb (lbase s + 1) (ltop s) && chainTest s regular other (lbase s)
+framesTest s regular other =
+    leb (lbase s + 1) (ltop s) && framesPass (length s) (known regular other) (variables regular other) s (lbase s)
 
 -- What the code reads of the frame at `base`: its two words, and how many arguments and variables its function has.
 pub record FrameAt (s regular other : List ℕ) (base : ℕ) (frame : Frame) : Type 0 where

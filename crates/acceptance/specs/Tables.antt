@@ -1,10 +1,10 @@
--- The tables that tests 17 and 18 keep beside a segment, and the cells that they are about. No theorem speaks of these.
--- Assumes nothing.
+-- The tables that tests 17 and 18 keep beside a segment, and what the code's parts of tests 16–18 are about. No theorem speaks
+-- of these. Assumes nothing.
 use Prim.Native.Nat.{ℕ, _+_, _-_, _≤_, _<_, _^_, suc}
 use mathlib.Core.Path.{_≡_}
-use mathlib.Core.Bool.{Bool, cond, _&&_}
+use mathlib.Core.Bool.{Bool, false, cond, _&&_}
 use mathlib.Core.List.{List, _++_}
-use lib.ListN.{getD, set}
+use lib.ListN.{getD, set, length}
 use lib.Dec.{leb}
 use Rattle.descriptor.specs.Fields.{isArray, address, arrayWord}
 use Rattle.segment.specs.State.{sbase}
@@ -12,8 +12,9 @@ use Rattle.segment.specs.Blocks.{part}
 use Rattle.segment.specs.Machine.{cellsOfFrames}
 use Rattle.segment.specs.View.{framesFrom, owners}
 use Rattle.storage.specs.Heap.{count}
-use Rattle.acceptance_storage.specs.Blocks.{arrayStarts}
-use Rattle.acceptance.specs.Cells.{inTable, range, frameCells}
+use Rattle.acceptance_storage.specs.Blocks.{startsFrom, arrayStarts}
+use Rattle.acceptance.specs.Frames.{known, arguments, variables, framesPass}
+use Rattle.acceptance.specs.Cells.{inTable, range, variablesFrom, frameCells, cellsFrom}
 
 -- ---- tables
 
@@ -52,7 +53,21 @@ TalliedAt s arrays table = (x : ℕ) → 0 < count x arrays → getD table x 0 �
 abbrev pub Tallied : List ℕ → List ℕ → Type 0
 Tallied s table = TalliedAt s (arrayStarts s) table
 
--- ---- the cells of frames
+-- The arrays from `a` up to `end`.
+abbrev pub arraysFrom : List ℕ → ℕ → ℕ → List ℕ
+arraysFrom s a end = startsFrom false (length s) s a end
+
+-- ---- frames and their cells
+
+-- The frames from the one at `base` down: test 16, their variables, and test 17, with the temporaries of the first below `top`.
+abbrev pub chainTest : List ℕ → List ℕ → List ℕ → ℕ → Bool
+chainTest s regular alternate base = framesPass (length s) (known regular alternate) (variables regular alternate) s base
+
+abbrev pub chainVariables : List ℕ → List ℕ → List ℕ → ℕ → List ℕ
+chainVariables s regular alternate base = variablesFrom (length s) (variables regular alternate) s base
+
+abbrev pub stackTest : List ℕ → List ℕ → List ℕ → (ℕ → ℕ) → ℕ → ℕ → Bool
+stackTest s regular alternate arrays base top = cellsFrom (length s) (arguments regular alternate) (variables regular alternate) s arrays base top
 
 -- The cells of one frame: its temporaries below `top`, and its arguments and locals from `start` on.
 abbrev pub cellsOfFrame : List ℕ → ℕ → ℕ → ℕ → List ℕ

@@ -2,7 +2,8 @@
 ghost use mathlib.Core.Path.{_≡_};
 ghost use Rattle.segment.specs.Stack as stack;
 ghost use Rattle.procedure.specs.Directory.{headerOfFunction};
-ghost use Rattle.acceptance.specs.Frames.{frameSegment, known, chainTest, framesTest, FrameAt};
+ghost use Rattle.acceptance.specs.Frames.{frameSegment, known, framesTest, FrameAt};
+ghost use Rattle.acceptance.specs.Tables.{chainTest};
 use descriptor::address::StackAddress;
 use procedure::directory::in_directory;
 use procedure::directory::start_of;

@@ -7,7 +7,8 @@ use borrow.Author.Tests.{not-true, not-false}
 use lib.ListN.{length}
 use Rattle.acceptance_storage.specs.Marks.{Tally}
 use Rattle.acceptance.specs.Frames.{arguments, variables}
-use Rattle.acceptance.specs.Cells.{inTable, variablesFrom, cellsFrom, stackTest}
+use Rattle.acceptance.specs.Cells.{inTable, variablesFrom, cellsFrom}
+use Rattle.acceptance.specs.Tables.{stackTest}
 use Rattle.acceptance.proofs.Chain.{chainFrom, few-arguments, low-enough, at-bottom, above}
 use Rattle.acceptance.proofs.FrameCells.{never, cells-none, own-marked, frame-alike, frame-fails, frame-bottom, frame-on, older-marked}
 use Rattle.acceptance.proofs.Tallies.{Down, down-start, down-bottom, down-on}

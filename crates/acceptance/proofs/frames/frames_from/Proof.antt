@@ -3,7 +3,7 @@ use mathlib.Core.Path.{_≡_, refl, sym, _∙_}
 use native.Mathlib.Omega.{arith}
 use borrow.Author.Needs.{needs}
 use borrow.Author.Tests.{not-true, not-false}
-use Rattle.acceptance.specs.Frames.{chainTest}
+use Rattle.acceptance.specs.Tables.{chainTest}
 use Rattle.acceptance.proofs.Chain.{chainFrom, frames-none, absent, bottom, low, further}
 use Rattle.acceptance.proofs.frames.frames_from.Statement.{statement}
 use Rattle.acceptance.proofs.frames.frames_from.Tie as tie
