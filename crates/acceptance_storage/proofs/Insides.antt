@@ -148,25 +148,29 @@ module _ (s : List ℕ) (a : ℕ) where
     pub inside-fails : (Inside s a (sizeAt s a) → ⊥) → false ≡ insideTest s a
     inside-fails h = sym (array-inside ∙ fails (arrayTest s a) (λ t. h (array-sound s a t)))
 
-    module _ (fits : a + sizeAt s a ≤ length s) (rank : ℕ) (e : rank ≡ rankAt s a) (low : 2 + rank ≤ sizeAt s a) where
+    module _ (fits : a + sizeAt s a ≤ length s) {rank : ℕ} (e : rank ≡ getD s (a + 1) 0 % 2 ^ 16) (some : rank ≡ 0 → ⊥) (few : rank ≤ 15)
+        (low : 2 + rank ≤ sizeAt s a) where
+      rank-is : rank ≡ rankAt s a
+      rank-is = omega arith
+
       shape-is : take (a + 2 + rank - (a + 2)) (drop (a + 2) s) ≡ shapeAt s a
       unfolding shapeAt
-      shape-is = part-of s (a + 2) (a + 2 + rank) rank refl (omega arith) ∙ rw e
+      shape-is = part-of s (a + 2) (a + 2 + rank) rank refl (omega arith) ∙ rw rank-is
 
       pub inside-count : Inside s a (sizeAt s a) → elementCount (take (a + 2 + rank - (a + 2)) (drop (a + 2) s)) ≡ sizeAt s a - (2 + rank)
       unfolding elementCount
       inside-count h =
           ap elementCount shape-is
           ∙ simp (every-all isLength (shapeAt s a) (λ w k. le-leb _ _ (h .lengths w k)))
-          (capped-low (product (shapeAt s a)) (omega (arith, h .sized)) ∙ omega (arith, h .sized))
+          (capped-low (product (shapeAt s a)) (omega (arith, h .sized)) ∙ omega (arith, h .sized, rank-is))
 
       -- where the number of elements is right, the elements decide
-      pub inside-elements : getD s (a + 1) 0 % 2 ^ 16 ≡ rank → 1 ≤ rank → elementCount (take (a + 2 + rank - (a + 2)) (drop (a + 2) s)) ≡ sizeAt s a - (2 + rank)
+      pub inside-elements : elementCount (take (a + 2 + rank - (a + 2)) (drop (a + 2) s)) ≡ sizeAt s a - (2 + rank)
           → every isScalar (take (a + sizeAt s a - (a + 2 + rank)) (drop (a + 2 + rank) s)) ≡ insideTest s a
-      inside-elements c l n =
+      inside-elements n =
           let k = count-exact (shapeAt s a) (sizeAt s a - (2 + rank)) (ap elementCount (sym shape-is) ∙ n) (omega arith) in
-          let z : sizeAt s a ≡ 2 + rankAt s a + product (shapeAt s a) = omega (arith, k .1) in
-          ap (every isScalar) (elements-is z) ∙ sym (array-inside ∙ array-open s a (c ∙ e) (rw e at l) (k .0) z)
+          let z : sizeAt s a ≡ 2 + rankAt s a + product (shapeAt s a) = omega (arith, k .1, rank-is) in
+          ap (every isScalar) (elements-is z) ∙ sym (array-inside ∙ array-open s a (sym e ∙ rank-is) (omega (arith, rank-is)) (k .0) z)
         where
           elements-is : sizeAt s a ≡ 2 + rankAt s a + product (shapeAt s a) → take (a + sizeAt s a - (a + 2 + rank)) (drop (a + 2 + rank) s) ≡ elementsAt s a
-          elements-is z = part-of s (a + 2 + rank) (a + sizeAt s a) (product (shapeAt s a)) (omega arith) fits ∙ elements-at s a (a + 2 + rank) (omega arith)
+          elements-is z = part-of s (a + 2 + rank) (a + sizeAt s a) (product (shapeAt s a)) (omega (arith, rank-is)) fits ∙ elements-at s a (a + 2 + rank) (ap (λ (n : ℕ). a + 2 + n) rank-is)

@@ -92,19 +92,23 @@ module _ (s : List ℕ) (end : ℕ) (frees marks : List ℕ) (at left : ℕ) (h 
     pub round-bad : linked s at next ≡ false → roundFrom (length frees) s end end frees ≡ false
     round-bad k = h .same ∙ step-bad s end at (h .rest) left some (rw e at k)
 
-    module _ (k : linked s at next ≡ true) where
-      pub round-missing : getD marks next 0 ≡ 0 → roundFrom (length frees) s end end frees ≡ false
-      round-missing z = h .same ∙ step-missing s end at (h .rest) left some (rw e at k) (sym (h .tally (nextAt s at)) ∙ rw e at z)
+    module _ (k : linked s at next ≡ true) {place mark : ℕ} (there : place ≡ next) (m : mark ≡ getD marks place 0) where
+      found : mark ≡ count next (h .rest)
+      found = m ∙ ap (λ (i : ℕ). getD marks i 0) there ∙ h .tally next
 
-      pub round-on : 0 < getD marks next 0 → Round s end frees (set marks next (getD marks next 0 - 1)) next (left - 1)
-      round-on z =
-          let p : 0 < count next (h .rest) = omega (arith, h .tally next) in
-          record {
+      pub round-missing : mark ≡ 0 → roundFrom (length frees) s end end frees ≡ false
+      round-missing z = h .same ∙ step-missing s end at (h .rest) left some (rw e at k) (rw e at (sym found ∙ z))
+
+      pub round-on : (mark ≡ 0 → ⊥) → {after : List ℕ} → after ≡ set marks place (getD marks place 0 - 1) → Round s end frees after next (left - 1)
+      round-on z a =
+          let p : 0 < count next (h .rest) = omega (arith, found, z) in
+          rw (a, there)
+          (record {
             rest = without next (h .rest);
             many = omega (arith, h .many, without-length next (h .rest) p);
-            tally = λ x. omega (arith, lower-at marks next x z, without-count x next (h .rest) p, h .tally x);
+            tally = λ x. omega (arith, lower-at marks next x (omega (arith, h .tally next)), without-count x next (h .rest) p, h .tally x);
             same = h .same ∙ step-on s end at (h .rest) left some (rw e at k) (rw e at p) ∙ rw (← e);
-          }
+          })
 
 -- ROVER on the ring
 module _ (marks : List ℕ) (at end : ℕ) where
