@@ -58,13 +58,13 @@ module _ (s regular alternate vs frames : List ℕ) (w : ℕ) where
       go : (g : Bool) → namesGlobal w ≡ g → NamesGlobal s w ⊎ NamesVariable s regular alternate frames w
       go true e =
           let t = simp e at (both (isIndirect w) _ h .1) in
-          let b = both (leb 8 (address w)) _ t in
-          let d = both (ltb (address w) (blockptr s)) (not (isIndirect (getD s (address w) 0))) (b .1) in
+          let d = both _ (not (isIndirect (getD s (address w) 0))) t in
+          let b = both (leb 8 (address w)) (ltb (address w) (blockptr s)) (d .0) in
           inl (record {
             target = address w;
             word = global-made w (eqb-true (w / 2 ^ 17) 0x180 ind) (eqb-true (w / 2 ^ 16 % 2) 1 e);
             low = leb-true 8 (address w) (b .0);
-            high = ltb-true (address w) (blockptr s) (d .0);
+            high = ltb-true (address w) (blockptr s) (b .1);
             direct = not-true (isIndirect (getD s (address w) 0)) (d .1);
           })
       go false e =
@@ -83,7 +83,7 @@ module _ (s regular alternate vs frames : List ℕ) (w : ℕ) where
   pointing-complete small v (inl g) =
       let f = global-fields w (g .target) (g .word) (omega (arith, g .high)) in
       simp (eq-eqb (w / 2 ^ 17) 0x180 (f .0), eq-eqb (w / 2 ^ 16 % 2) 1 (f .1), f .2)
-      (passes (le-leb 8 (g .target) (g .low)) (passes (lt-ltb (g .target) (blockptr s) (g .high)) (ap not (g .direct))))
+      (passes (passes (le-leb 8 (g .target) (g .low)) (lt-ltb (g .target) (blockptr s) (g .high))) (ap not (g .direct)))
   pointing-complete small v (inr g) =
       let k = v (g .target) (g .variable) in
       let f = local-fields w (g .target) (g .word) (k .1) in

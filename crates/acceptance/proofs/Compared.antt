@@ -1,7 +1,7 @@
 -- Test 18 array by array: what the arrays from one block on come to.
 use Prim.Native.Nat.{ℕ, zero, suc, _+_, _-_, _<_, _≤_, _^_}
 use mathlib.Core.Path.{_≡_, refl, sym, _∙_, ap}
-use mathlib.Core.Bool.{Bool, true, false, cond}
+use mathlib.Core.Bool.{Bool, true, false, cond, _&&_}
 use mathlib.Core.List.{List, [], _∷_}
 use native.Mathlib.Omega.{arith}
 use lib.ListN.{getD, length}
@@ -16,13 +16,13 @@ use Rattle.storage_theorems.proofs.Counts.{hit-eq, hit-not, hit-same, count-le}
 use Rattle.segment.specs.View.{owners}
 use Rattle.acceptance_storage.specs.Tests.{every}
 use Rattle.acceptance_storage.specs.Head.{Head}
-use Rattle.acceptance_storage.specs.Blocks.{walkFrom, walkTest, startsFrom, arrayStarts, blocksTest}
+use Rattle.acceptance_storage.specs.Blocks.{startsFrom, arrayStarts, blocksTest}
 use Rattle.acceptance_storage.specs.Marks.{Tally}
 use Rattle.acceptance_storage.specs.Structure.{arrays}
 use Rattle.descriptor.proofs.Truth.{by-eq}
-use Rattle.acceptance_storage.proofs.Tests.{both}
 use Rattle.acceptance_storage.proofs.Starts.{starts-few, starts-end, array-hit, array-miss}
-use Rattle.acceptance_storage.proofs.Tiling.{Tiled, walk-sound, walk-starts}
+use Rattle.acceptance_storage.proofs.Tiling.{Tiled, walk-starts}
+use Rattle.acceptance_storage.proofs.Structure.{blocks-facts, walk-tiles}
 use Rattle.acceptance.specs.Counts.{countTest, countsTest}
 use Rattle.acceptance.specs.Tables.{Tallied, Met}
 
@@ -41,11 +41,11 @@ module _ (test : ℕ → Bool) (s : List ℕ) (a end n : ℕ) where
 
     module _ (low : a < end) where
       turn : every test (startsFrom false n s a end)
-          ≡ cond (cond (freeAt s a) true (test a)) (every test (startsFrom false (n - 1) s (a + spanAt s a) end)) false
+          ≡ cond (freeAt s a) true (test a) && every test (startsFrom false (n - 1) s (a + spanAt s a) end)
       turn = go (freeAt s a) refl
         where
           go : (f : Bool) → freeAt s a ≡ f → every test (startsFrom false n s a end)
-              ≡ cond (cond (freeAt s a) true (test a)) (every test (startsFrom false (n - 1) s (a + spanAt s a) end)) false
+              ≡ cond (freeAt s a) true (test a) && every test (startsFrom false (n - 1) s (a + spanAt s a) end)
           go true f = ap (every test) (array-miss s a end n pos low f) ∙ simp f
           go false f = ap (every test) (array-hit s a end n pos low f) ∙ simp f
 
@@ -101,9 +101,9 @@ arrays-below s a before (array z m ∷ blocks) x h k =
 
 starts-once : (s : List ℕ) (x : ℕ) → Head s → length s ≤ 16384 → blocksTest s ≡ true → 0 < count x (arrayStarts s)
     → (count x (arrayStarts s) ≡ 1) × (x < 2 ^ 16)
-unfolding blocksTest walkTest arrayStarts Tiled
+unfolding arrayStarts Tiled
 starts-once s x h l t k =
-    let w = walk-sound (length s) s (blockptr s) false (dummy s) (omega (arith, h .top)) (both (walkFrom (length s) s (blockptr s) false (dummy s)) _ t .0) in
+    let w = walk-tiles s h l (blocks-facts s t .0) in
     let e = rw (w .2) at (walk-starts (length s) s (blockptr s) false (w .0) (w .1) (omega (arith, w .2, h .top)) (omega (arith, w .2, h .top)) .1) in
     let c = rw e at k in
     rw e (

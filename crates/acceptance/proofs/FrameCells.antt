@@ -1,7 +1,7 @@
 -- Test 17 frame by frame: a table that says which variables are marked answers as the list of them does.
 use Prim.Native.Nat.{ℕ, zero, suc, _+_, _-_, _<_, _≤_}
 use mathlib.Core.Path.{_≡_, refl, sym, _∙_, ap}
-use mathlib.Core.Bool.{Bool, true, false, cond}
+use mathlib.Core.Bool.{Bool, true, false, cond, _&&_, false≢true}
 use mathlib.Core.List.{List, [], _++_}
 use mathlib.Core.Logic.{⊎-elim}
 use native.Mathlib.Omega.{arith}
@@ -15,7 +15,7 @@ use Rattle.segment.specs.Blocks.{part}
 use Rattle.segment.proofs.Parts.{part-take}
 use Rattle.storage.specs.Heap.{count}
 use Rattle.storage_theorems.proofs.Counts.{order}
-use Rattle.acceptance_storage.specs.Tests.{_and_, every, wordsWhere}
+use Rattle.acceptance_storage.specs.Tests.{every, wordsWhere}
 use Rattle.acceptance_storage.proofs.Tests.{words-every}
 use Rattle.acceptance_storage.specs.Blocks.{arrayStarts}
 use Rattle.acceptance_storage.specs.Marks.{Tally}
@@ -94,7 +94,7 @@ module _ (s t₀ m₀ : List ℕ) (args start base top : ℕ) {l₁ : List ℕ} 
           met-then (rw p₁ at h₁) (rw (n, ← part-join s (sbase s + start) args (base - (start + args))) (met-then (rw p₂ at h₂) (rw p₃ at h₃)))
 
 pub never : {A : Type 0} → false ≡ true → A
-never e = absurd (let z : _≡_ {A = ℕ} 0 1 = cc in omega arith)
+never e = absurd (false≢true e)
 
 -- The variables of the frames below the one at `base`.
 olderOf : ℕ → (ℕ → ℕ) → List ℕ → ℕ → List ℕ
@@ -108,20 +108,20 @@ module _ (args size : ℕ → ℕ) (s : List ℕ) (arrays : ℕ → ℕ) (base t
 
   step : (n : ℕ) → 0 < n → cellsFrom n args size s arrays base top
       ≡ frameCells s arrays (inList (variablesFrom n size s base)) (inList (olderOf (n - 1) size s base)) (args (codeWordAt s base)) (base - size (codeWordAt s base)) base top
-      and cond (leb base (lastLbaseAt s base)) true (cellsFrom (n - 1) args size s arrays (lastLbaseAt s base) (base - size (codeWordAt s base)))
+      && cond (leb base (lastLbaseAt s base)) true (cellsFrom (n - 1) args size s arrays (lastLbaseAt s base) (base - size (codeWordAt s base)))
   unfolding cellsFrom olderOf
   step zero l = absurd (omega arith)
   step (suc n) l = let e : suc n - 1 ≡ n = omega arith in rw e
 
   -- The same as a list says it, at the bottom frame and above it.
   pub cells-at-bottom : (n : ℕ) → 0 < n → base ≤ lastLbaseAt s base → cellsFrom n args size s arrays base top
-      ≡ frameCells s arrays (inList (variablesFrom n size s base)) (inList []) (args (codeWordAt s base)) (base - size (codeWordAt s base)) base top and true
+      ≡ frameCells s arrays (inList (variablesFrom n size s base)) (inList []) (args (codeWordAt s base)) (base - size (codeWordAt s base)) base top && true
   unfolding olderOf
   cells-at-bottom n pos l = step n pos ∙ simp (le-leb base (lastLbaseAt s base) l)
 
   pub cells-above : (n : ℕ) → 0 < n → {last : ℕ} → last ≡ lastLbaseAt s base → last < base → cellsFrom n args size s arrays base top
       ≡ frameCells s arrays (inList (variablesFrom n size s base)) (inList (variablesFrom (n - 1) size s last)) (args (codeWordAt s base)) (base - size (codeWordAt s base)) base top
-      and cellsFrom (n - 1) args size s arrays last (base - size (codeWordAt s base))
+      && cellsFrom (n - 1) args size s arrays last (base - size (codeWordAt s base))
   unfolding olderOf
   cells-above n pos e l = step n pos ∙ rw e (simp (lt-leb base (lastLbaseAt s base) (rw e at l)))
 
@@ -150,7 +150,7 @@ module _ (args size : ℕ → ℕ) (s : List ℕ) (arrays : ℕ → ℕ) (base t
 
     turn : cellsFrom n args size s arrays base top
         ≡ frameCells s arrays (inTable table) (lacking table (range start (base - start))) count₁ start base top
-        and cond (leb base last) true (cellsFrom (n - 1) args size s arrays last start)
+        && cond (leb base last) true (cellsFrom (n - 1) args size s arrays last start)
     turn = step n pos ∙ rw (frame, es, el)
 
     module _ {r : Bool} (q : r ≡ frameCells s arrays (inTable table) (lacking table (range start (base - start))) count₁ start base top) where

@@ -73,13 +73,13 @@ module _ (arrays : ℕ → ℕ) (s regular alternate own under : List ℕ) (base
       → FrameCells (λ a. 1 ≤ arrays a) s regular alternate base top older
   unfolding frameCells
   frame-sound v u h =
-      let p = both (wordsWhere (top - (base + 2)) (freeCell s arrays (inList own)) s (sbase s + base + 2)) _ h in
-      let q = both (wordsWhere (arguments regular alternate (codeWordAt s base)) (freeCell s arrays (inList under)) s (sbase s + frameStart s regular alternate base)) _ (p .1) in
+      let q = both _ (wordsWhere (base - localsOf s regular alternate base) (plainCell arrays) s (sbase s + frameStart s regular alternate base + arguments regular alternate (codeWordAt s base))) h in
+      let p = both (wordsWhere (top - (base + 2)) (freeCell s arrays (inList own)) s (sbase s + base + 2)) _ (q .0) in
       record {
         temporaries = λ i l k. free-sound arrays s regular alternate own (base ∷ older) (stackAt s i) v
             (words-at (top - (base + 2)) (freeCell s arrays (inList own)) s (sbase s + base + 2) (p .0) (sbase s + i) (omega arith) (omega arith));
         arguments = λ i l k. free-sound arrays s regular alternate under older (stackAt s i) u
-            (words-at (arguments regular alternate (codeWordAt s base)) (freeCell s arrays (inList under)) s (sbase s + frameStart s regular alternate base) (q .0) (sbase s + i) (omega arith) (omega arith));
+            (words-at (arguments regular alternate (codeWordAt s base)) (freeCell s arrays (inList under)) s (sbase s + frameStart s regular alternate base) (p .1) (sbase s + i) (omega arith) (omega arith));
         locals = λ i l k. direct-sound arrays (stackAt s i)
             (words-at (base - localsOf s regular alternate base) (plainCell arrays) s (sbase s + frameStart s regular alternate base + arguments regular alternate (codeWordAt s base)) (q .1) (sbase s + i) (omega arith) (omega arith));
       }
@@ -91,15 +91,15 @@ module _ (arrays : ℕ → ℕ) (s regular alternate own under : List ℕ) (base
       → tested arrays s regular alternate own under base top ≡ true
   unfolding frameCells
   frame-complete small v u h =
-      passes (words-all (top - (base + 2)) (freeCell s arrays (inList own)) s (sbase s + base + 2)
+      passes (passes (words-all (top - (base + 2)) (freeCell s arrays (inList own)) s (sbase s + base + 2)
       (λ j l k. let e : sbase s + (j - sbase s) ≡ j = omega arith in
       free-complete arrays s regular alternate own (base ∷ older) (getD s j 0) small v (rw e at (h .temporaries (j - sbase s) (omega arith) (omega arith)))))
-      (passes (words-all (arguments regular alternate (codeWordAt s base)) (freeCell s arrays (inList under)) s (sbase s + frameStart s regular alternate base)
+      (words-all (arguments regular alternate (codeWordAt s base)) (freeCell s arrays (inList under)) s (sbase s + frameStart s regular alternate base)
       (λ j l k. let e : sbase s + (j - sbase s) ≡ j = omega arith in
-      free-complete arrays s regular alternate under older (getD s j 0) small u (rw e at (h .arguments (j - sbase s) (omega arith) (omega arith)))))
+      free-complete arrays s regular alternate under older (getD s j 0) small u (rw e at (h .arguments (j - sbase s) (omega arith) (omega arith))))))
       (words-all (base - localsOf s regular alternate base) (plainCell arrays) s (sbase s + frameStart s regular alternate base + arguments regular alternate (codeWordAt s base))
       (λ j l k. let e : sbase s + (j - sbase s) ≡ j = omega arith in
-      direct-complete arrays (getD s j 0) (rw e at (h .locals (j - sbase s) (omega arith) (omega arith))))))
+      direct-complete arrays (getD s j 0) (rw e at (h .locals (j - sbase s) (omega arith) (omega arith)))))
 
 -- The cells of all frames.
 pub stack-sound : (older : List ℕ) (n : ℕ) (arrays : ℕ → ℕ) (s regular alternate : List ℕ) (base top : ℕ) → base < n → Chain s regular alternate base older

@@ -1,7 +1,7 @@
 -- Cells met one after the other: each is one mark more at the array that it points to.
 use Prim.Native.Nat.{ℕ, _+_, _/_, _%_, _^_, _<_, _≤_}
 use mathlib.Core.Path.{_≡_, refl, sym, _∙_}
-use mathlib.Core.Bool.{Bool, true, false, cond}
+use mathlib.Core.Bool.{Bool, true, false, cond, _&&_}
 use mathlib.Core.List.{List, [], _∷_, _++_}
 use mathlib.Core.Logic.{⊎-elim}
 use native.Mathlib.Numerals.{add-one}
@@ -15,7 +15,7 @@ use Rattle.descriptor.specs.Kinds.{isScalar}
 use Rattle.descriptor.proofs.Scalars.{small-scalar, large-scalar}
 use Rattle.storage.specs.Heap.{hit, count}
 use Rattle.storage_theorems.proofs.Counts.{hit-cases, hit-not, count-append}
-use Rattle.acceptance_storage.specs.Tests.{_and_, every}
+use Rattle.acceptance_storage.specs.Tests.{every}
 use Rattle.acceptance_storage.proofs.Tests.{every-on, every-bad, every-end}
 use Rattle.acceptance_storage.proofs.Tallies.{inside-table, raise-at}
 use Rattle.acceptance.specs.Cells.{inTable, direct, freeCell}
@@ -187,7 +187,7 @@ module _ (arrays : ℕ → ℕ) (w : ℕ) (fits : w < 2 ^ 32) where
   unfolding direct
   direct-undefined k = go (isScalar w)
     where
-      go : (b : Bool) → true ≡ cond b true (cond (eqb w undefinedWord) true (isArray w and leb 1 (arrays (address w))))
+      go : (b : Bool) → true ≡ cond b true (cond (eqb w undefinedWord) true (isArray w && leb 1 (arrays (address w))))
       go true = refl
       go false = simp (eq-eqb w undefinedWord k)
 
@@ -195,6 +195,6 @@ module _ (arrays : ℕ → ℕ) (w : ℕ) (fits : w < 2 ^ 32) where
   unfolding direct
   direct-scalar k u = go (isScalar w)
     where
-      go : (b : Bool) → b ≡ cond b true (cond (eqb w undefinedWord) true (isArray w and leb 1 (arrays (address w))))
+      go : (b : Bool) → b ≡ cond b true (cond (eqb w undefinedWord) true (isArray w && leb 1 (arrays (address w))))
       go true = refl
       go false = simp (ne-eqb w undefinedWord u, ne-eqb (w / 2 ^ 16) 0x200 k)

@@ -2,7 +2,7 @@
 -- and temporaries (own frame too), and never target a cell holding another. Undefined may stand in any cell.", with decision 9
 -- of docs/DECISIONS.md. Assumes nothing.
 use Prim.Native.Nat.{ℕ, zero, suc, _+_, _-_, _/_, _%_, _^_}
-use mathlib.Core.Bool.{Bool, true, false, cond, not}
+use mathlib.Core.Bool.{Bool, true, false, cond, not, _&&_}
 use mathlib.Core.List.{List, [], _∷_, _++_}
 use lib.ListN.{getD, length}
 use lib.Dec.{leb, ltb, eqb}
@@ -11,7 +11,7 @@ use Rattle.descriptor.specs.Kinds.{isScalar}
 use Rattle.segment.specs.State.{sbase, ltop, lbase, blockptr}
 use Rattle.segment.specs.Stack.{lastLbaseAt, codeWordAt}
 use Rattle.storage.specs.Heap.{count}
-use Rattle.acceptance_storage.specs.Tests.{_and_, wordsWhere}
+use Rattle.acceptance_storage.specs.Tests.{wordsWhere}
 use Rattle.acceptance_storage.specs.Blocks.{arrayStarts}
 use Rattle.acceptance.specs.Frames.{arguments, variables}
 
@@ -31,15 +31,15 @@ namesGlobal w = eqb (w / 2 ^ 16 % 2) 1
 
 -- A scalar, undefined, or the word of an array, where `arrays` says how often an address is the start of one.
 unfoldable pub direct : (ℕ → ℕ) → ℕ → Bool
-direct arrays w = cond (isScalar w) true (cond (eqb w undefinedWord) true (isArray w and leb 1 (arrays (address w))))
+direct arrays w = cond (isScalar w) true (cond (eqb w undefinedWord) true (isArray w && leb 1 (arrays (address w))))
 
 -- An indirect word whose target is a global, or a variable by `variable`, and holds no indirect word.
 unfoldable pub pointing : List ℕ → (ℕ → ℕ) → ℕ → Bool
 pointing s variable w =
     isIndirect w
-    and cond (namesGlobal w)
-    (leb 8 (address w) and ltb (address w) (blockptr s) and not (isIndirect (getD s (address w) 0)))
-    (leb 1 (variable (address w)) and not (isIndirect (getD s (sbase s + address w) 0)))
+    && cond (namesGlobal w)
+    (leb 8 (address w) && ltb (address w) (blockptr s) && not (isIndirect (getD s (address w) 0)))
+    (leb 1 (variable (address w)) && not (isIndirect (getD s (sbase s + address w) 0)))
 
 -- A cell of a global or a local; and one of an argument or a temporary.
 abbrev pub plainCell : (ℕ → ℕ) → ℕ → Bool
@@ -66,8 +66,8 @@ variablesFrom (suc fuel) size s base =
 unfoldable pub frameCells : List ℕ → (ℕ → ℕ) → (ℕ → ℕ) → (ℕ → ℕ) → ℕ → ℕ → ℕ → ℕ → Bool
 frameCells s arrays own older args start base top =
     wordsWhere (top - (base + 2)) (freeCell s arrays own) s (sbase s + base + 2)
-    and wordsWhere args (freeCell s arrays older) s (sbase s + start)
-    and wordsWhere (base - (start + args)) (plainCell arrays) s (sbase s + start + args)
+    && wordsWhere args (freeCell s arrays older) s (sbase s + start)
+    && wordsWhere (base - (start + args)) (plainCell arrays) s (sbase s + start + args)
 
 -- The cells of the frames from the one at `base` down.
 unfoldable pub cellsFrom : ℕ → (ℕ → ℕ) → (ℕ → ℕ) → List ℕ → (ℕ → ℕ) → ℕ → ℕ → Bool
@@ -79,9 +79,9 @@ cellsFrom (suc fuel) args size s arrays base top =
     let older = cond bottom [] (variablesFrom fuel size s (lastLbaseAt s base)) in
     let further = cellsFrom fuel args size s arrays (lastLbaseAt s base) start in
     frameCells s arrays (inList (variablesFrom (suc fuel) size s base)) (inList older) (args w) start base top
-    and cond bottom true further
+    && cond bottom true further
 
 unfoldable pub cellsTest : List ℕ → List ℕ → List ℕ → Bool
 cellsTest s regular alternate =
     wordsWhere (blockptr s - 8) (plainCell (inList (arrayStarts s))) s 8
-    and cellsFrom (length s) (arguments regular alternate) (variables regular alternate) s (inList (arrayStarts s)) (lbase s) (ltop s + 1)
+    && cellsFrom (length s) (arguments regular alternate) (variables regular alternate) s (inList (arrayStarts s)) (lbase s) (ltop s + 1)

@@ -2,15 +2,15 @@
 -- every other frame starting above the older one's two words, and LTOP at least LBASE + 1", with decision 8 of
 -- docs/DECISIONS.md. Assumes nothing.
 use Prim.Native.Nat.{ℕ, zero, suc, _+_, _^_}
-use mathlib.Core.Bool.{Bool, false, cond}
+use mathlib.Core.Bool.{Bool, false, cond, _&&_}
 use mathlib.Core.Path.{_≡_}
 use mathlib.Core.List.{List}
 use lib.ListN.{length}
 use lib.Dec.{leb, ltb, eqb}
 use Rattle.segment.specs.State.{ltop, lbase}
 use Rattle.segment.specs.Stack.{lastLbaseAt, codeWordAt, alternate, functionNumber}
+use Rattle.acceptance.specs.declared.frames.Frame.{Frame}
 use Rattle.procedure.specs.Directory.{selected, hasFunction, nargsOf, nlocalsOf}
-use Rattle.acceptance_storage.specs.Tests.{_and_}
 
 -- The procedure segment of the function that a frame's second word names.
 abbrev pub frameSegment : List ℕ → List ℕ → ℕ → List ℕ
@@ -18,7 +18,7 @@ frameSegment regular other w = selected (eqb (alternate w) 1) regular other
 
 -- Bits 31–28 are zero and the function is in its directory.
 unfoldable pub known : List ℕ → List ℕ → ℕ → Bool
-known regular other w = ltb w (2 ^ 28) and hasFunction (frameSegment regular other w) (functionNumber w)
+known regular other w = ltb w (2 ^ 28) && hasFunction (frameSegment regular other w) (functionNumber w)
 
 -- Its arguments, and its arguments and locals.
 unfoldable pub arguments : List ℕ → List ℕ → ℕ → ℕ
@@ -34,16 +34,16 @@ framesPass zero has size s base = false
 framesPass (suc fuel) has size s base =
     let older = framesPass fuel has size s (lastLbaseAt s base) in
     has (codeWordAt s base)
-    and cond (eqb (lastLbaseAt s base) base) (eqb (size (codeWordAt s base)) base)
-    (leb (lastLbaseAt s base + 2 + size (codeWordAt s base)) base and older)
+    && cond (eqb (lastLbaseAt s base) base) (eqb (size (codeWordAt s base)) base)
+    (leb (lastLbaseAt s base + 2 + size (codeWordAt s base)) base && older)
 
 unfoldable pub framesTest : List ℕ → List ℕ → List ℕ → Bool
 framesTest s regular other =
-    leb (lbase s + 1) (ltop s) and framesPass (length s) (known regular other) (variables regular other) s (lbase s)
+    leb (lbase s + 1) (ltop s) && framesPass (length s) (known regular other) (variables regular other) s (lbase s)
 
 -- What the code reads of the frame at `base`: its two words, and how many arguments and variables its function has.
-pub record FrameAt (s regular other : List ℕ) (base first second args size : ℕ) : Type 0 where
-  pub last : first ≡ lastLbaseAt s base
-  pub code : second ≡ codeWordAt s base
-  pub arguments : args ≡ arguments regular other (codeWordAt s base)
-  pub variables : size ≡ variables regular other (codeWordAt s base)
+pub record FrameAt (s regular other : List ℕ) (base : ℕ) (frame : Frame) : Type 0 where
+  pub last : frame .last .0 ≡ lastLbaseAt s base
+  pub code : frame .code ≡ codeWordAt s base
+  pub arguments : frame .arguments ≡ arguments regular other (codeWordAt s base)
+  pub variables : frame .variables ≡ variables regular other (codeWordAt s base)

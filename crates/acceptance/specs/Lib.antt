@@ -4,5 +4,6 @@ pub mod Cells
 pub mod Counts
 pub mod Refusal
 pub mod Tables
+pub mod Before
 pub mod Answer
 pub mod Structure

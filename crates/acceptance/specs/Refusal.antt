@@ -1,12 +1,11 @@
 -- The table of document 01 for a data segment with its procedure segments: the first test that fails, or 0 where all pass.
 -- Tests go in table order. Assumes nothing.
 use Prim.Native.Nat.{ℕ}
-use mathlib.Core.Bool.{Bool, cond}
+use mathlib.Core.Bool.{Bool, cond, _&&_}
 use mathlib.Core.List.{List}
 use lib.ListN.{length}
 use lib.Dec.{leb, eqb}
 use Rattle.procedure.specs.Refusal.{procedureRefusal}
-use Rattle.acceptance_storage.specs.Tests.{_and_}
 use Rattle.acceptance_storage.specs.Head.{headTest}
 use Rattle.acceptance_storage.specs.Blocks.{blocksTest}
 use Rattle.acceptance_storage.specs.Ring.{ringTest}
@@ -16,7 +15,7 @@ use Rattle.acceptance.specs.Counts.{countsTest}
 
 -- Test 10: 32 to 16,384 words.
 abbrev pub lengthTest : List ℕ → Bool
-lengthTest s = leb 32 (length s) and leb (length s) 16384
+lengthTest s = leb 32 (length s) && leb (length s) 16384
 
 -- Tests 13–18.
 unfoldable pub dataRefusal : List ℕ → List ℕ → List ℕ → ℕ

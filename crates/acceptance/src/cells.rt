@@ -1,23 +1,15 @@
 // Test 17: every cell by its kind, and an indirect word by its target, each in constant time by tables of marks. On the way
 // each cell that points to an array is one mark more at the array's start, which test 18 holds against the array's count.
 ghost use mathlib.Core.Path.{_≡_};
-ghost use mathlib.Core.Bool.{true, cond};
-ghost use mathlib.Core.List.{[], _++_};
-ghost use Prim.Native.Nat.{ℕ, _+_, _-_, _≤_, _<_, suc};
-ghost use lib.ListN.{getD, set, length};
+ghost use mathlib.Core.Bool.{true};
+ghost use Prim.Native.Nat.{ℕ, _+_, _-_, _≤_, _<_};
+ghost use lib.ListN.{getD, length};
 ghost use lib.Dec.{leb};
-ghost use Rattle.segment.specs.State as state;
-ghost use Rattle.segment.specs.Blocks.{part};
-ghost use Rattle.storage.specs.Heap.{count};
-ghost use Rattle.segment.specs.Machine.{cellsOfFrames};
-ghost use Rattle.segment.specs.View as view;
+ghost use Rattle.segment.specs.View.{owners};
 ghost use Rattle.acceptance_storage.specs.Tests.{every};
-ghost use Rattle.acceptance_storage.specs.Head.{Head};
-ghost use Rattle.acceptance_storage.specs.Blocks.{arrayStarts};
-ghost use Rattle.acceptance_storage.specs.Marks.{Tally};
-ghost use Rattle.acceptance.specs.Frames.{known, arguments, variables, framesPass, framesTest};
-ghost use Rattle.acceptance.specs.Cells.{inTable, isIndirect, direct, pointing, plainCell, freeCell, range, variablesFrom, frameCells, cellsFrom, cellsTest};
-ghost use Rattle.acceptance.specs.Tables.{Gains, lacking, meet, Met};
+ghost use Rattle.acceptance.specs.Cells.{inTable, isIndirect, direct, pointing, plainCell, freeCell, range, cellsTest};
+ghost use Rattle.acceptance.specs.Tables.{Gains, CanRise, raisedAt, meet, Met, stackTest, cellsOfFrame, cellsOfStack, frameTest};
+ghost use Rattle.acceptance.specs.Before.{BeforeCells, BeforeStack, BeforeFrame};
 use super::frames::frame_at;
 use super::variables::mark_variables;
 use super::variables::unmark;
@@ -40,9 +32,9 @@ pub fn cells_test(
     arrays: &mut [u16],
     marks: &mut [u16],
 ) -> bool
-    requires { ⌜ Head (now seg) × (length (now seg) ≤ 16384) × (framesTest (now seg) (now regular) (now alternate) ≡ true) × (length (now seg) ≤ length (now marks)) × Tally (now arrays) (arrayStarts (now seg)) × Tally (now marks) [] ⌝ }
+    requires { ⌜ BeforeCells (now seg) (now regular) (now alternate) (now arrays) (now marks) ⌝ }
     ensures { λ r. ⌜ r ≡ cellsTest (now (seg .entry)) (now (regular .entry)) (now (alternate .entry)) ⌝ }
-    ensures { λ r. ⌜ (r ≡ true → Met (now (arrays .entry)) (now (arrays .exit)) (view.owners (now (seg .entry)))) ⌝ }
+    ensures { λ r. ⌜ (r ≡ true → Met (now (arrays .entry)) (now (arrays .exit)) (owners (now (seg .entry)))) ⌝ }
 {
     let end = blockptr(seg).index();
     if !plain_cells(&seg[8..end], arrays) {
@@ -64,9 +56,9 @@ fn cells_from(
     arrays: &mut [u16],
     marks: &mut [u16],
 ) -> bool
-    requires { ⌜ (from + 2 ≤ upto) × (state.sbase (now seg) + upto ≤ length (now seg)) × (length (now seg) ≤ 16384) × (framesPass (length (now seg)) (known (now regular) (now alternate)) (variables (now regular) (now alternate)) (now seg) from ≡ true) × Tally (now marks) (variablesFrom (length (now seg)) (variables (now regular) (now alternate)) (now seg) from) × ((x : ℕ) → getD (now arrays) x 0 + upto < 65536) ⌝ }
-    ensures { λ r. ⌜ r ≡ cellsFrom (length (now (seg .entry))) (arguments (now (regular .entry)) (now (alternate .entry))) (variables (now (regular .entry)) (now (alternate .entry))) (now (seg .entry)) (inTable (now (arrays .entry))) from upto ⌝ }
-    ensures { λ r. ⌜ (r ≡ true → Met (now (arrays .entry)) (now (arrays .exit)) (part (now (seg .entry)) (state.sbase (now (seg .entry)) + from + 2) (upto - (from + 2)) ++ cellsOfFrames (view.framesFrom (suc from) (now (seg .entry)) from))) ⌝ }
+    requires { ⌜ BeforeStack (now seg) (now regular) (now alternate) (now arrays) (now marks) from upto ⌝ }
+    ensures { λ r. ⌜ r ≡ stackTest (now (seg .entry)) (now (regular .entry)) (now (alternate .entry)) (inTable (now (arrays .entry))) from upto ⌝ }
+    ensures { λ r. ⌜ (r ≡ true → Met (now (arrays .entry)) (now (arrays .exit)) (cellsOfStack (now (seg .entry)) from upto)) ⌝ }
 {
     let mut base = from;
     let mut top = upto;
@@ -99,11 +91,11 @@ fn frame_cells(
     arrays: &mut [u16],
     marks: &mut [u16],
 ) -> bool
-    requires { ⌜ (start + arguments ≤ base) × (base + 2 ≤ top) × (state.sbase (now seg) + top ≤ length (now seg)) × (length (now seg) ≤ 16384) × ((x : ℕ) → count x (range start (base - start)) ≤ getD (now marks) x 0) × ((x : ℕ) → getD (now arrays) x 0 + top < 65536) ⌝ }
-    ensures { λ r. ⌜ r ≡ frameCells (now (seg .entry)) (inTable (now (arrays .entry))) (inTable (now (marks .entry))) (lacking (now (marks .entry)) (range start (base - start))) arguments start base top ⌝ }
+    requires { ⌜ BeforeFrame (now seg) (now arrays) (now marks) arguments start base top ⌝ }
+    ensures { λ r. ⌜ r ≡ frameTest (now (seg .entry)) (now (arrays .entry)) (now (marks .entry)) arguments start base top ⌝ }
     ensures { λ r. ⌜ (r ≡ true → Gains (now (marks .exit)) (now (marks .entry)) (range start (base - start))) ⌝ }
-    ensures { λ r. ⌜ (r ≡ true → Met (now (arrays .entry)) (now (arrays .exit)) (part (now (seg .entry)) (state.sbase (now (seg .entry)) + base + 2) (top - (base + 2)) ++ part (now (seg .entry)) (state.sbase (now (seg .entry)) + start) (base - start))) ⌝ }
-    ensures { λ r. ⌜ (r ≡ true → (x : ℕ) → getD (now (arrays .exit)) x 0 + start < 65536) ⌝ }
+    ensures { λ r. ⌜ (r ≡ true → Met (now (arrays .entry)) (now (arrays .exit)) (cellsOfFrame (now (seg .entry)) start base top)) ⌝ }
+    ensures { λ r. ⌜ (r ≡ true → CanRise (now (arrays .exit)) start) ⌝ }
 {
     let stack = sbase(seg).index();
     let first = stack + start as usize;
@@ -123,7 +115,7 @@ fn frame_cells(
 
 // Cells of globals or locals.
 fn plain_cells(cells: &[u32], arrays: &mut [u16]) -> bool
-    requires { ⌜ ((x : ℕ) → getD (now arrays) x 0 + length (now cells) < 65536) ⌝ }
+    requires { ⌜ CanRise (now arrays) (length (now cells)) ⌝ }
     ensures { λ r. ⌜ r ≡ every (plainCell (inTable (now (arrays .entry)))) (now (cells .entry)) ⌝ }
     ensures { λ r. ⌜ (r ≡ true → Met (now (arrays .entry)) (now (arrays .exit)) (now (cells .entry))) ⌝ }
     ensures { λ r. ⌜ (r ≡ true → (x : ℕ) → getD (now (arrays .exit)) x 0 ≤ getD (now (arrays .entry)) x 0 + length (now (cells .entry))) ⌝ }
@@ -140,7 +132,7 @@ fn plain_cells(cells: &[u32], arrays: &mut [u16]) -> bool
 
 // The same of arguments or temporaries.
 fn free_cells(seg: &[u32], cells: &[u32], variables: &[u16], arrays: &mut [u16]) -> bool
-    requires { ⌜ ((x : ℕ) → getD (now arrays) x 0 + length (now cells) < 65536) ⌝ }
+    requires { ⌜ CanRise (now arrays) (length (now cells)) ⌝ }
     ensures { λ r. ⌜ r ≡ every (freeCell (now (seg .entry)) (inTable (now (arrays .entry))) (inTable (now (variables .entry)))) (now (cells .entry)) ⌝ }
     ensures { λ r. ⌜ (r ≡ true → Met (now (arrays .entry)) (now (arrays .exit)) (now (cells .entry))) ⌝ }
     ensures { λ r. ⌜ (r ≡ true → (x : ℕ) → getD (now (arrays .exit)) x 0 ≤ getD (now (arrays .entry)) x 0 + length (now (cells .entry))) ⌝ }
@@ -188,7 +180,7 @@ fn is_direct(w: u32, arrays: &mut [u16]) -> bool
 fn raise_marked(table: &mut [u16], a: usize) -> bool
     requires { ⌜ getD (now table) a 0 < 65535 ⌝ }
     ensures { λ r. ⌜ r ≡ leb 1 (getD (now (table .entry)) a 0) ⌝ }
-    ensures { λ _. ⌜ now (table .exit) ≡ cond (leb 1 (getD (now (table .entry)) a 0)) (set (now (table .entry)) a (getD (now (table .entry)) a 0 + 1)) (now (table .entry)) ⌝ }
+    ensures { λ _. ⌜ now (table .exit) ≡ raisedAt (now (table .entry)) a ⌝ }
 {
     if table.len() <= a {
         return false;

@@ -1,16 +1,15 @@
 // Test 18: each array's count is held against the number of cells that point to it.
 ghost use mathlib.Core.Path.{_≡_};
 ghost use mathlib.Core.Bool.{true, false, cond};
-ghost use Prim.Native.Nat.{ℕ, _+_, _<_};
-ghost use lib.ListN.{getD, length};
+ghost use Prim.Native.Nat.{_+_, _<_};
+ghost use lib.ListN.{getD};
 ghost use Rattle.descriptor.specs.Fields.{arrayWord};
 ghost use Rattle.segment.specs.Blocks.{freeAt};
 ghost use Rattle.storage.specs.Heap.{count};
 ghost use Rattle.segment.specs.View.{owners};
 ghost use Rattle.acceptance_storage.specs.Tests.{every};
-ghost use Rattle.acceptance_storage.specs.Blocks.{startsFrom};
 ghost use Rattle.acceptance.specs.Counts.{countTest, countsTest};
-ghost use Rattle.acceptance.specs.Tables.{Tallied};
+ghost use Rattle.acceptance.specs.Tables.{TalliedAt, Tallied, arraysFrom};
 use acceptance_storage::marks::mark_at;
 use descriptor::address::SegmentAddress;
 use segment::blocks::count;
@@ -29,8 +28,8 @@ pub fn counts_test(seg: &[u32], table: &[u16]) -> bool
 
 // Every array from `from` up to `end`.
 fn counts_from(seg: &[u32], from: u32, end: u32, table: &[u16]) -> bool
-    requires { ⌜ (end < 65536) × ((x : ℕ) → 0 < count x (startsFrom false (length (now seg)) (now seg) from end) → getD (now table) x 0 ≡ 1 + count (arrayWord x) (owners (now seg))) ⌝ }
-    ensures { λ r. ⌜ r ≡ every (countTest (now (seg .entry)) (owners (now (seg .entry)))) (startsFrom false (length (now (seg .entry))) (now (seg .entry)) from end) ⌝ }
+    requires { ⌜ (end < 65536) × TalliedAt (now seg) (arraysFrom (now seg) from end) (now table) ⌝ }
+    ensures { λ r. ⌜ r ≡ every (countTest (now (seg .entry)) (owners (now (seg .entry)))) (arraysFrom (now (seg .entry)) from end) ⌝ }
 {
     let mut a = from;
     let mut left = seg.len();

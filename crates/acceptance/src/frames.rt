@@ -1,11 +1,9 @@
 // Test 16, and what the tests read of a frame: the chain from the current frame down to the bottom one.
 ghost use mathlib.Core.Path.{_≡_};
-ghost use mathlib.Core.Bool.{false};
-ghost use Prim.Native.Nat.{_+_, _<_};
-ghost use lib.ListN.{length};
 ghost use Rattle.segment.specs.Stack as stack;
 ghost use Rattle.procedure.specs.Directory.{headerOfFunction};
-ghost use Rattle.acceptance.specs.Frames.{frameSegment, known, variables, framesPass, framesTest, FrameAt};
+ghost use Rattle.acceptance.specs.Frames.{frameSegment, known, framesTest, FrameAt};
+ghost use Rattle.acceptance.specs.Tables.{chainTest};
 use descriptor::address::StackAddress;
 use procedure::directory::in_directory;
 use procedure::directory::start_of;
@@ -39,7 +37,7 @@ pub fn frames_test(seg: &[u32], regular: &[u8], alternate: &[u8]) -> bool
 
 // The frames from the one at `from` down.
 fn frames_from(seg: &[u32], regular: &[u8], alternate: &[u8], from: u32) -> bool
-    ensures { λ r. ⌜ r ≡ framesPass (length (now (seg .entry))) (known (now (regular .entry)) (now (alternate .entry))) (variables (now (regular .entry)) (now (alternate .entry))) (now (seg .entry)) from ⌝ }
+    ensures { λ r. ⌜ r ≡ chainTest (now (seg .entry)) (now (regular .entry)) (now (alternate .entry)) from ⌝ }
 {
     let mut base = from;
     let mut left = seg.len();
@@ -63,7 +61,7 @@ fn frames_from(seg: &[u32], regular: &[u8], alternate: &[u8], from: u32) -> bool
 
 // The frame at `base`.
 pub fn frame_at(seg: &[u32], regular: &[u8], alternate: &[u8], base: StackAddress) -> Frame
-    ensures { λ r. ⌜ FrameAt (now (seg .entry)) (now (regular .entry)) (now (alternate .entry)) (base .0) (r .last .0) (r .code) (r .arguments) (r .variables) ⌝ }
+    ensures { λ r. ⌜ FrameAt (now (seg .entry)) (now (regular .entry)) (now (alternate .entry)) (base .0) r ⌝ }
 {
     let at = base.index(sbase(seg));
     let code = word(seg, at + 1);

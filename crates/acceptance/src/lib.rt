@@ -4,9 +4,9 @@ ghost use mathlib.Core.Bool.{true};
 ghost use Prim.Native.Nat.{_≤_};
 ghost use lib.ListN.{length};
 ghost use Rattle.acceptance_storage.specs.Head.{headTest};
-ghost use Rattle.acceptance_storage.specs.Blocks.{freeStarts, blocksTest};
-ghost use Rattle.acceptance_storage.specs.Marks.{Clear, Marked};
+ghost use Rattle.acceptance_storage.specs.Marks.{Clear};
 ghost use Rattle.acceptance.specs.Refusal.{dataRefusal, refusal};
+ghost use Rattle.acceptance.specs.Before.{BeforeRing};
 ghost use Rattle.acceptance.specs.Answer.{testNumber, judgementNumber};
 
 pub mod cells;
@@ -149,7 +149,7 @@ fn judge_marked(
     arrays: &mut [u16],
     marks: &mut [u16],
 ) -> Judgement
-    requires { ⌜ (headTest (now seg) ≡ true) × (blocksTest (now seg) ≡ true) × (length (now seg) ≤ 16384) × (length (now seg) ≤ length (now marks)) × (frees ≡ length (freeStarts (now seg))) × Marked (now seg) (now arrays) (now marks) ⌝ }
+    requires { ⌜ BeforeRing (now seg) (now arrays) (now marks) frees ⌝ }
     ensures { λ r. ⌜ judgementNumber r ≡ dataRefusal (now (seg .entry)) (now (regular .entry)) (now (alternate .entry)) ⌝ }
 {
     if !ring_test(seg, frees, marks) {

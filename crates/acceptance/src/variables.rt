@@ -2,11 +2,9 @@
 ghost use mathlib.Core.List.{[]};
 ghost use Prim.Native.Nat.{ℕ, _-_, _≤_, _<_};
 ghost use lib.ListN.{getD, length};
-ghost use Rattle.storage.specs.Heap.{count};
 ghost use Rattle.acceptance_storage.specs.Marks.{Tally};
-ghost use Rattle.acceptance.specs.Frames.{variables};
-ghost use Rattle.acceptance.specs.Cells.{range, variablesFrom};
-ghost use Rattle.acceptance.specs.Tables.{Gains};
+ghost use Rattle.acceptance.specs.Cells.{range};
+ghost use Rattle.acceptance.specs.Tables.{Gains, Holds, chainVariables};
 use super::frames::frame_at;
 use acceptance_storage::marks::lower;
 use acceptance_storage::marks::raise;
@@ -22,7 +20,7 @@ pub fn mark_variables(
     marks: &mut [u16],
 )
     requires { ⌜ (from .0 < 16384) × (from .0 ≤ length (now marks)) × Tally (now marks) [] ⌝ }
-    ensures { λ _. ⌜ Tally (now (marks .exit)) (variablesFrom (length (now (seg .entry))) (variables (now (regular .entry)) (now (alternate .entry))) (now (seg .entry)) (from .0)) ⌝ }
+    ensures { λ _. ⌜ Tally (now (marks .exit)) (chainVariables (now (seg .entry)) (now (regular .entry)) (now (alternate .entry)) (from .0)) ⌝ }
 {
     let mut base = from.number();
     let mut left = seg.len();
@@ -53,7 +51,7 @@ fn mark(marks: &mut [u16], start: u32, end: u32)
 
 // One less at each of them.
 pub fn unmark(marks: &mut [u16], start: StackAddress, end: StackAddress)
-    requires { ⌜ ((x : ℕ) → count x (range (start .0) (end .0 - start .0)) ≤ getD (now marks) x 0) ⌝ }
+    requires { ⌜ Holds (now marks) (range (start .0) (end .0 - start .0)) ⌝ }
     ensures { λ _. ⌜ Gains (now (marks .exit)) (now (marks .entry)) (range (start .0) (end .0 - start .0)) ⌝ }
 {
     let mut a = start.number();

@@ -28,15 +28,15 @@ module _ (s : List ℕ) (a : ℕ) where
   unfolding arrayTest shapeAt elementsAt
   array-sound h =
       let count : ℕ = product (part s (a + 2) (rankAt s a)) in
-      let p = both (eqb (getD s (a + 1) 0 % 2 ^ 16) (rankAt s a)) _ h in
-      let q = both (leb 1 (rankAt s a)) _ (p .1) in
-      let r = both (wordsWhere (rankAt s a) isLength s (a + 2)) _ (q .1) in
-      let t = both (eqb (sizeAt s a) (2 + rankAt s a + count)) _ (r .1) in
+      let t = both _ (wordsWhere count isScalar s (a + 2 + rankAt s a)) h in
+      let r = both _ (eqb (sizeAt s a) (2 + rankAt s a + count)) (t .0) in
+      let q = both _ (wordsWhere (rankAt s a) isLength s (a + 2)) (r .0) in
+      let p = both (eqb (getD s (a + 1) 0 % 2 ^ 16) (rankAt s a)) (leb 1 (rankAt s a)) (q .0) in
       record {
         clear = eqb-true _ _ (p .0);
-        rank = leb-true _ _ (q .0);
-        sized = eqb-true _ _ (t .0);
-        lengths = λ w k. leb-true _ _ (every-at isLength (shapeAt s a) (sym (words-every (rankAt s a) isLength s (a + 2)) ∙ r .0) w k);
+        rank = leb-true _ _ (p .1);
+        sized = eqb-true _ _ (r .1);
+        lengths = λ w k. leb-true _ _ (every-at isLength (shapeAt s a) (sym (words-every (rankAt s a) isLength s (a + 2)) ∙ q .1) w k);
         scalars = λ w k. every-at isScalar (elementsAt s a) (sym (words-every count isScalar s (a + 2 + rankAt s a)) ∙ t .1) w k;
       }
 
@@ -44,10 +44,10 @@ module _ (s : List ℕ) (a : ℕ) where
   unfolding arrayTest shapeAt elementsAt
   array-complete h =
       let count : ℕ = product (part s (a + 2) (rankAt s a)) in
-      passes (eq-eqb _ _ (h .clear))
-      (passes (le-leb _ _ (h .rank))
-      (passes (words-every (rankAt s a) isLength s (a + 2) ∙ every-all isLength (shapeAt s a) (λ w k. le-leb _ _ (h .lengths w k)))
-      (passes (eq-eqb _ _ (h .sized)) (words-every count isScalar s (a + 2 + rankAt s a) ∙ every-all isScalar (elementsAt s a) (h .scalars)))))
+      passes (passes (passes (passes (eq-eqb _ _ (h .clear)) (le-leb _ _ (h .rank)))
+      (words-every (rankAt s a) isLength s (a + 2) ∙ every-all isLength (shapeAt s a) (λ w k. le-leb _ _ (h .lengths w k))))
+      (eq-eqb _ _ (h .sized)))
+      (words-every count isScalar s (a + 2 + rankAt s a) ∙ every-all isScalar (elementsAt s a) (h .scalars))
 
   -- where all else is right, the elements decide
   array-open : getD s (a + 1) 0 % 2 ^ 16 ≡ rankAt s a → 1 ≤ rankAt s a → every isLength (shapeAt s a) ≡ true
@@ -148,25 +148,29 @@ module _ (s : List ℕ) (a : ℕ) where
     pub inside-fails : (Inside s a (sizeAt s a) → ⊥) → false ≡ insideTest s a
     inside-fails h = sym (array-inside ∙ fails (arrayTest s a) (λ t. h (array-sound s a t)))
 
-    module _ (fits : a + sizeAt s a ≤ length s) (rank : ℕ) (e : rank ≡ rankAt s a) (low : 2 + rank ≤ sizeAt s a) where
+    module _ (fits : a + sizeAt s a ≤ length s) {rank : ℕ} (e : rank ≡ getD s (a + 1) 0 % 2 ^ 16) (some : rank ≡ 0 → ⊥) (few : rank ≤ 15)
+        (low : 2 + rank ≤ sizeAt s a) where
+      rank-is : rank ≡ rankAt s a
+      rank-is = omega arith
+
       shape-is : take (a + 2 + rank - (a + 2)) (drop (a + 2) s) ≡ shapeAt s a
       unfolding shapeAt
-      shape-is = part-of s (a + 2) (a + 2 + rank) rank refl (omega arith) ∙ rw e
+      shape-is = part-of s (a + 2) (a + 2 + rank) rank refl (omega arith) ∙ rw rank-is
 
       pub inside-count : Inside s a (sizeAt s a) → elementCount (take (a + 2 + rank - (a + 2)) (drop (a + 2) s)) ≡ sizeAt s a - (2 + rank)
       unfolding elementCount
       inside-count h =
           ap elementCount shape-is
           ∙ simp (every-all isLength (shapeAt s a) (λ w k. le-leb _ _ (h .lengths w k)))
-          (capped-low (product (shapeAt s a)) (omega (arith, h .sized)) ∙ omega (arith, h .sized))
+          (capped-low (product (shapeAt s a)) (omega (arith, h .sized)) ∙ omega (arith, h .sized, rank-is))
 
       -- where the number of elements is right, the elements decide
-      pub inside-elements : getD s (a + 1) 0 % 2 ^ 16 ≡ rank → 1 ≤ rank → elementCount (take (a + 2 + rank - (a + 2)) (drop (a + 2) s)) ≡ sizeAt s a - (2 + rank)
+      pub inside-elements : elementCount (take (a + 2 + rank - (a + 2)) (drop (a + 2) s)) ≡ sizeAt s a - (2 + rank)
           → every isScalar (take (a + sizeAt s a - (a + 2 + rank)) (drop (a + 2 + rank) s)) ≡ insideTest s a
-      inside-elements c l n =
+      inside-elements n =
           let k = count-exact (shapeAt s a) (sizeAt s a - (2 + rank)) (ap elementCount (sym shape-is) ∙ n) (omega arith) in
-          let z : sizeAt s a ≡ 2 + rankAt s a + product (shapeAt s a) = omega (arith, k .1) in
-          ap (every isScalar) (elements-is z) ∙ sym (array-inside ∙ array-open s a (c ∙ e) (rw e at l) (k .0) z)
+          let z : sizeAt s a ≡ 2 + rankAt s a + product (shapeAt s a) = omega (arith, k .1, rank-is) in
+          ap (every isScalar) (elements-is z) ∙ sym (array-inside ∙ array-open s a (sym e ∙ rank-is) (omega (arith, rank-is)) (k .0) z)
         where
           elements-is : sizeAt s a ≡ 2 + rankAt s a + product (shapeAt s a) → take (a + sizeAt s a - (a + 2 + rank)) (drop (a + 2 + rank) s) ≡ elementsAt s a
-          elements-is z = part-of s (a + 2 + rank) (a + sizeAt s a) (product (shapeAt s a)) (omega arith) fits ∙ elements-at s a (a + 2 + rank) (omega arith)
+          elements-is z = part-of s (a + 2 + rank) (a + sizeAt s a) (product (shapeAt s a)) (omega (arith, rank-is)) fits ∙ elements-at s a (a + 2 + rank) (ap (λ (n : ℕ). a + 2 + n) rank-is)

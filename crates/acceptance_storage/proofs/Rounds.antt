@@ -1,7 +1,7 @@
 -- The round of the ring: a member at a time, and what the loop keeps.
 use Prim.Native.Nat.{ℕ, zero, suc, _+_, _-_, _<_, _≤_}
 use mathlib.Core.Path.{_≡_, refl, sym, _∙_, ap}
-use mathlib.Core.Bool.{Bool, true, false}
+use mathlib.Core.Bool.{Bool, true, false, _&&_, and-true}
 use mathlib.Core.List.{List, [], _∷_}
 use mathlib.Core.Logic.{⊎-elim}
 use native.Mathlib.Omega.{arith}
@@ -12,7 +12,6 @@ use Rattle.segment.specs.State.{rover}
 use Rattle.segment.specs.Blocks.{nextAt, lastAt, dummy}
 use Rattle.storage.specs.Heap.{hit, count}
 use Rattle.storage_theorems.proofs.Counts.{hit-cases, hit-eq, hit-not}
-use Rattle.acceptance_storage.specs.Tests.{_and_}
 use Rattle.acceptance_storage.specs.Blocks.{freeStarts}
 use Rattle.acceptance_storage.specs.Ring.{without, linked, roundFrom, ringTest}
 use Rattle.acceptance_storage.specs.Marks.{Tally}
@@ -51,7 +50,7 @@ module _ (s : List ℕ) (a b : ℕ) where
 -- a step of the round
 module _ (s : List ℕ) (end a : ℕ) (l : List ℕ) where
   round-step : (n : ℕ) → 0 < n
-      → roundFrom n s end a l ≡ (linked s a (nextAt s a) and leb 1 (count (nextAt s a) l) and roundFrom (n - 1) s end (nextAt s a) (without (nextAt s a) l))
+      → roundFrom n s end a l ≡ (linked s a (nextAt s a) && leb 1 (count (nextAt s a) l) && roundFrom (n - 1) s end (nextAt s a) (without (nextAt s a) l))
   unfolding roundFrom
   round-step zero h = absurd (omega arith)
   round-step (suc n) h = let e : suc n - 1 ≡ n = omega arith in rw e
@@ -93,19 +92,23 @@ module _ (s : List ℕ) (end : ℕ) (frees marks : List ℕ) (at left : ℕ) (h 
     pub round-bad : linked s at next ≡ false → roundFrom (length frees) s end end frees ≡ false
     round-bad k = h .same ∙ step-bad s end at (h .rest) left some (rw e at k)
 
-    module _ (k : linked s at next ≡ true) where
-      pub round-missing : getD marks next 0 ≡ 0 → roundFrom (length frees) s end end frees ≡ false
-      round-missing z = h .same ∙ step-missing s end at (h .rest) left some (rw e at k) (sym (h .tally (nextAt s at)) ∙ rw e at z)
+    module _ (k : linked s at next ≡ true) {place mark : ℕ} (there : place ≡ next) (m : mark ≡ getD marks place 0) where
+      found : mark ≡ count next (h .rest)
+      found = m ∙ ap (λ (i : ℕ). getD marks i 0) there ∙ h .tally next
 
-      pub round-on : 0 < getD marks next 0 → Round s end frees (set marks next (getD marks next 0 - 1)) next (left - 1)
-      round-on z =
-          let p : 0 < count next (h .rest) = omega (arith, h .tally next) in
-          record {
+      pub round-missing : mark ≡ 0 → roundFrom (length frees) s end end frees ≡ false
+      round-missing z = h .same ∙ step-missing s end at (h .rest) left some (rw e at k) (rw e at (sym found ∙ z))
+
+      pub round-on : (mark ≡ 0 → ⊥) → {after : List ℕ} → after ≡ set marks place (getD marks place 0 - 1) → Round s end frees after next (left - 1)
+      round-on z a =
+          let p : 0 < count next (h .rest) = omega (arith, found, z) in
+          rw (a, there)
+          (record {
             rest = without next (h .rest);
             many = omega (arith, h .many, without-length next (h .rest) p);
-            tally = λ x. omega (arith, lower-at marks next x z, without-count x next (h .rest) p, h .tally x);
+            tally = λ x. omega (arith, lower-at marks next x (omega (arith, h .tally next)), without-count x next (h .rest) p, h .tally x);
             same = h .same ∙ step-on s end at (h .rest) left some (rw e at k) (rw e at p) ∙ rw (← e);
-          }
+          })
 
 -- ROVER on the ring
 module _ (marks : List ℕ) (at end : ℕ) where
@@ -118,11 +121,7 @@ module _ (marks : List ℕ) (at end : ℕ) where
 -- test 15, with the values that the code has in hand
 pub on-round : (s : List ℕ) → leb 1 (count (rover s) (dummy s ∷ freeStarts s)) ≡ true → ringTest s ≡ roundFrom (length (freeStarts s)) s (dummy s) (dummy s) (freeStarts s)
 unfolding ringTest
-on-round s e = rw e (all (roundFrom (length (freeStarts s)) s (dummy s) (dummy s) (freeStarts s)))
-  where
-    all : (b : Bool) → (b and true) ≡ b
-    all true = refl
-    all false = refl
+on-round s e = rw e (and-true (roundFrom (length (freeStarts s)) s (dummy s) (dummy s) (freeStarts s)))
 
 off-round : (s : List ℕ) → leb 1 (count (rover s) (dummy s ∷ freeStarts s)) ≡ false → ringTest s ≡ false
 unfolding ringTest

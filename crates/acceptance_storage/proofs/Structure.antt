@@ -75,14 +75,14 @@ module _ (s : List ℕ) (h : Head s) (short : length s ≤ 16384) (blocks : List
     },
   )
 
-blocks-facts : (s : List ℕ) → blocksTest s ≡ true → (walkTest s ≡ true) × (getD s (dummy s + 2) 0 ≡ 0) × (every (arrayTest s) (arrayStarts s) ≡ true)
+pub blocks-facts : (s : List ℕ) → blocksTest s ≡ true → (walkTest s ≡ true) × (getD s (dummy s + 2) 0 ≡ 0) × (every (arrayTest s) (arrayStarts s) ≡ true)
 unfolding blocksTest
 blocks-facts s h =
-    let r = both (walkTest s) _ h in
-    let q = both (eqb (getD s (dummy s + 2) 0) 0) _ (r .1) in
-    (r .0, eqb-true _ _ (q .0), q .1)
+    let r = both _ (every (arrayTest s) (arrayStarts s)) h in
+    let q = both (walkTest s) (eqb (getD s (dummy s + 2) 0) 0) (r .0) in
+    (q .0, eqb-true _ _ (q .1), r .1)
 
-walk-tiles : (s : List ℕ) → Head s → length s ≤ 16384 → walkTest s ≡ true → Tiled s (blockptr s) false (dummy s)
+pub walk-tiles : (s : List ℕ) → Head s → length s ≤ 16384 → walkTest s ≡ true → Tiled s (blockptr s) false (dummy s)
 unfolding walkTest
 walk-tiles s h short t = walk-sound (length s) s (blockptr s) false (dummy s) (omega (arith, h .top)) t
 
@@ -112,8 +112,8 @@ module _ (s : List ℕ) (blocks : List Block) (ring : List ℕ) (h : Stored s bl
   unfolding blocksTest
   blocks-pass =
       let e : sbase s - 1 ≡ dummy s + 2 = last-word s (h .head) (h .heap .short) blocks (h .heap .walk) ends in
-      passes (walk-passes s (h .head) (h .heap .short) blocks (h .heap .walk) ends)
-      (passes (eq-eqb _ _ (rw e at (h .heap .dummyEnd))) (inside-complete s (h .head) (h .heap .short) blocks (h .heap .walk) ends (h .inside)))
+      passes (passes (walk-passes s (h .head) (h .heap .short) blocks (h .heap .walk) ends) (eq-eqb _ _ (rw e at (h .heap .dummyEnd))))
+      (inside-complete s (h .head) (h .heap .short) blocks (h .heap .walk) ends (h .inside))
 
   pub complete : Passed s
   complete = record { head = head-complete s (h .head); blocks = blocks-pass; ring = ring-complete s ringed }

@@ -1,7 +1,7 @@
 -- Tests put together: what it is that they pass.
 use Prim.Native.Nat.{ℕ, zero, suc, _+_, _≤_, _<_}
 use mathlib.Core.Path.{_≡_, refl, _∙_, ap}
-use mathlib.Core.Bool.{Bool, true, false, cond}
+use mathlib.Core.Bool.{Bool, true, false, cond, _&&_, and-false}
 use mathlib.Core.List.{List, [], _∷_}
 use mathlib.Core.Logic.{⊎-elim}
 use native.Mathlib.Numerals.{add-one}
@@ -9,24 +9,17 @@ use native.Mathlib.Omega.{arith}
 use lib.ListN.{getD, length, drop, drop-of-length-le}
 use lib.Seq.{drop-cons}
 use Rattle.segment.specs.Blocks.{part}
-pub use Rattle.descriptor.proofs.Truth.{fails, by-le, by-eq}
+pub use mathlib.Core.Bool.{false≢true as never}
+pub use Rattle.descriptor.proofs.Truth.{fails, both, by-le, by-eq}
 use Rattle.storage.specs.Heap.{count}
 use Rattle.storage_theorems.proofs.Counts.{hit-cases, hit-same}
-use Rattle.acceptance_storage.specs.Tests.{_and_, every, wordsWhere}
+use Rattle.acceptance_storage.specs.Tests.{every, wordsWhere}
 
-pub never : false ≡ true → ⊥
-never q = let z : _≡_ {A = ℕ} 0 1 = cc in omega arith
+pub passes : {a b : Bool} → a ≡ true → b ≡ true → (a && b) ≡ true
+passes {a} {b} p q = ap (λ (t : Bool). t && b) p ∙ q
 
-pub both : (a b : Bool) → (a and b) ≡ true → (a ≡ true) × (b ≡ true)
-both true b h = (refl, h)
-both false b h = absurd (never h)
-
-pub passes : {a b : Bool} → a ≡ true → b ≡ true → (a and b) ≡ true
-passes {a} {b} p q = ap (λ (t : Bool). t and b) p ∙ q
-
-pub second-fails : (a : Bool) {b : Bool} → b ≡ false → (a and b) ≡ false
-second-fails true q = q
-second-fails false q = refl
+pub second-fails : (a : Bool) {b : Bool} → b ≡ false → (a && b) ≡ false
+second-fails a q = rw q (and-false a)
 
 pub either : (a : Bool) {b : Bool} → b ≡ true → cond a true b ≡ true
 either true e = refl
@@ -46,18 +39,18 @@ every-all test (y ∷ l) h = passes (h y (omega (arith, hit-same y))) (every-all
 pub words-every : (n : ℕ) (test : ℕ → Bool) (s : List ℕ) (i : ℕ) → wordsWhere n test s i ≡ every test (part s i n)
 unfolding wordsWhere
 words-every zero test s i = refl
-words-every (suc n) test s i = ap (λ (b : Bool). cond (test (getD s i 0)) b false) (words-every n test s (i + 1))
+words-every (suc n) test s i = ap (λ (b : Bool). test (getD s i 0) && b) (words-every n test s (i + 1))
 
 -- a turn of a loop over a list
 module _ (test : ℕ → Bool) (l : List ℕ) (i : ℕ) where
-  every-step : i < length l → every test (drop i l) ≡ (test (getD l i 0) and every test (drop (i + 1) l))
+  every-step : i < length l → every test (drop i l) ≡ (test (getD l i 0) && every test (drop (i + 1) l))
   every-step h = ap (every test) (drop-cons l i 0 h) ∙ rw add-one
 
   pub every-on : i < length l → test (getD l i 0) ≡ true → every test (drop i l) ≡ every test (drop (i + 1) l)
-  every-on h e = every-step h ∙ ap (λ (b : Bool). b and every test (drop (i + 1) l)) e
+  every-on h e = every-step h ∙ ap (λ (b : Bool). b && every test (drop (i + 1) l)) e
 
   pub every-bad : i < length l → test (getD l i 0) ≡ false → every test (drop i l) ≡ false
-  every-bad h e = every-step h ∙ ap (λ (b : Bool). b and every test (drop (i + 1) l)) e
+  every-bad h e = every-step h ∙ ap (λ (b : Bool). b && every test (drop (i + 1) l)) e
 
   pub every-end : length l ≤ i → every test (drop i l) ≡ true
   every-end h = ap (every test) (drop-of-length-le l h)

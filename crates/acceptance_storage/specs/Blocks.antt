@@ -1,7 +1,7 @@
 -- Test 14, blocks: "walk, tags, sizes, two free neighbours, lengths, elements", with decisions 5–7 of docs/DECISIONS.md.
 -- Assumes nothing.
 use Prim.Native.Nat.{ℕ, zero, suc, _+_, _-_, _/_, _%_, _^_}
-use mathlib.Core.Bool.{Bool, true, false, cond, not}
+use mathlib.Core.Bool.{Bool, true, false, cond, not, _&&_}
 use mathlib.Core.List.{List, [], _∷_}
 use lib.ListN.{getD, length}
 use lib.Dec.{leb, eqb}
@@ -10,7 +10,7 @@ use Rattle.descriptor.specs.Kinds.{isScalar}
 use Rattle.segment.specs.State.{blockptr}
 use Rattle.segment.specs.Blocks.{freeAt, sizeAt, slopAt, spanAt, rankAt, dummy, part, product}
 use Rattle.storage.specs.Heap.{prevFreeBit}
-use Rattle.acceptance_storage.specs.Tests.{_and_, every, wordsWhere}
+use Rattle.acceptance_storage.specs.Tests.{every, wordsWhere}
 
 -- ---- the walk
 
@@ -70,10 +70,10 @@ arrayTest s a =
     let rank = rankAt s a in
     let count = product (part s (a + 2) rank) in
     eqb (getD s (a + 1) 0 % 2 ^ 16) rank
-    and leb 1 rank
-    and wordsWhere rank isLength s (a + 2)
-    and eqb (sizeAt s a) (2 + rank + count)
-    and wordsWhere count isScalar s (a + 2 + rank)
+    && leb 1 rank
+    && wordsWhere rank isLength s (a + 2)
+    && eqb (sizeAt s a) (2 + rank + count)
+    && wordsWhere count isScalar s (a + 2 + rank)
 
 unfoldable pub blocksTest : List ℕ → Bool
-blocksTest s = walkTest s and eqb (getD s (dummy s + 2) 0) 0 and every (arrayTest s) (arrayStarts s)
+blocksTest s = walkTest s && eqb (getD s (dummy s + 2) 0) 0 && every (arrayTest s) (arrayStarts s)

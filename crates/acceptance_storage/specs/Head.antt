@@ -2,23 +2,22 @@
 -- decision 4 of docs/DECISIONS.md. Assumes nothing.
 use Prim.Native.Nat.{ℕ, _+_, _^_, _≤_, _<_}
 use mathlib.Core.Path.{_≡_}
-use mathlib.Core.Bool.{Bool}
+use mathlib.Core.Bool.{Bool, _&&_}
 use mathlib.Core.List.{List}
 use lib.ListN.{getD, length}
 use lib.Dec.{leb, ltb, eqb}
 use Rattle.segment.specs.State.{sbase, ltop, flags, trapWord, blockptr}
-use Rattle.acceptance_storage.specs.Tests.{_and_}
 
 unfoldable pub headTest : List ℕ → Bool
 headTest s =
     ltb (flags s) (2 ^ 4)
-    and ltb (trapWord s) (2 ^ 16)
-    and leb 8 (blockptr s)
-    and eqb (getD s 5 0) 0
-    and eqb (getD s 6 0) 0
-    and eqb (getD s 7 0) 0
-    and leb (blockptr s + 3) (sbase s)
-    and ltb (sbase s + ltop s) (length s)
+    && ltb (trapWord s) (2 ^ 16)
+    && leb 8 (blockptr s)
+    && eqb (getD s 5 0) 0
+    && eqb (getD s 6 0) 0
+    && eqb (getD s 7 0) 0
+    && leb (blockptr s + 3) (sbase s)
+    && ltb (sbase s + ltop s) (length s)
 
 -- The same as facts.
 pub record Head (s : List ℕ) : Type 0 where

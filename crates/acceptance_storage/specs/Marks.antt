@@ -3,6 +3,8 @@ use Prim.Native.Nat.{ℕ, _+_, _≤_, _<_}
 use mathlib.Core.Path.{_≡_}
 use mathlib.Core.List.{List, []}
 use lib.ListN.{getD, length}
+use Rattle.segment.specs.State.{blockptr}
+use Rattle.segment.specs.Blocks as blocks
 use Rattle.storage.specs.Heap.{count}
 use Rattle.acceptance_storage.specs.Blocks.{freeStarts, arrayStarts}
 
@@ -15,10 +17,16 @@ pub record Clear (table : List ℕ) (n : ℕ) : Type 0 where
   pub long : n ≤ length table
   pub empty : Tally table []
 
--- A table to which the members of a list were added.
-pub record Added (before after l : List ℕ) : Type 0 where
-  pub long : length after ≡ length before
-  pub sum : (x : ℕ) → x < length before → getD after x 0 ≡ getD before x 0 + count x l
+-- Before the walk of test 14: array storage stands from `from` up to the dummy at `end`, whose last word is 0; nothing is marked.
+pub record BeforeWalk (s arrays frees : List ℕ) (from end : ℕ) : Type 0 where
+  pub first : from ≡ blockptr s
+  pub dummy : end ≡ blocks.dummy s
+  pub order : from ≤ end
+  pub inside : end + 2 < length s
+  pub longest : length s ≤ 16384
+  pub last : getD s (end + 2) 0 ≡ 0
+  pub arrayTable : Clear arrays (length s)
+  pub freeTable : Clear frees (length s)
 
 -- Tables of the addresses where arrays, and where free blocks, start.
 pub record Marked (s arrays frees : List ℕ) : Type 0 where

@@ -3,12 +3,10 @@ ghost use mathlib.Core.Path.{_≡_};
 ghost use mathlib.Core.Bool.{true, cond};
 ghost use Prim.Native.Nat.{_+_, _-_, _≤_, _<_, _^_};
 ghost use lib.ListN.{getD, set, length};
-ghost use Rattle.segment.specs.State.{blockptr};
-ghost use Rattle.segment.specs.Blocks.{dummy};
 ghost use Rattle.storage.specs.Heap.{prevFreeBit};
 ghost use Rattle.acceptance_storage.specs.Head.{Head};
 ghost use Rattle.acceptance_storage.specs.Blocks.{freeSpan, arraySpan, blockSpan, blocksTest};
-ghost use Rattle.acceptance_storage.specs.Marks.{Clear, Marked};
+ghost use Rattle.acceptance_storage.specs.Marks.{Clear, BeforeWalk, Marked};
 ghost use Rattle.acceptance_storage.specs.Answer.{blocksAnswer};
 use super::arrays::inside_test;
 use super::marks::raise;
@@ -40,7 +38,7 @@ pub fn blocks_test(seg: &[u32], arrays: &mut [u16], frees: &mut [u16]) -> Blocks
 
 // The walk, where the dummy's last word is 0.
 fn walk(seg: &[u32], from: usize, end: usize, arrays: &mut [u16], frees: &mut [u16]) -> Blocks
-    requires { ⌜ (from ≡ blockptr (now seg)) × (end ≡ dummy (now seg)) × (from ≤ end) × (end + 2 < length (now seg)) × (length (now seg) ≤ 16384) × (getD (now seg) (end + 2) 0 ≡ 0) × Clear (now arrays) (length (now seg)) × Clear (now frees) (length (now seg)) ⌝ }
+    requires { ⌜ BeforeWalk (now seg) (now arrays) (now frees) from end ⌝ }
     ensures { λ r. ⌜ r ≡ blocksAnswer (now (seg .entry)) ⌝ }
     ensures { λ r. ⌜ (blocksTest (now (seg .entry)) ≡ true → Marked (now (seg .entry)) (now (arrays .exit)) (now (frees .exit))) ⌝ }
 {

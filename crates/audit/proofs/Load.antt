@@ -66,13 +66,13 @@ record Value (lengths ravel : List ℕ) : Type 0 where
 value-of : (lengths ravel : List ℕ) → isValue lengths ravel ≡ true → Value lengths ravel
 unfolding isValue
 value-of lengths ravel h =
-    let a = both (leb (length lengths) 15) _ h in
-    let b = both (not (any (λ l. ltb 65535 l) lengths)) _ (a .1) in
-    let c = both (not (any (λ w. not (isScalar w)) ravel)) (eqb (product lengths) (length ravel)) (b .1) in
+    let c = both _ (eqb (product lengths) (length ravel)) h in
+    let b = both _ (not (any (λ w. not (isScalar w)) ravel)) (c .0) in
+    let a = both (leb (length lengths) 15) (not (any (λ l. ltb 65535 l) lengths)) (b .0) in
     record {
       rank = leb-true _ _ (a .0);
-      short = λ w k. ltb-false 65535 w (none-of (λ l. ltb 65535 l) lengths (not-true _ (b .0)) w k);
-      scalars = λ w k. not-false (isScalar w) (none-of (λ v. not (isScalar v)) ravel (not-true _ (c .0)) w k);
+      short = λ w k. ltb-false 65535 w (none-of (λ l. ltb 65535 l) lengths (not-true _ (a .1)) w k);
+      scalars = λ w k. not-false (isScalar w) (none-of (λ v. not (isScalar v)) ravel (not-true _ (b .1)) w k);
       size = eqb-true _ _ (c .1);
     }
 
@@ -102,7 +102,7 @@ gives s (l ∷ lengths) ravel h =
 
 -- ---- storage full
 
-full-asked : (b : Bool) (n : ℕ) → n ≢ 0 → (s : List ℕ) → cond (eqb (cond b n 0) 0) false (noneFor s (cond b n 0)) ≡ cond b (noneFor s n) false
+full-asked : (b : Bool) (n : ℕ) → n ≢ 0 → (s : List ℕ) → cond (eqb (cond b n 0) 0) false (noneFor s (cond b n 0)) ≡ (b && noneFor s n)
 full-asked true n some s = rw (ne-eqb n 0 some)
 full-asked false n some s = refl
 

@@ -1,7 +1,7 @@
 -- The table of lay out: its answer, and the segment after it, where the tests up to one are known.
 use Prim.Native.Nat.{ℕ, _+_, _<_, _≤_}
 use mathlib.Core.Path.{_≡_, refl, sym, ap, _∙_}
-use mathlib.Core.Bool.{Bool, true, false, cond}
+use mathlib.Core.Bool.{Bool, true, false, cond, _&&_}
 use mathlib.Core.List.{List}
 use native.Mathlib.Omega.{arith}
 use lib.ListN.{length}
@@ -14,7 +14,6 @@ use Rattle.procedure.specs.Headers.{blockAt}
 use Rattle.procedure.specs.Directory.{hasFunction, startOf, functionOf}
 use Rattle.procedure.specs.Refusal.{procedureRefusal}
 use Rattle.manual.specs.Control.{frameWord}
-use Rattle.acceptance_storage.specs.Tests.{_and_}
 use Rattle.acceptance.specs.Refusal.{lengthTest}
 use Rattle.fresh_segment.specs.LayOut.{Layout, chosen, localsOf, functionTest, baseOf, partsTest, layOutRefusal, fresh, laidOut}
 use Rattle.fresh_segment.proofs.Passed.{passed as passes}
@@ -28,13 +27,13 @@ use Rattle.audit.proofs.LayOut.{lay-out-did}
 -- ---- the bottom function
 
 abbrev bottom : List ℕ → List ℕ → Layout → Function
-bottom regular alternate l = cond (leb (l .selector) 1 and leb (l .function) 2047) (functionOf (chosen regular alternate l) (l .function)) F.Absent
+bottom regular alternate l = cond (leb (l .selector) 1 && leb (l .function) 2047) (functionOf (chosen regular alternate l) (l .function)) F.Absent
 
 abbrev niladic : Function → Bool
 niladic F.Absent = false
 niladic (F.At block) = eqb (block .header .nargs) 0
 
-by-tests : (a b c : Bool) (block : Block) → (a and b and c and eqb (block .header .nargs) 0) ≡ niladic (cond (a and b) (cond c (F.At block) F.Absent) F.Absent)
+by-tests : (a b c : Bool) (block : Block) → (a && b && c && eqb (block .header .nargs) 0) ≡ niladic (cond (a && b) (cond c (F.At block) F.Absent) F.Absent)
 by-tests true true true block = refl
 by-tests true true false block = refl
 by-tests true false c block = refl
@@ -54,7 +53,7 @@ module _ (regular alternate : List ℕ) (l : Layout) where
 
   by-block : (block : Block) → F.At block ≡ bottom regular alternate l → block .header .nlocals ≡ localsOf regular alternate l
   unfolding functionOf
-  by-block block at = ap (λ (b : Block). b .header .nlocals) (same-block (leb (l .selector) 1 and leb (l .function) 2047) (hasFunction (chosen regular alternate l) (l .function)) _ block at)
+  by-block block at = ap (λ (b : Block). b .header .nlocals) (same-block (leb (l .selector) 1 && leb (l .function) 2047) (hasFunction (chosen regular alternate l) (l .function)) _ block at)
 
 -- ---- the table
 
@@ -99,7 +98,7 @@ module _ (s regular alternate : List ℕ) (l : Layout) where
       has-arguments some = refused 20 (λ e. omega (arith, e)) (by-parts (F.At block) at ∙ simp (ne-eqb (block .header .nargs) 0 (λ e. omega (arith, e))))
 
       abbrev pub parts : Bool
-      parts = leb (l .globals) 4088 and leb 6 (l .arrayWords) and leb (baseOf l + block .header .nlocals + 2) (length s)
+      parts = leb (l .globals) 4088 && leb 6 (l .arrayWords) && leb (baseOf l + block .header .nlocals + 2) (length s)
 
       module _ (none : block .header .nargs ≤ 0) where
         judged : (b : Bool) → b ≡ parts → layOutRefusal s regular alternate l ≡ cond b 0 19

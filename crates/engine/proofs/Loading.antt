@@ -43,9 +43,7 @@ first-scalar (w ∷ ws) one h = none-other (isScalar w) (any (λ v. not (isScala
 pub one-scalar : (lengths ravel : List ℕ) → isValue lengths ravel ≡ true → length lengths ≡ 0 → (length ravel ≡ 1) × (isScalar (first ravel) ≡ true)
 unfolding isValue
 one-scalar [] ravel value rank =
-    let a = both (leb 0 15) _ value in
-    let b = both (not (any (λ l. ltb 65535 l) [])) _ (a .1) in
-    let c = both (not (any (λ w. not (isScalar w)) ravel)) (eqb (product []) (length ravel)) (b .1) in
+    let c = both (not (any (λ w. not (isScalar w)) ravel)) (eqb (product []) (length ravel)) value in
     let one : length ravel ≡ 1 = sym (eqb-true 1 (length ravel) (c .1)) in
     (one, first-scalar ravel one (c .0))
 one-scalar (l ∷ lengths) ravel value rank = absurd (omega arith)

@@ -40,13 +40,13 @@ module _ (regular other : List ℕ) (l : Layout) where
   function-passed : functionTest regular other l ≡ true → BottomFunction regular other l
   unfolding functionTest
   function-passed h =
-      let a = both (leb (l .selector) 1) _ h in
-      let b = both (leb (l .function) 2047) _ (a .1) in
-      let c = both (hasFunction (chosen regular other l) (l .function)) _ (b .1) in
+      let c = both _ (eqb (nargsOf (chosen regular other l) (l .function)) 0) h in
+      let b = both _ (hasFunction (chosen regular other l) (l .function)) (c .0) in
+      let a = both (leb (l .selector) 1) (leb (l .function) 2047) (b .0) in
       record {
         selector = leb-true _ _ (a .0);
-        number = leb-true _ _ (b .0);
-        present = c .0;
+        number = leb-true _ _ (a .1);
+        present = b .1;
         niladic = eqb-true _ _ (c .1);
       }
 
@@ -54,9 +54,9 @@ module _ (regular other : List ℕ) (l : Layout) where
     parts-passed : length s ≤ 16384 → partsTest s regular other l ≡ true → Room (length s) (localsOf regular other l) l
     unfolding partsTest
     parts-passed k h =
-        let a = both (leb (l .globals) 4088) _ h in
-        let b = both (leb 6 (l .arrayWords)) (leb (baseOf l + localsOf regular other l + 2) (length s)) (a .1) in
-        record { longest = k; storage = leb-true _ _ (b .0); stack = leb-true _ _ (b .1) }
+        let b = both _ (leb (baseOf l + localsOf regular other l + 2) (length s)) h in
+        let a = both (leb (l .globals) 4088) (leb 6 (l .arrayWords)) (b .0) in
+        record { longest = k; storage = leb-true _ _ (a .1); stack = leb-true _ _ (b .1) }
 
     pub passed : layOutRefusal s regular other l ≡ 0 → Passed s regular other l
     unfolding layOutRefusal

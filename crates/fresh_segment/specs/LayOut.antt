@@ -2,7 +2,7 @@
 -- words below 6, or the parts and bottom frame exceed the words lent"); decision 12. "Lay out makes cells undefined, PCTR 8,
 -- ROVER BLOCKPTR, other words zero." Assumes nothing.
 use Prim.Native.Nat.{ℕ, _+_, _-_, _*_, _^_}
-use mathlib.Core.Bool.{Bool, cond}
+use mathlib.Core.Bool.{Bool, cond, _&&_}
 use mathlib.Core.List.{List}
 use lib.Dec.{leb, eqb}
 use lib.ListN.{length, set, replicate}
@@ -10,7 +10,6 @@ use lib.Seq.{sets}
 use Rattle.descriptor.specs.Fields.{undefinedWord}
 use Rattle.procedure.specs.Directory.{selected, hasFunction, nargsOf, nlocalsOf}
 use Rattle.procedure.specs.Refusal.{procedureRefusal}
-use Rattle.acceptance_storage.specs.Tests.{_and_}
 use Rattle.acceptance.specs.Refusal.{lengthTest}
 use Rattle.manual.specs.Control.{frameWord}
 
@@ -34,9 +33,9 @@ localsOf regular alternate l = nlocalsOf (chosen regular alternate l) (l .functi
 unfoldable pub functionTest : List ℕ → List ℕ → Layout → Bool
 functionTest regular alternate l =
     leb (l .selector) 1
-    and leb (l .function) 2047
-    and hasFunction (chosen regular alternate l) (l .function)
-    and eqb (nargsOf (chosen regular alternate l) (l .function)) 0
+    && leb (l .function) 2047
+    && hasFunction (chosen regular alternate l) (l .function)
+    && eqb (nargsOf (chosen regular alternate l) (l .function)) 0
 
 -- Where array storage starts, and the stack after it.
 abbrev pub storageStart : Layout → ℕ
@@ -49,8 +48,8 @@ baseOf l = storageStart l + l .arrayWords
 unfoldable pub partsTest : List ℕ → List ℕ → List ℕ → Layout → Bool
 partsTest s regular alternate l =
     leb (l .globals) 4088
-    and leb 6 (l .arrayWords)
-    and leb (baseOf l + localsOf regular alternate l + 2) (length s)
+    && leb 6 (l .arrayWords)
+    && leb (baseOf l + localsOf regular alternate l + 2) (length s)
 
 unfoldable pub layOutRefusal : List ℕ → List ℕ → List ℕ → Layout → ℕ
 layOutRefusal s regular alternate l =

@@ -1,6 +1,6 @@
 // The tests of document 01's table that the operations go by.
 ghost use mathlib.Core.Path.{_≡_};
-ghost use mathlib.Core.Bool.{cond};
+ghost use mathlib.Core.Bool.{cond, _&&_};
 ghost use Prim.Native.Nat.{_+_};
 ghost use lib.Dec.{leb, ltb, eqb};
 ghost use lib.ListN.{length};
@@ -8,7 +8,6 @@ ghost use Rattle.procedure.specs.declared.directory.Function.the-variants as fo
 ghost use Rattle.procedure.specs.Directory.{selected, functionOf};
 ghost use Rattle.procedure.specs.Refusal.{procedureRefusal};
 ghost use Rattle.segment.specs.Blocks as layout;
-ghost use Rattle.acceptance_storage.specs.Tests.{_and_};
 ghost use Rattle.acceptance.specs.Refusal.{lengthTest, refusal};
 ghost use Rattle.manual.specs.Values as values;
 ghost use Rattle.operations.specs.Load as meaning;
@@ -48,7 +47,7 @@ pub fn segments_refusal(seg: &[u32], regular: &[u8], alternate: &[u8]) -> u8
 
 // The function that test 20 looks at.
 pub fn bottom_function(regular: &[u8], alternate: &[u8], selector: u32, function: u32) -> Function
-    ensures { λ r. ⌜ r ≡ cond (leb selector 1 and leb function 2047)
+    ensures { λ r. ⌜ r ≡ cond (leb selector 1 && leb function 2047)
         (functionOf (selected (eqb selector 1) (now (regular .entry)) (now (alternate .entry))) function) found.Absent ⌝ }
 {
     if 1 < selector {
@@ -65,7 +64,7 @@ pub fn bottom_function(regular: &[u8], alternate: &[u8], selector: u32, function
 
 // Test 19.
 pub fn parts_fit(seg: &[u32], globals: u32, storage: u32, locals: u32) -> bool
-    ensures { λ r. ⌜ r ≡ (leb globals 4088 and leb 6 storage and leb (8 + globals + storage + locals + 2) (length (now (seg .entry)))) ⌝ }
+    ensures { λ r. ⌜ r ≡ (leb globals 4088 && leb 6 storage && leb (8 + globals + storage + locals + 2) (length (now (seg .entry)))) ⌝ }
 {
     if 4088 < globals {
         return false;

@@ -18,7 +18,7 @@ returns : tie.Need-returns
 returns c =
     let a = c .before .before .before .before .before .before .before .before .before .before .args in
     let h = c .before .before .before .before .before .before .before .before .before .before .pre in
-    table-15 (a .seg .now) (a .regular .now) (a .alternate .now) (h .0) (h .1) (sym (c .before .before .before .ring-test .ensures .0) ∙ not-true _ (c .if1 .taken))
+    table-15 (a .seg .now) (a .regular .now) (a .alternate .now) (h .head) (h .blocks) (sym (c .before .before .before .ring-test .ensures .0) ∙ not-true _ (c .if1 .taken))
 
 frames-test-requires : tie.Need-frames-test-requires
 frames-test-requires c κs = search needs
@@ -31,7 +31,7 @@ returns-2 c =
     let a = c .before .before .before .before .before .before .before .before .before .before .before .before .args in
     let h = c .before .before .before .before .before .before .before .before .before .before .before .before .pre in
     let ringed = sym (c .before .before .before .before .before .ring-test .ensures .0) ∙ not-false _ (c .before .before .if1 .left) in
-    table-16 (a .seg .now) (a .regular .now) (a .alternate .now) (h .0) (h .1) ringed (sym (c .before .frames-test .ensures) ∙ not-true _ (c .if2 .taken))
+    table-16 (a .seg .now) (a .regular .now) (a .alternate .now) (h .head) (h .blocks) ringed (sym (c .before .frames-test .ensures) ∙ not-true _ (c .if2 .taken))
 
 cells-test-requires : tie.Need-cells-test-requires
 cells-test-requires c κs =
@@ -39,7 +39,14 @@ cells-test-requires c κs =
     let h = c .before .before .before .before .before .before .before .before .before .before .before .before .before .before .pre in
     let ringed = sym (c .before .before .before .before .before .before .before .ring-test .ensures .0) ∙ not-false _ (c .before .before .before .before .if1 .left) in
     let framed = sym (c .before .before .before .frames-test .ensures) ∙ not-false _ (c .before .before .if2 .left) in
-    (head-sound (a .seg .now) (h .0), h .2, framed, omega (arith, h .3), h .5 .arrayMarks, c .before .before .before .before .before .before .before .ring-test .ensures .1 ringed)
+    let clear = c .before .before .before .before .before .before .before .ring-test .ensures .1 ringed in
+    record {
+      head = head-sound (a .seg .now) (h .head);
+      longest = h .longest;
+      frames = framed;
+      arrayMarks = h .marked .arrayMarks;
+      clear = record { long = omega (arith, h .long); empty = clear };
+    }
 
 same-length-3 : tie.Need-same-length-3
 same-length-3 c = search needs
@@ -53,13 +60,13 @@ returns-3 c =
     let h = c .before .before .before .before .before .before .before .before .before .before .before .before .before .before .before .before .before .before .before .before .pre in
     let ringed = sym (c .before .before .before .before .before .before .before .before .before .before .before .before .before .ring-test .ensures .0) ∙ not-false _ (c .before .before .before .before .before .before .before .before .before .before .if1 .left) in
     let framed = sym (c .before .before .before .before .before .before .before .before .before .frames-test .ensures) ∙ not-false _ (c .before .before .before .before .before .before .before .before .if2 .left) in
-    table-17 (a .seg .now) (a .regular .now) (a .alternate .now) (h .0) (h .1) ringed framed (sym (c .before .before .before .before .before .cells-test .ensures .0) ∙ not-true _ (c .if3 .taken))
+    table-17 (a .seg .now) (a .regular .now) (a .alternate .now) (h .head) (h .blocks) ringed framed (sym (c .before .before .before .before .before .cells-test .ensures .0) ∙ not-true _ (c .if3 .taken))
 
 counts-test-requires : tie.Need-counts-test-requires
 counts-test-requires c κs =
     let a = c .before .before .before .before .before .before .before .before .before .before .before .before .before .before .before .before .before .before .before .before .before .args in
     let h = c .before .before .before .before .before .before .before .before .before .before .before .before .before .before .before .before .before .before .before .before .before .pre in
-    all-tallied (a .seg .now) (head-sound (a .seg .now) (h .0)) (h .2) (h .1) (h .5 .arrayMarks) (c .before .before .before .before .before .before .cells-test .ensures .1 (not-false _ (c .before .if3 .left)))
+    all-tallied (a .seg .now) (head-sound (a .seg .now) (h .head)) (h .longest) (h .blocks) (h .marked .arrayMarks) (c .before .before .before .before .before .before .cells-test .ensures .1 (not-false _ (c .before .if3 .left)))
 
 same-length-5 : tie.Need-same-length-5
 same-length-5 c = search needs
@@ -74,7 +81,7 @@ returns-4 c =
     let ringed = sym (c .before .before .before .before .before .before .before .before .before .before .before .before .before .before .before .before .ring-test .ensures .0) ∙ not-false _ (c .before .before .before .before .before .before .before .before .before .before .before .before .before .if1 .left) in
     let framed = sym (c .before .before .before .before .before .before .before .before .before .before .before .before .frames-test .ensures) ∙ not-false _ (c .before .before .before .before .before .before .before .before .before .before .before .if2 .left) in
     let celled = sym (c .before .before .before .before .before .before .before .before .cells-test .ensures .0) ∙ not-false _ (c .before .before .before .if3 .left) in
-    table-18 (a .seg .now) (a .regular .now) (a .alternate .now) (h .0) (h .1) ringed framed celled (sym (c .before .counts-test .ensures) ∙ not-true _ (c .if4 .taken))
+    table-18 (a .seg .now) (a .regular .now) (a .alternate .now) (h .head) (h .blocks) ringed framed celled (sym (c .before .counts-test .ensures) ∙ not-true _ (c .if4 .taken))
 
 same-length-7 : tie.Need-same-length-7
 same-length-7 c = search needs
@@ -89,7 +96,7 @@ returns-5 c =
     let ringed = sym (c .before .before .before .before .before .before .before .before .before .before .before .before .before .before .before .before .ring-test .ensures .0) ∙ not-false _ (c .before .before .before .before .before .before .before .before .before .before .before .before .before .if1 .left) in
     let framed = sym (c .before .before .before .before .before .before .before .before .before .before .before .before .frames-test .ensures) ∙ not-false _ (c .before .before .before .before .before .before .before .before .before .before .before .if2 .left) in
     let celled = sym (c .before .before .before .before .before .before .before .before .cells-test .ensures .0) ∙ not-false _ (c .before .before .before .if3 .left) in
-    table-0 (a .seg .now) (a .regular .now) (a .alternate .now) (h .0) (h .1) ringed framed celled (sym (c .before .counts-test .ensures) ∙ not-false _ (c .if4 .left))
+    table-0 (a .seg .now) (a .regular .now) (a .alternate .now) (h .head) (h .blocks) ringed framed celled (sym (c .before .counts-test .ensures) ∙ not-false _ (c .if4 .left))
 
 pub judge-marked-spec : {M : Type 1} → statement M
 judge-marked-spec =

@@ -22,7 +22,14 @@ judge-marked-requires c κs =
     let a = c .before .before .before .before .before .before .before .before .before .before .before .before .before .before .before .before .before .args in
     let h = c .before .before .before .before .before .before .before .before .before .before .before .before .before .before .before .before .before .pre in
     let k = proper (a .seg .now) (c .before .before .before .before .before .before .before .before .before .blocks-test .ensures .0) _ (c .before .before .before .frees .given .1) in
-    (h .0, k .0, h .1, omega (arith, h .3 .long), k .1, c .before .before .before .before .before .before .before .before .before .blocks-test .ensures .1 (k .0))
+    record {
+      head = h .0;
+      blocks = k .0;
+      longest = h .1;
+      long = omega (arith, h .3 .long);
+      frees = k .1;
+      marked = c .before .before .before .before .before .before .before .before .before .blocks-test .ensures .1 (k .0);
+    }
 
 same-length : tie.Need-same-length
 same-length c = search needs

@@ -6,9 +6,10 @@ use borrow.Author.Needs.{needs}
 use borrow.Author.Tests.{not-true, not-false}
 use lib.ListN.{length}
 use Rattle.acceptance_storage.specs.Marks.{Tally}
-use Rattle.acceptance.specs.Frames.{known, arguments, variables, framesPass}
+use Rattle.acceptance.specs.Frames.{arguments, variables}
 use Rattle.acceptance.specs.Cells.{inTable, variablesFrom, cellsFrom}
-use Rattle.acceptance.proofs.Chain.{few-arguments, low-enough, at-bottom, above}
+use Rattle.acceptance.specs.Tables.{stackTest}
+use Rattle.acceptance.proofs.Chain.{chainFrom, few-arguments, low-enough, at-bottom, above}
 use Rattle.acceptance.proofs.FrameCells.{never, cells-none, own-marked, frame-alike, frame-fails, frame-bottom, frame-on, older-marked}
 use Rattle.acceptance.proofs.Tallies.{Down, down-start, down-bottom, down-on}
 use Rattle.acceptance.proofs.cells.cells_from.Statement.{statement}
@@ -20,16 +21,16 @@ Inv-loop seg regular alternate from upto arrays₀ marks₀ base₀ top₀ left�
     × (top ≤ upto)
     × (length arrays ≡ length arrays₀)
     × (length marks ≡ length marks₀)
-    × (framesPass left (known regular alternate) (variables regular alternate) seg base ≡ true)
+    × (chainFrom left seg regular alternate base ≡ true)
     × Tally marks (variablesFrom left (variables regular alternate) seg base)
-    × (cellsFrom (length seg) (arguments regular alternate) (variables regular alternate) seg (inTable arrays₀) from upto ≡ cellsFrom left (arguments regular alternate) (variables regular alternate) seg (inTable arrays₀) base top)
+    × (stackTest seg regular alternate (inTable arrays₀) from upto ≡ cellsFrom left (arguments regular alternate) (variables regular alternate) seg (inTable arrays₀) base top)
     × Down seg from upto arrays₀ arrays base top
 
 abbrev μ-loop : tie.MeasureT-loop
 μ-loop seg regular alternate from upto arrays₀ marks₀ base₀ top₀ left₀ arrays marks base top left = left
 
 loop-holds : tie.Need-loop-holds Inv-loop μ-loop
-loop-holds c = (c .before .before .before .before .before .pre .0, omega arith, refl, refl, c .before .before .before .before .before .pre .3, c .before .before .before .before .before .pre .4, refl, down-start _ _ _ _ (c .before .before .before .before .before .pre .5))
+loop-holds c = let h = c .before .before .before .before .before .pre in (h .over, omega arith, refl, refl, h .chain, h .variables, refl, down-start _ _ _ _ (h .room))
 
 of-requires : tie.Need-of-requires Inv-loop μ-loop
 of-requires c κs = search needs
@@ -59,7 +60,15 @@ frame-cells-requires c κs =
     let f = rw (c .before .before .before .before .before .before .of .ensures) at (c .before .before .before .before .before .frame-at .ensures) in
     let es = ap (λ (v : ℕ). l .base - v) (f .variables) in
     let el = c .before .before .before .before .number .ensures ∙ f .last in
-    (omega (arith, few-arguments (a .seg .now) (a .regular .now) (a .alternate .now) (l .base) (l .left) more f (l .inv .4), low-enough (a .seg .now) (a .regular .now) (a .alternate .now) (l .base) (l .left) more f (l .inv .4)), l .inv .0, omega arith, omega arith, own-marked (arguments (a .regular .now) (a .alternate .now)) (variables (a .regular .now) (a .alternate .now)) (a .seg .now) (inTable (a .arrays .now)) (l .base) (l .top) (l .left) more es (f .arguments) el (l .marks) (l .inv .5), l .inv .7 .room)
+    let h = c .before .before .before .before .before .before .before .before .before .before .before .before .before .before .pre in
+    record {
+      arguments = omega (arith, few-arguments (a .seg .now) (a .regular .now) (a .alternate .now) (l .base) (l .left) more f (l .inv .4), low-enough (a .seg .now) (a .regular .now) (a .alternate .now) (l .base) (l .left) more f (l .inv .4));
+      over = l .inv .0;
+      inside = omega arith;
+      longest = h .longest;
+      variables = own-marked (arguments (a .regular .now) (a .alternate .now)) (variables (a .regular .now) (a .alternate .now)) (a .seg .now) (inTable (a .arrays .now)) (l .base) (l .top) (l .left) more es (f .arguments) el (l .marks) (l .inv .5);
+      room = l .inv .7 .room;
+    }
 
 same-length : tie.Need-same-length Inv-loop μ-loop
 same-length c = search needs

@@ -32,7 +32,7 @@ plain-cells-requires c κs =
     let a = c .before .before .before .before .before .before .before .before .before .args in
     let h = c .before .before .before .before .before .before .before .before .before .pre in
     let z : c .before .before .index .result ≡ blockptr (a .seg .now) = c .before .before .index .ensures ∙ c .before .before .before .blockptr .ensures in
-    λ x. omega (arith, h .0 .room, h .0 .top, h .1, marks-few (a .seg .now) (a .arrays .now) (h .4) x, z, lent-length (a .seg .now) 8 (c .before .before .index .result) (omega (arith, z, h .0 .low)) (omega (arith, z, h .0 .room, h .0 .top)))
+    λ x. omega (arith, h .head .room, h .head .top, h .longest, marks-few (a .seg .now) (a .arrays .now) (h .arrayMarks) x, z, lent-length (a .seg .now) 8 (c .before .before .index .result) (omega (arith, z, h .head .low)) (omega (arith, z, h .head .room, h .head .top)))
 
 same-length : tie.Need-same-length
 same-length c = search needs
@@ -42,8 +42,8 @@ returns c =
     let a = c .before .before .before .before .before .before .before .before .before .before .before .before .before .args in
     let h = c .before .before .before .before .before .before .before .before .before .before .before .before .before .pre in
     let z : c .before .before .before .before .before .before .index .result ≡ blockptr (a .seg .now) = c .before .before .before .before .before .before .index .ensures ∙ c .before .before .before .before .before .before .before .blockptr .ensures in
-    let p = lent (a .seg .now) 8 (c .before .before .before .before .before .before .index .result) 8 (blockptr (a .seg .now) - 8) refl (omega (arith, z, h .0 .low)) (omega (arith, z, h .0 .room, h .0 .top)) in
-    (sym (globals-fail (a .seg .now) (a .regular .now) (a .alternate .now) (a .arrays .now) (h .4) p (sym (c .before .before .before .plain-cells .ensures .0) ∙ not-true _ (c .if1 .taken))), never)
+    let p = lent (a .seg .now) 8 (c .before .before .before .before .before .before .index .result) 8 (blockptr (a .seg .now) - 8) refl (omega (arith, z, h .head .low)) (omega (arith, z, h .head .room, h .head .top)) in
+    (sym (globals-fail (a .seg .now) (a .regular .now) (a .alternate .now) (a .arrays .now) (h .arrayMarks) p (sym (c .before .before .before .plain-cells .ensures .0) ∙ not-true _ (c .if1 .taken))), never)
 
 lbase-requires : tie.Need-lbase-requires
 lbase-requires c κs = search needs
@@ -52,8 +52,8 @@ mark-variables-requires : tie.Need-mark-variables-requires
 mark-variables-requires c κs =
     let a = c .before .before .before .before .before .before .before .before .before .before .before .before .before .before .before .args in
     let h = c .before .before .before .before .before .before .before .before .before .before .before .before .before .before .before .pre in
-    let k = frames-top (a .seg .now) (a .regular .now) (a .alternate .now) (h .2) in
-    (omega (arith, h .0 .top, h .1, k, c .before .lbase .ensures), omega (arith, h .0 .top, h .3, k, c .before .lbase .ensures), h .5)
+    let k = frames-top (a .seg .now) (a .regular .now) (a .alternate .now) (h .frames) in
+    (omega (arith, h .head .top, h .longest, k, c .before .lbase .ensures), omega (arith, h .head .top, h .clear .long, k, c .before .lbase .ensures), h .clear .empty)
 
 ltop-requires : tie.Need-ltop-requires
 ltop-requires c κs = search needs
@@ -72,16 +72,17 @@ cells-from-requires c κs =
     let a = c .before .before .before .before .before .before .before .before .before .before .before .before .before .before .before .before .before .before .before .before .before .before .before .args in
     let h = c .before .before .before .before .before .before .before .before .before .before .before .before .before .before .before .before .before .before .before .before .before .before .before .pre in
     let z : c .before .before .before .before .before .before .before .before .before .before .before .before .before .before .before .before .index .result ≡ blockptr (a .seg .now) = c .before .before .before .before .before .before .before .before .before .before .before .before .before .before .before .before .index .ensures ∙ c .before .before .before .before .before .before .before .before .before .before .before .before .before .before .before .before .before .blockptr .ensures in
-    let k = frames-top (a .seg .now) (a .regular .now) (a .alternate .now) (h .2) in
+    let k = frames-top (a .seg .now) (a .regular .now) (a .alternate .now) (h .frames) in
     let b = c .before .before .number2 .ensures ∙ c .before .before .before .before .before .before .before .before .before .lbase .ensures in
-    let t = c .before .before .before .number .ensures ∙ c .before .before .before .before .ltop .ensures in (
-      omega (arith, b, t, k),
-      omega (arith, t, h .0 .top),
-      h .1,
-      rw b (sym (long (a .seg .now) (a .regular .now) (a .alternate .now) k) ∙ h .2),
-      rw (c .before .before .number2 .ensures) (c .before .before .before .before .before .before .before .mark-variables .ensures),
-      λ x. omega (arith, t, h .0 .room, h .0 .top, h .1, marks-few (a .seg .now) (a .arrays .now) (h .4) x, z, lent-length (a .seg .now) 8 (c .before .before .before .before .before .before .before .before .before .before .before .before .before .before .before .before .index .result) (omega (arith, z, h .0 .low)) (omega (arith, z, h .0 .room, h .0 .top)), c .before .before .before .before .before .before .before .before .before .before .before .before .before .plain-cells .ensures .1 .1 (not-false _ (c .before .before .before .before .before .before .before .before .before .before .if1 .left)) x),
-    )
+    let t = c .before .before .before .number .ensures ∙ c .before .before .before .before .ltop .ensures in
+    record {
+      over = omega (arith, b, t, k);
+      inside = omega (arith, t, h .head .top);
+      longest = h .longest;
+      chain = rw b (sym (long (a .seg .now) (a .regular .now) (a .alternate .now) k) ∙ h .frames);
+      variables = rw (c .before .before .number2 .ensures) (c .before .before .before .before .before .before .before .mark-variables .ensures);
+      room = λ x. omega (arith, t, h .head .room, h .head .top, h .longest, marks-few (a .seg .now) (a .arrays .now) (h .arrayMarks) x, z, lent-length (a .seg .now) 8 (c .before .before .before .before .before .before .before .before .before .before .before .before .before .before .before .before .index .result) (omega (arith, z, h .head .low)) (omega (arith, z, h .head .room, h .head .top)), c .before .before .before .before .before .before .before .before .before .before .before .before .before .plain-cells .ensures .1 .1 (not-false _ (c .before .before .before .before .before .before .before .before .before .before .if1 .left)) x);
+    }
 
 same-length-2 : tie.Need-same-length-2
 same-length-2 c = search needs
@@ -94,12 +95,12 @@ returns-2 c =
     let a = c .before .before .before .before .before .before .before .before .before .before .before .before .before .before .before .before .before .before .before .before .before .before .before .before .before .before .before .before .args in
     let h = c .before .before .before .before .before .before .before .before .before .before .before .before .before .before .before .before .before .before .before .before .before .before .before .before .before .before .before .before .pre in
     let z : c .before .before .before .before .before .before .before .before .before .before .before .before .before .before .before .before .before .before .before .before .before .index .result ≡ blockptr (a .seg .now) = c .before .before .before .before .before .before .before .before .before .before .before .before .before .before .before .before .before .before .before .before .before .index .ensures ∙ c .before .before .before .before .before .before .before .before .before .before .before .before .before .before .before .before .before .before .before .before .before .before .blockptr .ensures in
-    let p = lent (a .seg .now) 8 (c .before .before .before .before .before .before .before .before .before .before .before .before .before .before .before .before .before .before .before .before .before .index .result) 8 (blockptr (a .seg .now) - 8) refl (omega (arith, z, h .0 .low)) (omega (arith, z, h .0 .room, h .0 .top)) in
+    let p = lent (a .seg .now) 8 (c .before .before .before .before .before .before .before .before .before .before .before .before .before .before .before .before .before .before .before .before .before .index .result) 8 (blockptr (a .seg .now) - 8) refl (omega (arith, z, h .head .low)) (omega (arith, z, h .head .room, h .head .top)) in
     let yes = not-false _ (c .before .before .before .before .before .before .before .before .before .before .before .before .before .before .before .if1 .left) in
     let m = c .before .before .before .before .before .before .before .before .before .before .before .before .before .before .before .before .before .before .plain-cells .ensures .1 .0 yes in
     let b = c .before .before .before .before .before .before .before .number2 .ensures ∙ c .before .before .before .before .before .before .before .before .before .before .before .before .before .before .lbase .ensures in
     let t = c .before .before .before .before .before .before .before .before .number .ensures ∙ c .before .before .before .before .before .before .before .before .before .ltop .ensures in (
-      rw (b, t) at (c .before .before .before .before .cells-from .ensures .0) ∙ sym (globals-pass (a .seg .now) (a .regular .now) (a .alternate .now) (a .arrays .now) (h .4) p (sym (c .before .before .before .before .before .before .before .before .before .before .before .before .before .before .before .before .before .before .plain-cells .ensures .0) ∙ yes) m),
+      rw (b, t) at (c .before .before .before .before .cells-from .ensures .0) ∙ sym (globals-pass (a .seg .now) (a .regular .now) (a .alternate .now) (a .arrays .now) (h .arrayMarks) p (sym (c .before .before .before .before .before .before .before .before .before .before .before .before .before .before .before .before .before .before .plain-cells .ensures .0) ∙ yes) m),
       λ r. owners-met (a .seg .now) (rw p at m) (rw (b, t) at (c .before .before .before .before .cells-from .ensures .1 r)),
     )
 

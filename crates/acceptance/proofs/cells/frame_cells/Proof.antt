@@ -47,7 +47,7 @@ free-cells-requires c κs =
     let h = c .before .before .before .before .before .before .before .before .pre in
     let stack = c .before .before .before .index .result in
     let z : stack ≡ sbase (a .seg .now) = c .before .before .before .index .ensures ∙ c .before .before .before .before .sbase .ensures in
-    λ x. omega (arith, h .5 x, lent-length (a .seg .now) (stack + a .base + 2) (stack + a .top) (omega (arith, h .1)) (omega (arith, z, h .2)))
+    λ x. omega (arith, h .room x, lent-length (a .seg .now) (stack + a .base + 2) (stack + a .top) (omega (arith, h .over)) (omega (arith, z, h .inside)))
 
 same-length : tie.Need-same-length
 same-length c = search needs
@@ -61,7 +61,7 @@ returns c =
     let h = c .before .before .before .before .before .before .before .before .before .before .before .before .pre in
     let stack = c .before .before .before .before .before .before .before .index .result in
     let z : stack ≡ sbase (a .seg .now) = c .before .before .before .before .before .before .before .index .ensures ∙ c .before .before .before .before .before .before .before .before .sbase .ensures in
-    let p₁ = lent (a .seg .now) (stack + a .base + 2) (stack + a .top) (sbase (a .seg .now) + a .base + 2) (a .top - (a .base + 2)) (omega (arith, z)) (omega (arith, z, h .1)) (omega (arith, z, h .2)) in
+    let p₁ = lent (a .seg .now) (stack + a .base + 2) (stack + a .top) (sbase (a .seg .now) + a .base + 2) (a .top - (a .base + 2)) (omega (arith, z)) (omega (arith, z, h .over)) (omega (arith, z, h .inside)) in
     (temporaries-fail (a .seg .now) (a .arrays .now) (a .marks .now) (a .arguments) (a .start) (a .base) (a .top) p₁ (sym (c .before .before .before .free-cells .ensures .0) ∙ not-true _ (c .if1 .taken)), (never, (never, never)))
 
 of-requires : tie.Need-of-requires
@@ -71,7 +71,7 @@ of-requires-2 : tie.Need-of-requires-2
 of-requires-2 c κs = search needs
 
 unmark-requires : tie.Need-unmark-requires
-unmark-requires c κs = rw (c .before .of .ensures, c .of2 .ensures) (c .before .before .before .before .before .before .before .before .before .before .before .before .before .before .before .pre .4)
+unmark-requires c κs = rw (c .before .of .ensures, c .of2 .ensures) (c .before .before .before .before .before .before .before .before .before .before .before .before .before .before .before .pre .variables)
 
 mul-free-cells-2 : tie.Need-mul-free-cells-2
 mul-free-cells-2 c = search needs
@@ -92,7 +92,7 @@ free-cells-requires-2 c κs =
     let stack = c .before .before .before .before .before .before .before .before .before .before .before .before .before .before .before .before .index .result in
     let z : stack ≡ sbase (a .seg .now) = c .before .before .before .before .before .before .before .before .before .before .before .before .before .before .before .before .index .ensures ∙ c .before .before .before .before .before .before .before .before .before .before .before .before .before .before .before .before .before .sbase .ensures in
     let yes1 = not-false _ (c .before .before .before .before .before .before .before .before .before .if1 .left) in
-    λ x. omega (arith, h .0, h .1, h .5 x, c .before .before .before .before .before .before .before .before .before .before .before .before .free-cells .ensures .1 .1 yes1 x, lent-length (a .seg .now) (stack + a .base + 2) (stack + a .top) (omega (arith, h .1)) (omega (arith, z, h .2)), lent-length (a .seg .now) (stack + a .start) (stack + a .start + a .arguments) (omega arith) (omega (arith, z, h .0, h .1, h .2)))
+    λ x. omega (arith, h .arguments, h .over, h .room x, c .before .before .before .before .before .before .before .before .before .before .before .before .free-cells .ensures .1 .1 yes1 x, lent-length (a .seg .now) (stack + a .base + 2) (stack + a .top) (omega (arith, h .over)) (omega (arith, z, h .inside)), lent-length (a .seg .now) (stack + a .start) (stack + a .start + a .arguments) (omega arith) (omega (arith, z, h .arguments, h .over, h .inside)))
 
 same-length-3 : tie.Need-same-length-3
 same-length-3 c = search needs
@@ -106,8 +106,8 @@ returns-2 c =
     let h = c .before .before .before .before .before .before .before .before .before .before .before .before .before .before .before .before .before .before .before .before .before .before .before .before .before .pre in
     let stack = c .before .before .before .before .before .before .before .before .before .before .before .before .before .before .before .before .before .before .before .before .index .result in
     let z : stack ≡ sbase (a .seg .now) = c .before .before .before .before .before .before .before .before .before .before .before .before .before .before .before .before .before .before .before .before .index .ensures ∙ c .before .before .before .before .before .before .before .before .before .before .before .before .before .before .before .before .before .before .before .before .before .sbase .ensures in
-    let p₁ = lent (a .seg .now) (stack + a .base + 2) (stack + a .top) (sbase (a .seg .now) + a .base + 2) (a .top - (a .base + 2)) (omega (arith, z)) (omega (arith, z, h .1)) (omega (arith, z, h .2)) in
-    let p₂ = lent (a .seg .now) (stack + a .start) (stack + a .start + a .arguments) (sbase (a .seg .now) + a .start) (a .arguments) (omega (arith, z)) (omega (arith, z)) (omega (arith, z, h .0, h .1, h .2)) in
+    let p₁ = lent (a .seg .now) (stack + a .base + 2) (stack + a .top) (sbase (a .seg .now) + a .base + 2) (a .top - (a .base + 2)) (omega (arith, z)) (omega (arith, z, h .over)) (omega (arith, z, h .inside)) in
+    let p₂ = lent (a .seg .now) (stack + a .start) (stack + a .start + a .arguments) (sbase (a .seg .now) + a .start) (a .arguments) (omega (arith, z)) (omega (arith, z)) (omega (arith, z, h .arguments, h .over, h .inside)) in
     let yes1 = not-false _ (c .before .before .before .before .before .before .before .before .before .before .before .before .before .if1 .left) in
     let gone = rw (c .before .before .before .before .before .before .before .before .before .before .before .of .ensures, c .before .before .before .before .before .before .before .before .before .before .of2 .ensures) at (c .before .before .before .before .before .before .before .before .before .unmark .ensures) in
     (arguments-fail (a .seg .now) (a .arrays .now) (a .marks .now) (a .arguments) (a .start) (a .base) (a .top) p₁ (sym (c .before .before .before .before .before .before .before .before .before .before .before .before .before .before .before .before .free-cells .ensures .0) ∙ yes1) (c .before .before .before .before .before .before .before .before .before .before .before .before .before .before .before .before .free-cells .ensures .1 .0 yes1) gone p₂ (sym (c .before .before .before .free-cells2 .ensures .0) ∙ not-true _ (c .if2 .taken)), (never, (never, never)))
@@ -132,7 +132,7 @@ plain-cells-requires c κs =
     let z : stack ≡ sbase (a .seg .now) = c .before .before .before .before .before .before .before .before .before .before .before .before .before .before .before .before .before .before .before .before .before .before .index .ensures ∙ c .before .before .before .before .before .before .before .before .before .before .before .before .before .before .before .before .before .before .before .before .before .before .before .sbase .ensures in
     let yes1 = not-false _ (c .before .before .before .before .before .before .before .before .before .before .before .before .before .before .before .if1 .left) in
     let yes2 = not-false _ (c .before .before .if2 .left) in
-    λ x. omega (arith, h .0, h .1, h .5 x, c .before .before .before .before .before .before .before .before .before .before .before .before .before .before .before .before .before .before .free-cells .ensures .1 .1 yes1 x, c .before .before .before .before .before .free-cells2 .ensures .1 .1 yes2 x, lent-length (a .seg .now) (stack + a .base + 2) (stack + a .top) (omega (arith, h .1)) (omega (arith, z, h .2)), lent-length (a .seg .now) (stack + a .start) (stack + a .start + a .arguments) (omega arith) (omega (arith, z, h .0, h .1, h .2)), lent-length (a .seg .now) (stack + a .start + a .arguments) (stack + a .base) (omega (arith, h .0)) (omega (arith, z, h .1, h .2)))
+    λ x. omega (arith, h .arguments, h .over, h .room x, c .before .before .before .before .before .before .before .before .before .before .before .before .before .before .before .before .before .before .free-cells .ensures .1 .1 yes1 x, c .before .before .before .before .before .free-cells2 .ensures .1 .1 yes2 x, lent-length (a .seg .now) (stack + a .base + 2) (stack + a .top) (omega (arith, h .over)) (omega (arith, z, h .inside)), lent-length (a .seg .now) (stack + a .start) (stack + a .start + a .arguments) (omega arith) (omega (arith, z, h .arguments, h .over, h .inside)), lent-length (a .seg .now) (stack + a .start + a .arguments) (stack + a .base) (omega (arith, h .arguments)) (omega (arith, z, h .over, h .inside)))
 
 same-length-5 : tie.Need-same-length-5
 same-length-5 c = search needs
@@ -146,9 +146,9 @@ returns-3 c =
     let h = c .before .before .before .before .before .before .before .before .before .before .before .before .before .before .before .before .before .before .before .before .before .before .before .before .before .before .before .before .before .before .pre in
     let stack = c .before .before .before .before .before .before .before .before .before .before .before .before .before .before .before .before .before .before .before .before .before .before .before .before .before .index .result in
     let z : stack ≡ sbase (a .seg .now) = c .before .before .before .before .before .before .before .before .before .before .before .before .before .before .before .before .before .before .before .before .before .before .before .before .before .index .ensures ∙ c .before .before .before .before .before .before .before .before .before .before .before .before .before .before .before .before .before .before .before .before .before .before .before .before .before .before .sbase .ensures in
-    let p₁ = lent (a .seg .now) (stack + a .base + 2) (stack + a .top) (sbase (a .seg .now) + a .base + 2) (a .top - (a .base + 2)) (omega (arith, z)) (omega (arith, z, h .1)) (omega (arith, z, h .2)) in
-    let p₂ = lent (a .seg .now) (stack + a .start) (stack + a .start + a .arguments) (sbase (a .seg .now) + a .start) (a .arguments) (omega (arith, z)) (omega (arith, z)) (omega (arith, z, h .0, h .1, h .2)) in
-    let p₃ = lent (a .seg .now) (stack + a .start + a .arguments) (stack + a .base) (sbase (a .seg .now) + a .start + a .arguments) (a .base - (a .start + a .arguments)) (omega (arith, z)) (omega (arith, z, h .0)) (omega (arith, z, h .1, h .2)) in
+    let p₁ = lent (a .seg .now) (stack + a .base + 2) (stack + a .top) (sbase (a .seg .now) + a .base + 2) (a .top - (a .base + 2)) (omega (arith, z)) (omega (arith, z, h .over)) (omega (arith, z, h .inside)) in
+    let p₂ = lent (a .seg .now) (stack + a .start) (stack + a .start + a .arguments) (sbase (a .seg .now) + a .start) (a .arguments) (omega (arith, z)) (omega (arith, z)) (omega (arith, z, h .arguments, h .over, h .inside)) in
+    let p₃ = lent (a .seg .now) (stack + a .start + a .arguments) (stack + a .base) (sbase (a .seg .now) + a .start + a .arguments) (a .base - (a .start + a .arguments)) (omega (arith, z)) (omega (arith, z, h .arguments)) (omega (arith, z, h .over, h .inside)) in
     let yes1 = not-false _ (c .before .before .before .before .before .before .before .before .before .before .before .before .before .before .before .before .before .before .if1 .left) in
     let yes2 = not-false _ (c .before .before .before .before .before .if2 .left) in
     let gone = rw (c .before .before .before .before .before .before .before .before .before .before .before .before .before .before .before .before .of .ensures, c .before .before .before .before .before .before .before .before .before .before .before .before .before .before .before .of2 .ensures) at (c .before .before .before .before .before .before .before .before .before .before .before .before .before .before .unmark .ensures) in (
@@ -156,8 +156,8 @@ returns-3 c =
       (
         λ t. gone,
         (
-          λ t. frame-met (a .seg .now) (a .arrays .now) (a .marks .now) (a .arguments) (a .start) (a .base) (a .top) p₁ (sym (c .before .before .before .before .before .before .before .before .before .before .before .before .before .before .before .before .before .before .before .before .before .free-cells .ensures .0) ∙ yes1) (c .before .before .before .before .before .before .before .before .before .before .before .before .before .before .before .before .before .before .before .before .before .free-cells .ensures .1 .0 yes1) gone p₂ (sym (c .before .before .before .before .before .before .before .before .free-cells2 .ensures .0) ∙ yes2) (c .before .before .before .before .before .before .before .before .free-cells2 .ensures .1 .0 yes2) p₃ (h .0) (c .before .before .plain-cells .ensures .1 .0 t),
-          λ t x. omega (arith, h .0, h .1, h .5 x, c .before .before .before .before .before .before .before .before .before .before .before .before .before .before .before .before .before .before .before .before .before .free-cells .ensures .1 .1 yes1 x, c .before .before .before .before .before .before .before .before .free-cells2 .ensures .1 .1 yes2 x, c .before .before .plain-cells .ensures .1 .1 t x, lent-length (a .seg .now) (stack + a .base + 2) (stack + a .top) (omega (arith, h .1)) (omega (arith, z, h .2)), lent-length (a .seg .now) (stack + a .start) (stack + a .start + a .arguments) (omega arith) (omega (arith, z, h .0, h .1, h .2)), lent-length (a .seg .now) (stack + a .start + a .arguments) (stack + a .base) (omega (arith, h .0)) (omega (arith, z, h .1, h .2))),
+          λ t. frame-met (a .seg .now) (a .arrays .now) (a .marks .now) (a .arguments) (a .start) (a .base) (a .top) p₁ (sym (c .before .before .before .before .before .before .before .before .before .before .before .before .before .before .before .before .before .before .before .before .before .free-cells .ensures .0) ∙ yes1) (c .before .before .before .before .before .before .before .before .before .before .before .before .before .before .before .before .before .before .before .before .before .free-cells .ensures .1 .0 yes1) gone p₂ (sym (c .before .before .before .before .before .before .before .before .free-cells2 .ensures .0) ∙ yes2) (c .before .before .before .before .before .before .before .before .free-cells2 .ensures .1 .0 yes2) p₃ (h .arguments) (c .before .before .plain-cells .ensures .1 .0 t),
+          λ t x. omega (arith, h .arguments, h .over, h .room x, c .before .before .before .before .before .before .before .before .before .before .before .before .before .before .before .before .before .before .before .before .before .free-cells .ensures .1 .1 yes1 x, c .before .before .before .before .before .before .before .before .free-cells2 .ensures .1 .1 yes2 x, c .before .before .plain-cells .ensures .1 .1 t x, lent-length (a .seg .now) (stack + a .base + 2) (stack + a .top) (omega (arith, h .over)) (omega (arith, z, h .inside)), lent-length (a .seg .now) (stack + a .start) (stack + a .start + a .arguments) (omega arith) (omega (arith, z, h .arguments, h .over, h .inside)), lent-length (a .seg .now) (stack + a .start + a .arguments) (stack + a .base) (omega (arith, h .arguments)) (omega (arith, z, h .over, h .inside))),
         ),
       ),
     )

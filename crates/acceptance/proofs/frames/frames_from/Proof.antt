@@ -3,14 +3,13 @@ use mathlib.Core.Path.{_≡_, refl, sym, _∙_}
 use native.Mathlib.Omega.{arith}
 use borrow.Author.Needs.{needs}
 use borrow.Author.Tests.{not-true, not-false}
-use lib.ListN.{length}
-use Rattle.acceptance.specs.Frames.{known, variables, framesPass}
-use Rattle.acceptance.proofs.Chain.{frames-none, absent, bottom, low, further}
+use Rattle.acceptance.specs.Tables.{chainTest}
+use Rattle.acceptance.proofs.Chain.{chainFrom, frames-none, absent, bottom, low, further}
 use Rattle.acceptance.proofs.frames.frames_from.Statement.{statement}
 use Rattle.acceptance.proofs.frames.frames_from.Tie as tie
 
 abbrev Inv-loop : tie.InvT-loop
-Inv-loop seg regular alternate from base₀ left₀ base left = (base < 2 ^ 32) × (framesPass (length seg) (known regular alternate) (variables regular alternate) seg from ≡ framesPass left (known regular alternate) (variables regular alternate) seg base)
+Inv-loop seg regular alternate from base₀ left₀ base left = (base < 2 ^ 32) × (chainTest seg regular alternate from ≡ chainFrom left seg regular alternate base)
 
 abbrev μ-loop : tie.MeasureT-loop
 μ-loop seg regular alternate from base₀ left₀ base left = left

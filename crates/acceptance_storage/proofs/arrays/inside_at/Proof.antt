@@ -1,7 +1,5 @@
-use Prim.Native.Nat.{_+_, _%_}
 use mathlib.Core.Path.{refl, sym, _∙_}
 use native.Mathlib.Omega.{arith}
-use lib.ListN.{getD}
 use Rattle.acceptance_storage.proofs.Insides.{inside-free, inside-fails, inside-count, inside-elements}
 use borrow.Author.Needs.{needs}
 use Rattle.acceptance_storage.proofs.arrays.inside_at.Statement.{statement}
@@ -71,7 +69,11 @@ sub-if5 : tie.Need-sub-if5
 sub-if5 c = search needs
 
 returns-5 : tie.Need-returns-5
-returns-5 c = inside-fails (c .before .before .before .before .before .before .before .before .before .before .args .seg .now) (c .before .before .before .before .before .before .before .before .before .before .args .a) (omega arith) (λ h. c .if5 .taken (c .before .element-count .ensures ∙ inside-count (c .before .before .before .before .before .before .before .before .before .before .args .seg .now) (c .before .before .before .before .before .before .before .before .before .before .args .a) (omega arith) (omega arith) (getD (c .before .before .before .before .before .before .before .before .before .before .args .seg .now) ((c .before .before .before .before .before .before .before .before .before .before .args .a) + 1) 0 % 65536) (omega arith) (omega arith) h))
+returns-5 c =
+    let a = c .before .before .before .before .before .before .before .before .before .before .args in
+    let array = c .before .before .before .before .before .before .before .if1 .left in
+    inside-fails (a .seg .now) (a .a) array
+    (λ h. c .if5 .taken (c .before .element-count .ensures ∙ inside-count (a .seg .now) (a .a) array (c .before .before .before .before .before .before .before .before .before .before .pre .1) refl (c .before .before .before .before .before .if2 .left) (c .before .before .before .before .if3 .left) (c .before .before .before .if4 .left) h))
 
 add-scalars-test : tie.Need-add-scalars-test
 add-scalars-test c = search needs
@@ -92,7 +94,11 @@ scalars-test-requires : tie.Need-scalars-test-requires
 scalars-test-requires c κs = search needs
 
 returns-6 : tie.Need-returns-6
-returns-6 c = c .scalars-test .ensures ∙ inside-elements (c .before .before .before .before .before .before .before .before .before .before .before .before .args .seg .now) (c .before .before .before .before .before .before .before .before .before .before .before .before .args .a) (omega arith) (omega arith) (getD (c .before .before .before .before .before .before .before .before .before .before .before .before .args .seg .now) ((c .before .before .before .before .before .before .before .before .before .before .before .before .args .a) + 1) 0 % 65536) (omega arith) (omega arith) refl (omega arith) (sym (c .before .before .before .element-count .ensures) ∙ c .before .before .if5 .left)
+returns-6 c =
+    let a = c .before .before .before .before .before .before .before .before .before .before .before .before .args in
+    let counted = sym (c .before .before .before .element-count .ensures) ∙ c .before .before .if5 .left in
+    c .scalars-test .ensures
+    ∙ inside-elements (a .seg .now) (a .a) (c .before .before .before .before .before .before .before .before .before .if1 .left) (c .before .before .before .before .before .before .before .before .before .before .before .before .pre .1) refl (c .before .before .before .before .before .before .before .if2 .left) (c .before .before .before .before .before .before .if3 .left) (c .before .before .before .before .before .if4 .left) counted
 
 pub inside-at-spec : {M : Type 1} → statement M
 inside-at-spec =

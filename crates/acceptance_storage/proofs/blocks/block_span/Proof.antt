@@ -15,13 +15,13 @@ free-span-requires : tie.Need-free-span-requires
 free-span-requires c κs = search needs
 
 returns : tie.Need-returns
-returns c = (cc) ∙ sym (blockSpan-free _ _ _ (le-leb _ _ (c .before .if1 .taken)))
+returns c = c .free-span .ensures ∙ sym (blockSpan-free _ _ _ (le-leb _ _ (c .before .if1 .taken)))
 
 array-span-requires : tie.Need-array-span-requires
 array-span-requires c κs = search needs
 
 returns-2 : tie.Need-returns-2
-returns-2 c = (cc) ∙ sym (blockSpan-array _ _ _ (lt-leb _ _ (c .before .if1 .left)))
+returns-2 c = c .array-span .ensures ∙ sym (blockSpan-array _ _ _ (lt-leb _ _ (c .before .if1 .left)))
 
 pub block-span-spec : {M : Type 1} → statement M
 block-span-spec =

@@ -1,7 +1,6 @@
-use Prim.Native.Nat.{_-_}
-use mathlib.Core.Path.{_∙_}
-use native.Mathlib.Omega.{arith}
-use Rattle.acceptance_storage.proofs.Walk.{improper, dummy-bad}
+use Prim.Native.Nat.{ℕ, _-_}
+use mathlib.Core.Path.{sym, _∙_, ap}
+use Rattle.acceptance_storage.proofs.Walk.{improper, dummy-bad, before-walk}
 use borrow.Author.Needs.{needs}
 use Rattle.acceptance_storage.proofs.blocks.blocks_test.Statement.{statement}
 use Rattle.acceptance_storage.proofs.blocks.blocks_test.Tie as tie
@@ -28,10 +27,16 @@ word-requires : tie.Need-word-requires
 word-requires c κs = search needs
 
 returns : tie.Need-returns
-returns c = improper (c .before .before .before .before .before .before .before .before .before .args .seg .now) _ _ (dummy-bad (c .before .before .before .before .before .before .before .before .before .args .seg .now) (c .before .before .index2 .result - 3) (omega arith) (λ z. c .if1 .taken (c .before .word .ensures ∙ z)))
+returns c =
+    let s = c .before .before .before .before .before .before .before .before .before .args .seg .now in
+    let end = ap (λ (n : ℕ). n - 3) (c .before .before .index2 .ensures ∙ c .before .before .before .sbase .ensures) in
+    improper s _ _ (dummy-bad s _ end (λ z. c .if1 .taken (c .before .word .ensures ∙ z)))
 
 walk-requires : tie.Need-walk-requires
-walk-requires c κs = search needs
+walk-requires c κs =
+    let h = c .before .before .before .before .before .before .before .before .before .before .before .pre in
+    before-walk (h .0) (h .1) (h .2) (h .3) (c .before .before .before .before .before .before .index .ensures ∙ c .before .before .before .before .before .before .before .blockptr .ensures) (c .before .before .before .before .index2 .ensures ∙ c .before .before .before .before .before .sbase .ensures)
+    (sym (c .before .before .before .word .ensures) ∙ c .before .before .if1 .left)
 
 same-length : tie.Need-same-length
 same-length c = search needs

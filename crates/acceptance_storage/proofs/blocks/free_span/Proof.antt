@@ -7,7 +7,7 @@ use Rattle.acceptance_storage.proofs.blocks.free_span.Statement.{statem
 use Rattle.acceptance_storage.proofs.blocks.free_span.Tie as tie
 
 returns : tie.Need-returns
-returns c = sym (freeSpan-no _ _ _ _ (c .before .before .pre .0) (λ h. never (cc)))
+returns c = sym (freeSpan-no _ _ _ _ (c .before .before .pre .0) (λ h. never (sym (h .alone) ∙ c .if1 .taken)))
 
 returns-2 : tie.Need-returns-2
 returns-2 c = sym (freeSpan-no _ _ _ _ (c .before .before .before .pre .0) (λ h. omega arith))
@@ -25,7 +25,7 @@ returns-3 : tie.Need-returns-3
 returns-3 c = sym (freeSpan-no _ _ _ _ (c .before .before .before .before .before .pre .0) (λ h. c .if3 .taken (c .before .word .ensures ∙ h .end)))
 
 returns-4 : tie.Need-returns-4
-returns-4 c = sym (freeSpan-yes _ _ _ _ (record { alone = cc; least = omega arith; first = omega arith; end = cc }))
+returns-4 c = sym (freeSpan-yes _ _ _ _ (record { alone = c .before .before .before .if1 .left; least = c .before .before .if2 .left; first = omega arith; end = sym (c .before .word .ensures) ∙ c .if3 .left }))
 
 pub free-span-spec : {M : Type 1} → statement M
 free-span-spec =

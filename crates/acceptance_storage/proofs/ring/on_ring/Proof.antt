@@ -1,4 +1,7 @@
-use mathlib.Core.Path.{_∙_}
+use Prim.Native.Nat.{ℕ}
+use mathlib.Core.Path.{sym, _∙_, ap}
+use lib.ListN.{getD}
+use lib.Dec.{leb}
 use Rattle.acceptance_storage.proofs.Rounds.{on-dummy, on-mark}
 use borrow.Author.Needs.{needs}
 use Rattle.acceptance_storage.proofs.ring.on_ring.Statement.{statement}
@@ -11,7 +14,7 @@ number-requires-2 : tie.Need-number-requires-2
 number-requires-2 c κs = search needs
 
 returns : tie.Need-returns
-returns c = on-dummy (c .before .before .before .before .args .marks .now) _ _ (cc)
+returns c = on-dummy (c .before .before .before .before .args .marks .now) _ _ (sym (c .before .before .number .ensures) ∙ c .if1 .taken ∙ c .before .number2 .ensures)
 
 index-requires : tie.Need-index-requires
 index-requires c κs = search needs
@@ -20,7 +23,10 @@ mark-at-requires : tie.Need-mark-at-requires
 mark-at-requires c κs = search needs
 
 returns-2 : tie.Need-returns-2
-returns-2 c = (cc) ∙ on-mark (c .before .before .before .before .before .before .args .marks .now) _ _ (λ e. c .before .before .if1 .left ((cc) ∙ e ∙ (cc)))
+returns-2 c =
+    let marks = c .before .before .before .before .before .before .args .marks .now in
+    ap (leb 1) (c .mark-at .ensures ∙ ap (λ (i : ℕ). getD marks i 0) (c .before .index .ensures))
+    ∙ on-mark marks _ _ (λ e. c .before .before .if1 .left (c .before .before .before .before .number .ensures ∙ e ∙ sym (c .before .before .before .number2 .ensures)))
 
 pub on-ring-spec : {M : Type 1} → statement M
 on-ring-spec =

@@ -28,7 +28,9 @@ same-length : tie.Need-same-length Inv-loop μ-loop
 same-length c = search needs
 
 returns : tie.Need-returns Inv-loop μ-loop
-returns c = (sym (round-bad _ _ _ _ _ _ (c .before .before .before .before .loop .inv .1) (omega arith) _ (c .before .before .next-at .ensures .0) (sym (c .before .linked-to .ensures) ∙ not-true _ (c .if1 .taken))), λ t. absurd (never t))
+returns c =
+    let unlinked = sym (c .before .linked-to .ensures) ∙ not-true _ (c .if1 .taken) in
+    (sym (round-bad _ _ _ _ _ _ (c .before .before .before .before .loop .inv .1) (c .before .before .before .loop-test .taken) _ (c .before .before .next-at .ensures .0) unlinked), λ t. absurd (never t))
 
 index-requires : tie.Need-index-requires Inv-loop μ-loop
 index-requires c κs = search needs
@@ -40,7 +42,12 @@ same-length-2 : tie.Need-same-length-2 Inv-loop μ-loop
 same-length-2 c = search needs
 
 returns-2 : tie.Need-returns-2 Inv-loop μ-loop
-returns-2 c = (sym (round-missing _ _ _ _ _ _ (c .before .before .before .before .before .before .before .before .loop .inv .1) (omega arith) _ (c .before .before .before .before .before .before .next-at .ensures .0) (sym (c .before .before .before .before .before .linked-to .ensures) ∙ not-false _ (c .before .before .before .before .if1 .left)) (cc)), λ t. absurd (never t))
+returns-2 c =
+    let l = c .before .before .before .before .before .before .before .before .loop in
+    let linked = sym (c .before .before .before .before .before .linked-to .ensures) ∙ not-false _ (c .before .before .before .before .if1 .left) in
+    let none = round-missing _ _ _ _ _ _ (l .inv .1) (c .before .before .before .before .before .before .before .loop-test .taken) _ (c .before .before .before .before .before .before .next-at .ensures .0) linked
+    (c .before .before .before .index .ensures) (c .before .mark-at .ensures) (c .if2 .taken) in
+    (sym none, λ t. absurd (never t))
 
 lower-requires : tie.Need-lower-requires Inv-loop μ-loop
 lower-requires c κs = omega (arith, c .before .before .mark-at .ensures)
@@ -52,7 +59,12 @@ loop-less : tie.Need-loop-less Inv-loop μ-loop
 loop-less c = search needs
 
 loop-again : tie.Need-loop-again Inv-loop μ-loop
-loop-again c = (search needs, rw (c .before .before .lower .ensures, c .before .before .before .before .before .before .before .index .ensures) (round-on _ _ _ _ _ _ (c .before .before .before .before .before .before .before .before .before .before .before .before .loop .inv .1) (omega arith) _ (c .before .before .before .before .before .before .before .before .before .before .next-at .ensures .0) (sym (c .before .before .before .before .before .before .before .before .before .linked-to .ensures) ∙ not-false _ (c .before .before .before .before .before .before .before .before .if1 .left)) (rw (← c .before .before .before .before .before .before .before .index .ensures) (omega (arith, c .before .before .before .before .before .mark-at .ensures)))))
+loop-again c =
+    let l = c .before .before .before .before .before .before .before .before .before .before .before .before .loop in
+    let linked = sym (c .before .before .before .before .before .before .before .before .before .linked-to .ensures) ∙ not-false _ (c .before .before .before .before .before .before .before .before .if1 .left) in
+    let on = round-on _ _ _ _ _ _ (l .inv .1) (c .before .before .before .before .before .before .before .before .before .before .before .loop-test .taken) _ (c .before .before .before .before .before .before .before .before .before .before .next-at .ensures .0) linked
+    (c .before .before .before .before .before .before .before .index .ensures) (c .before .before .before .before .before .mark-at .ensures) (c .before .before .before .before .if2 .left) (c .before .before .lower .ensures) in
+    (search needs, on)
 
 linked-to-requires-2 : tie.Need-linked-to-requires-2 Inv-loop μ-loop
 linked-to-requires-2 c κs = search needs
