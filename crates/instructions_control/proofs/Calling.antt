@@ -17,7 +17,6 @@ use Rattle.segment.specs.Stack.{setPctr}
 use Rattle.manual.specs.OrTrap.{trap, stopIf}
 use Rattle.manual.specs.Effects.{jumps, Plan}
 use Rattle.manual.specs.Seen.{Seen}
-use Rattle.manual.specs.Instructions.{Running, callPlan}
 use Rattle.manual.specs.Control.{frameWord, call}
 use Rattle.effects.specs.Perform.{perform, enter}
 use Rattle.effects.specs.Seen.{temporaries, seen}
@@ -73,7 +72,3 @@ module _ (regular alternate : List ℕ) (seen : Seen) (next arguments : ℕ) (se
   pub call-absent : functionOf p number ≡ Absent → trap 3 1 ≡ callIn regular alternate seen next arguments selector number
   unfolding functionOf
   call-absent absent = plan-absent (hasFunction p number) (blockAt p (startOf p number)) _ absent
-
--- CALL's plan is told by the two procedure segments
-pub call-plan : (f : Running) (seen : Seen) (next arguments : ℕ) (selector : Bool) (number : ℕ) → callIn (f .regular) (f .alternate) seen next arguments selector number ≡ callPlan f seen next arguments selector number
-call-plan f seen next arguments selector number = refl

@@ -2,7 +2,7 @@
 ghost use mathlib.Core.Path.{_≡_};
 ghost use mathlib.Core.Bool.{_&&_};
 ghost use mathlib.Core.List.{List, [], _∷_};
-ghost use Prim.Native.Nat.{_^_, _≤_, _<_, _-_};
+ghost use Prim.Native.Nat.{_^_, _%_, _≤_, _<_, _-_};
 ghost use lib.ListN.{length};
 ghost use Rattle.manual.specs.Effects as effect;
 ghost use Rattle.manual.specs.Loads as loads;
@@ -34,20 +34,21 @@ pub enum Leaving {
     Trap(u8, u8),
 }
 
-// CALL.
+// CALL. The function's number has eleven bits.
 pub fn call(
     seg: &mut [u32],
     regular: &[u8],
     alternate: &[u8],
     arguments: u16,
     selector: bool,
-    number: u16,
+    function: u16,
     next: CodeAddress,
 ) -> Outcome
-    requires { ⌜ (number < 2 ^ 11) × (length (now seg) ≤ 16384) ⌝ }
+    requires { ⌜ length (now seg) ≤ 16384 ⌝ }
     ensures { λ r. ⌜ CarriesOut (now (seg .entry)) r (now (seg .exit)) (λ sees.
-        answers.callIn (now (regular .entry)) (now (alternate .entry)) sees (next .0) arguments selector number) ⌝ }
+        answers.callIn (now (regular .entry)) (now (alternate .entry)) sees (next .0) arguments selector (function % 2 ^ 11)) ⌝ }
 {
+    let number = function % 0x800;
     match find_in(selector, regular, alternate, number) {
         Function::At(block) => call_into(seg, block.header, arguments, selector, number, next),
         Function::Absent => Outcome::Trapped(3, 1),

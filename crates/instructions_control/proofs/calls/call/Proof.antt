@@ -1,3 +1,4 @@
+use Prim.Native.Nat.{_%_, _^_}
 use mathlib.Core.Path.{sym, ap, _∙_}
 use Rattle.effects.specs.Seen.{seen}
 use Rattle.effects.specs.Carried.{carry}
@@ -21,7 +22,7 @@ same-length c = search needs
 returns : tie.Need-returns
 returns c =
     let a = c .before .before .before .before .before .before .before .before .before .before .before .args in
-    c .before .before .call-into .ensures ∙ ap (carry (a .seg .now)) (call-found (a .regular .now) (a .alternate .now) (seen (a .seg .now)) (a .next .0) (a .arguments) (a .selector) (a .number) _ (sym (c .before .before .before .before .before .before .before .find-in .ensures) ∙ c .before .before .before .before .before .block .given .1))
+    c .before .before .call-into .ensures ∙ ap (carry (a .seg .now)) (call-found (a .regular .now) (a .alternate .now) (seen (a .seg .now)) (a .next .0) (a .arguments) (a .selector) (a .function % 2 ^ 11) _ (sym (c .before .before .before .before .before .before .before .find-in .ensures) ∙ c .before .before .before .before .before .block .given .1))
 
 enum-told : tie.Need-enum-told
 enum-told c = search needs
@@ -29,7 +30,7 @@ enum-told c = search needs
 returns-2 : tie.Need-returns-2
 returns-2 c =
     let a = c .before .before .before .before .before .before .args in
-    ap (carry (a .seg .now)) (call-absent (a .regular .now) (a .alternate .now) (seen (a .seg .now)) (a .next .0) (a .arguments) (a .selector) (a .number) (sym (c .before .before .find-in .ensures) ∙ c .enum-told .given .1))
+    ap (carry (a .seg .now)) (call-absent (a .regular .now) (a .alternate .now) (seen (a .seg .now)) (a .next .0) (a .arguments) (a .selector) (a .function % 2 ^ 11) (sym (c .before .before .find-in .ensures) ∙ c .enum-told .given .1))
 
 pub call-spec : {M : Type 1} → statement M
 call-spec =
