@@ -1,7 +1,7 @@
 // Descriptors: the words of the data segment that say what they hold, and the addresses in them.
 ghost use mathlib.Core.Path.{_≡_};
 ghost use Prim.Native.Nat.{_≤_, _<_, _^_};
-ghost use Rattle.descriptor.specs.Fields.{integerLimit, integerWord, characterWord, arrayWord, localWord, globalWord};
+ghost use Rattle.descriptor.specs.Fields.{integerLimit, isArray, integerWord, characterWord, arrayWord, localWord, globalWord};
 ghost use Rattle.descriptor.specs.Kinds.{kindOf, isScalar, bit, unsignedKind, characterKind, arrayKind, indirectKind, undefinedKind};
 
 pub mod address;
@@ -153,6 +153,13 @@ impl Descriptor {
             return w != 0x8000_0000;
         }
         w / 0x100 == Self::TYPE_CHARACTER * 0x1_0000
+    }
+
+    // A word that is an array's: above the address of its block only the type is set.
+    pub fn is_array(self) -> bool
+        ensures { λ r. ⌜ r ≡ isArray (self .0) ⌝ }
+    {
+        self.0 / 0x1_0000 == Self::TYPE_ARRAY * 0x100
     }
 }
 

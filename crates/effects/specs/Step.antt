@@ -10,7 +10,8 @@ use Rattle.procedure.specs.declared.directory.Function.{Function}
 use Rattle.procedure.specs.declared.directory.Function.the-variants as F
 use Rattle.procedure.specs.Directory.{selected, functionOf, headerOfFunction}
 use Rattle.segment.specs.State.{lbase, flags, fcnctrc, fcnrtrc, stepFlag, setTrap}
-use Rattle.segment.specs.Stack.{codeWordAt, alternate, functionNumber, pctr}
+use Rattle.segment.specs.Stack as stack
+use Rattle.segment.specs.Stack.{codeWordAt, functionNumber, pctr}
 use Rattle.manual.specs.Instructions.{Running, headerOf, planAt}
 use Rattle.effects.specs.Seen.{seen}
 use Rattle.effects.specs.declared.Outcome.{Outcome}
@@ -30,14 +31,14 @@ stepResult answer s = record { answer = answer; words = s }
 -- ---- the current frame
 
 abbrev pub selectorOf : List ℕ → Bool
-selectorOf s = eqb (alternate (codeWordAt s (lbase s))) 1
+selectorOf s = eqb (stack.alternate (codeWordAt s (lbase s))) 1
 
 abbrev pub numberOf : List ℕ → ℕ
 numberOf s = functionNumber (codeWordAt s (lbase s))
 
 -- The header of its function.
 unfoldable pub currentHeader : List ℕ → List ℕ → List ℕ → Header
-currentHeader regular other s = headerOfFunction (selected (selectorOf s) regular other) (numberOf s)
+currentHeader regular alternate s = headerOfFunction (selected (selectorOf s) regular alternate) (numberOf s)
 
 -- ---- what is due after a finished instruction
 
@@ -47,10 +48,10 @@ dueIf traced trace s = cond traced trace (stepFlag (flags s))
 
 -- In `s` the instruction is done: of a call the current frame is the called one. `rtntrace` is the left function's.
 abbrev pub due : List ℕ → List ℕ → Bool → Outcome → List ℕ → ℕ
-due regular other rtntrace O.Finished s = stepFlag (flags s)
-due regular other rtntrace O.Entered s = dueIf (eqb (fcnctrc (flags s)) 1 && currentHeader regular other s .calltrace) 2 s
-due regular other rtntrace O.Left s = dueIf (eqb (fcnrtrc (flags s)) 1 && rtntrace) 3 s
-due regular other rtntrace (O.Trapped class number) s = 0
+due regular alternate rtntrace O.Finished s = stepFlag (flags s)
+due regular alternate rtntrace O.Entered s = dueIf (eqb (fcnctrc (flags s)) 1 && currentHeader regular alternate s .calltrace) 2 s
+due regular alternate rtntrace O.Left s = dueIf (eqb (fcnrtrc (flags s)) 1 && rtntrace) 3 s
+due regular alternate rtntrace (O.Trapped class number) s = 0
 
 -- ---- the step
 
@@ -63,13 +64,13 @@ abbrev pub finished : ℕ → List ℕ → StepResult
 finished due s = cond (eqb due 0) (stepResult Finished s) (stepResult (Traced 2 due) (setTrap s 2 due))
 
 abbrev pub settled : List ℕ → List ℕ → Bool → Outcome → List ℕ → StepResult
-settled regular other rtntrace (O.Trapped class number) s = trapped s class number
-settled regular other rtntrace O.Finished s = finished (due regular other rtntrace O.Finished s) s
-settled regular other rtntrace O.Entered s = finished (due regular other rtntrace O.Entered s) s
-settled regular other rtntrace O.Left s = finished (due regular other rtntrace O.Left s) s
+settled regular alternate rtntrace (O.Trapped class number) s = trapped s class number
+settled regular alternate rtntrace O.Finished s = finished (due regular alternate rtntrace O.Finished s) s
+settled regular alternate rtntrace O.Entered s = finished (due regular alternate rtntrace O.Entered s) s
+settled regular alternate rtntrace O.Left s = finished (due regular alternate rtntrace O.Left s) s
 
 abbrev pub settle : List ℕ → List ℕ → Bool → Carried → StepResult
-settle regular other rtntrace c = settled regular other rtntrace (c .outcome) (c .words)
+settle regular alternate rtntrace c = settled regular alternate rtntrace (c .outcome) (c .words)
 
 unfoldable pub stepIn : Running → List ℕ → StepResult
 stepIn f s =
@@ -78,8 +79,8 @@ stepIn f s =
 
 -- The function of the current frame; one outside its bounds is (3,1).
 abbrev pub stepFound : List ℕ → List ℕ → List ℕ → Bool → Function → StepResult
-stepFound regular other s selector (F.At block) = stepIn (record { regular = regular; alternate = other; selector = selector; block = block }) s
-stepFound regular other s selector F.Absent = trapped s 3 1
+stepFound regular alternate s selector (F.At block) = stepIn (record { regular = regular; alternate = alternate; selector = selector; block = block }) s
+stepFound regular alternate s selector F.Absent = trapped s 3 1
 
 unfoldable pub stepOf : List ℕ → List ℕ → List ℕ → StepResult
-stepOf regular other s = stepFound regular other s (selectorOf s) (functionOf (selected (selectorOf s) regular other) (numberOf s))
+stepOf regular alternate s = stepFound regular alternate s (selectorOf s) (functionOf (selected (selectorOf s) regular alternate) (numberOf s))

@@ -25,14 +25,14 @@ fn main() {
     let n = io::read_full(STDIN_FILENO, &mut text);
     let mut seg = [0u32; 16400];
     let mut regular = [0u8; 32800];
-    let mut other = [0u8; 32800];
+    let mut alternate = [0u8; 32800];
     let mut lengths = [0u32; 3];
     let mut numbers = [0u32; 1024];
     run(
         &text[..n],
         &mut seg,
         &mut regular,
-        &mut other,
+        &mut alternate,
         &mut lengths,
         &mut numbers,
     );
@@ -43,14 +43,14 @@ fn run(
     text: &[u8],
     seg: &mut [u32],
     regular: &mut [u8],
-    other: &mut [u8],
+    alternate: &mut [u8],
     lengths: &mut [u32],
     numbers: &mut [u32],
 ) {
     let mut at = 0;
     while at < text.len() {
         let end = find(text, at, b'\n');
-        obey(&text[at..end], seg, regular, other, lengths, numbers);
+        obey(&text[at..end], seg, regular, alternate, lengths, numbers);
         at = end + 1;
     }
 }
@@ -60,7 +60,7 @@ fn obey(
     line: &[u8],
     seg: &mut [u32],
     regular: &mut [u8],
-    other: &mut [u8],
+    alternate: &mut [u8],
     lengths: &mut [u32],
     numbers: &mut [u32],
 ) {
@@ -79,13 +79,13 @@ fn obey(
         b'n' => lend(line, lengths),
         b's' => put_all(seg, first, part(numbers, 1, count)),
         b'r' => put_code(regular, first, part(numbers, 1, count)),
-        b'a' => put_code(other, first, part(numbers, 1, count)),
+        b'a' => put_code(alternate, first, part(numbers, 1, count)),
         _ => make(
             letter,
             line,
             seg,
             regular,
-            other,
+            alternate,
             lengths,
             part(numbers, 0, count),
         ),
@@ -102,20 +102,20 @@ fn make(
     line: &[u8],
     seg: &mut [u32],
     regular: &[u8],
-    other: &[u8],
+    alternate: &[u8],
     lengths: &[u32],
     numbers: &[u32],
 ) {
     let words = least(word(lengths, 0) as usize, seg.len());
     let regular_bytes = word(lengths, 1) as usize;
-    let other_bytes = word(lengths, 2) as usize;
+    let alternate_bytes = word(lengths, 2) as usize;
     say(line);
     say(b" ->");
     call(
         letter,
         &mut seg[0..words],
         first_bytes(regular, regular_bytes),
-        first_bytes(other, other_bytes),
+        first_bytes(alternate, alternate_bytes),
         numbers,
     );
     say_hash(&seg[0..words]);

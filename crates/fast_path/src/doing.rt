@@ -207,7 +207,7 @@ pub fn is_scalar(w: u32) -> bool
 fn is_array(w: u32) -> bool
     ensures { λ r. ⌜ r ≡ isArray w ⌝ }
 {
-    w / 0x1_0000 == 0x200
+    Descriptor::of(w).is_array()
 }
 
 pub fn go(seg: &mut [u32], to: CodeAddress) -> bool

@@ -95,7 +95,8 @@ fn load_long(
     place: CodeAddress,
 ) -> bool
     requires { ⌜ length (now seg) ≤ 16384 ⌝ }
-    ensures { λ r. ⌜ CarriesOutIn (now (seg .entry)) r (now (seg .exit)) (WithVariables variables) (decoding.loadAt (now (code .entry)) (past place) first family) ⌝ }
+    ensures { λ r. ⌜ CarriesOutIn (now (seg .entry)) r (now (seg .exit)) (WithVariables variables)
+        (decoding.loadAt (now (code .entry)) (past place) first family) ⌝ }
 {
     let i = long(
         seg,
@@ -159,7 +160,8 @@ fn memory(
 
 // ASSIGN keeps the value on the stack, ASSIGN_NORESULT does not.
 fn assign(seg: &mut [u32], variables: u32, code: &[u8], keep: bool, place: CodeAddress) -> bool
-    ensures { λ r. ⌜ CarriesOutIn (now (seg .entry)) r (now (seg .exit)) (WithVariables variables) (decoding.memoryAt (now (code .entry)) (past place) (assigning keep)) ⌝ }
+    ensures { λ r. ⌜ CarriesOutIn (now (seg .entry)) r (now (seg .exit)) (WithVariables variables)
+        (decoding.memoryAt (now (code .entry)) (past place) (assigning keep)) ⌝ }
 {
     let at = place.number() as usize + 1;
     if code.len() <= at {
@@ -236,7 +238,7 @@ fn jump_to(seg: &mut [u32], h: Header, code: &[u8], kind: Jump, place: CodeAddre
     if number < 8 {
         return false;
     }
-    if 8 + 4 * h.ncode as u32 <= number {
+    if h.code_end() <= number {
         return false;
     }
     let to = CodeAddress::of(number);

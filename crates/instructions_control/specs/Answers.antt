@@ -36,6 +36,6 @@ branchBy seen p block next v =
 
 -- CALL with these procedure segments: `callPlan` of a function that runs with them.
 abbrev pub callIn : List ℕ → List ℕ → Seen → ℕ → ℕ → Bool → ℕ → Plan
-callIn regular other seen next arguments alternate number =
-    stopIf (not (inDirectory alternate regular other number)) 3 1
-    (control.call seen next (headerOfFunction (selected alternate regular other) number) alternate number arguments)
+callIn regular alternate seen next arguments selector number =
+    stopIf (not (inDirectory selector regular alternate number)) 3 1
+    (control.call seen next (headerOfFunction (selected selector regular alternate) number) selector number arguments)

@@ -2,9 +2,8 @@
 ghost use mathlib.Core.Path.{_≡_};
 ghost use mathlib.Core.Bool.{_&&_};
 ghost use mathlib.Core.List.{List, [], _∷_};
-ghost use Prim.Native.Nat.{_^_, _≤_, _<_, _-_};
+ghost use Prim.Native.Nat.{_^_, _%_, _≤_, _<_, _-_};
 ghost use lib.ListN.{length};
-ghost use Rattle.procedure.specs.Directory as directory;
 ghost use Rattle.manual.specs.Effects as effect;
 ghost use Rattle.manual.specs.Loads as loads;
 ghost use Rattle.manual.specs.Control as control;
@@ -22,10 +21,9 @@ use operands::reading::count;
 use operands::reading::is_undefined;
 use operands::reading::room;
 use operands::variables::variables;
-use procedure::directory::in_directory;
-use procedure::directory::start_of;
+use procedure::directory::Function;
+use procedure::directory::find_in;
 use procedure::header::Header;
-use procedure::header::header_at;
 use segment::minus;
 use segment::stack::last_lbase;
 use segment::state::lbase;
@@ -36,46 +34,37 @@ pub enum Leaving {
     Trap(u8, u8),
 }
 
-// CALL: `other` is the alternate procedure segment.
+// CALL. The function's number has eleven bits.
 pub fn call(
     seg: &mut [u32],
     regular: &[u8],
-    other: &[u8],
+    alternate: &[u8],
     arguments: u16,
-    alternate: bool,
-    number: u16,
+    selector: bool,
+    function: u16,
     next: CodeAddress,
 ) -> Outcome
-    requires { ⌜ (number < 2 ^ 11) × (length (now seg) ≤ 16384) ⌝ }
-    ensures { λ r. ⌜ CarriesOut (now (seg .entry)) r (now (seg .exit)) (λ sees. answers.callIn (now (regular .entry)) (now (other .entry)) sees (next .0) arguments alternate number) ⌝ }
+    requires { ⌜ length (now seg) ≤ 16384 ⌝ }
+    ensures { λ r. ⌜ CarriesOut (now (seg .entry)) r (now (seg .exit)) (λ sees.
+        answers.callIn (now (regular .entry)) (now (alternate .entry)) sees (next .0) arguments selector (function % 2 ^ 11)) ⌝ }
 {
-    if in_directory(alternate, regular, other, number) {
-        let h = called(alternate, regular, other, number);
-        return call_into(seg, h, arguments, alternate, number, next);
+    let number = function % 0x800;
+    match find_in(selector, regular, alternate, number) {
+        Function::At(block) => call_into(seg, block.header, arguments, selector, number, next),
+        Function::Absent => Outcome::Trapped(3, 1),
     }
-    Outcome::Trapped(3, 1)
-}
-
-// The header of function `number`, in the segment that P names.
-pub fn called(alternate: bool, regular: &[u8], other: &[u8], number: u16) -> Header
-    ensures { λ r. ⌜ r ≡ directory.headerOfFunction (directory.selected alternate (now (regular .entry)) (now (other .entry))) number ⌝ }
-{
-    if alternate {
-        return header_at(other, start_of(other, number));
-    }
-    header_at(regular, start_of(regular, number))
 }
 
 fn call_into(
     seg: &mut [u32],
     called: Header,
     arguments: u16,
-    alternate: bool,
+    selector: bool,
     number: u16,
     next: CodeAddress,
 ) -> Outcome
     requires { ⌜ (number < 2 ^ 11) × (length (now seg) ≤ 16384) ⌝ }
-    ensures { λ r. ⌜ CarriesOut (now (seg .entry)) r (now (seg .exit)) (λ sees. control.call sees (next .0) called alternate number arguments) ⌝ }
+    ensures { λ r. ⌜ CarriesOut (now (seg .entry)) r (now (seg .exit)) (λ sees. control.call sees (next .0) called selector number arguments) ⌝ }
 {
     if count(seg) < arguments as u32 {
         return Outcome::Trapped(3, 4);
@@ -87,16 +76,16 @@ fn call_into(
         return Outcome::Trapped(1, 1);
     }
     jump(seg, next);
-    enter(seg, called.nlocals as u32, frame_word(alternate, number));
+    enter(seg, called.nlocals as u32, frame_word(selector, number));
     Outcome::Entered
 }
 
 // P, the function number, and PCTR 8.
-fn frame_word(alternate: bool, number: u16) -> u32
+fn frame_word(selector: bool, number: u16) -> u32
     requires { ⌜ number < 2 ^ 11 ⌝ }
-    ensures { λ r. ⌜ r ≡ control.frameWord alternate number ⌝ }
+    ensures { λ r. ⌜ r ≡ control.frameWord selector number ⌝ }
 {
-    if alternate {
+    if selector {
         return 0x0800_0000 + number as u32 * 0x1_0000 + 8;
     }
     number as u32 * 0x1_0000 + 8

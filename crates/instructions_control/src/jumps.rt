@@ -76,7 +76,8 @@ pub fn go_if(
 }
 
 pub fn branch(seg: &mut [u32], p: &[u8], block: Block, next: CodeAddress) -> Outcome
-    ensures { λ r. ⌜ CarriesOut (now (seg .entry)) r (now (seg .exit)) (λ sees. control.branch sees (block .header) (headers.lineOf (now (p .entry)) block) (next .0)) ⌝ }
+    ensures { λ r. ⌜ CarriesOut (now (seg .entry)) r (now (seg .exit)) (λ sees.
+        control.branch sees (block .header) (headers.lineOf (now (p .entry)) block) (next .0)) ⌝ }
 {
     if count(seg) < 1 {
         return Outcome::Trapped(3, 4);
@@ -99,7 +100,8 @@ fn branch_by(
     array: SegmentAddress,
 ) -> Outcome
     requires { ⌜ whole (now seg) (array .0) ≡ true ⌝ }
-    ensures { λ r. ⌜ CarriesOut (now (seg .entry)) r (now (seg .exit)) (λ sees. answers.branchBy sees (now (p .entry)) block (next .0) (held (now (seg .entry)) (Value.Array array))) ⌝ }
+    ensures { λ r. ⌜ CarriesOut (now (seg .entry)) r (now (seg .exit)) (λ sees.
+        answers.branchBy sees (now (p .entry)) block (next .0) (held (now (seg .entry)) (Value.Array array))) ⌝ }
 {
     if 1 < rank(seg, array) {
         return Outcome::Trapped(5, 0);
@@ -114,7 +116,8 @@ fn branch_by(
 }
 
 fn branch_on(seg: &mut [u32], p: &[u8], block: Block, w: u32) -> Outcome
-    ensures { λ r. ⌜ CarriesOut (now (seg .entry)) r (now (seg .exit)) (λ sees. control.branchTo sees (block .header) (headers.lineOf (now (p .entry)) block) (wholeOf w)) ⌝ }
+    ensures { λ r. ⌜ CarriesOut (now (seg .entry)) r (now (seg .exit)) (λ sees.
+        control.branchTo sees (block .header) (headers.lineOf (now (p .entry)) block) (wholeOf w)) ⌝ }
 {
     match scalar::reading::whole(w) {
         Whole::Character => Outcome::Trapped(7, 0),
@@ -128,7 +131,8 @@ fn branch_on(seg: &mut [u32], p: &[u8], block: Block, w: u32) -> Outcome
 
 // To the line of that number, or out of the function.
 fn branch_to(seg: &mut [u32], p: &[u8], block: Block, number: u32) -> Outcome
-    ensures { λ r. ⌜ CarriesOut (now (seg .entry)) r (now (seg .exit)) (λ sees. control.lineOrLeave sees (block .header) (headers.lineOf (now (p .entry)) block number)) ⌝ }
+    ensures { λ r. ⌜ CarriesOut (now (seg .entry)) r (now (seg .exit)) (λ sees.
+        control.lineOrLeave sees (block .header) (headers.lineOf (now (p .entry)) block number)) ⌝ }
 {
     match block.line(p, number) {
         Line::At(place) => jump_to(seg, block.header, place),
@@ -167,7 +171,7 @@ fn outside(h: Header, place: CodeAddress) -> bool
     if place.number() < 8 {
         return true;
     }
-    8 + 4 * h.ncode as u32 <= place.number()
+    h.code_end() <= place.number()
 }
 
 fn taken(wanted: bool, b: bool) -> bool

@@ -6,17 +6,17 @@ use mathlib.Core.List.{List}
 use native.Mathlib.Omega.{arith}
 use lib.Dec.{ltb}
 use borrow.Author.Tests.{ltb-true, ltb-false, lt-ltb, le-ltb}
-use Rattle.segment.specs.Stack.{alternate, functionNumber}
+use Rattle.segment.specs.Stack as stack
 use Rattle.acceptance.specs.Frames.{known, arguments, variables}
 
 module _ (w : ℕ) where
   abbrev bare : ℕ
   bare = w / 2 ^ 16 * 2 ^ 16
 
-  pub same-alternate : alternate bare ≡ alternate w
+  pub same-alternate : stack.alternate bare ≡ stack.alternate w
   same-alternate = omega arith
 
-  pub same-number : functionNumber bare ≡ functionNumber w
+  pub same-number : stack.functionNumber bare ≡ stack.functionNumber w
   same-number = omega arith
 
   same-short : ltb bare (2 ^ 28) ≡ ltb w (2 ^ 28)
@@ -26,20 +26,20 @@ module _ (w : ℕ) where
       go true e = lt-ltb bare (2 ^ 28) (omega (arith, ltb-true w (2 ^ 28) e))
       go false e = le-ltb bare (2 ^ 28) (omega (arith, ltb-false w (2 ^ 28) e))
 
-  module _ (regular other : List ℕ) where
-    pub same-known : known regular other bare ≡ known regular other w
+  module _ (regular alternate : List ℕ) where
+    pub same-known : known regular alternate bare ≡ known regular alternate w
     unfolding known
     same-known = rw (same-short, same-alternate, same-number)
 
-    pub same-arguments : arguments regular other bare ≡ arguments regular other w
+    pub same-arguments : arguments regular alternate bare ≡ arguments regular alternate w
     unfolding arguments
     same-arguments = rw (same-alternate, same-number)
 
-    pub same-variables : variables regular other bare ≡ variables regular other w
+    pub same-variables : variables regular alternate bare ≡ variables regular alternate w
     unfolding variables arguments
     same-variables = rw (same-alternate, same-number)
 
     -- arguments are variables
-    pub most-arguments : arguments regular other w ≤ variables regular other w
+    pub most-arguments : arguments regular alternate w ≤ variables regular alternate w
     unfolding variables
     most-arguments = omega arith

@@ -35,18 +35,18 @@ value-direct (indirect t) a e = let z : _≡_ {A = ℕ} 0 1 = cc in omega arith
 value-direct (holds shape ravel) a e = tt
 value-direct invalid a e = let z : _≡_ {A = ℕ} 0 1 = cc in omega arith
 
-module _ {regular other : List ℕ} {m : Machine Cell} (g : Legal regular other m) (words : ℕ) (f : Running) (runs : RunsIn regular other f m) where
+module _ {regular alternate : List ℕ} {m : Machine Cell} (g : Legal regular alternate m) (words : ℕ) (f : Running) (runs : RunsIn regular alternate f m) where
   abbrev seen : Seen
   seen = seenOf words m
 
   abbrev Pushable : Source → Type 0
-  Pushable source = Allowed regular other m (m .frames) (meant source m)
+  Pushable source = Allowed regular alternate m (m .frames) (meant source m)
 
-  reached : (a : Address) (x : Variable) → Reaches f seen a x → NamesDirect regular other m (m .frames) (x .place)
+  reached : (a : Address) (x : Variable) → Reaches f seen a x → NamesDirect regular alternate m (m .frames) (x .place)
   reached a x r = reached-leads g words f runs a x r
 
   pushed-allowed : {i : Instruction} {source : Source} → Pushed f seen i source → Pushable source
-  pushed-allowed (ofLoad {a} {x} r e) = direct-allowed regular other m (m .frames) (look undefined (x .place) m) (reached a x r .direct)
+  pushed-allowed (ofLoad {a} {x} r e) = direct-allowed regular alternate m (m .frames) (look undefined (x .place) m) (reached a x r .direct)
   pushed-allowed (ofReference {a} {x} r) = reached a x r
   pushed-allowed (ofTestDefined r) = tt
   pushed-allowed ofUndefined = tt
@@ -62,19 +62,19 @@ module _ {regular other : List ℕ} {m : Machine Cell} (g : Legal regular other 
       by true = tt
       by false = tt
 
-  called : (next arguments : ℕ) (alternate : Bool) (number : ℕ) → Calling f seen arguments alternate number
-      → CanEnter regular other (calledBy f alternate number .nlocals) (frameWord alternate (number % 2 ^ 11)) (jump (next % 2 ^ 16) m)
+  called : (next arguments : ℕ) (selector : Bool) (number : ℕ) → Calling f seen arguments selector number
+      → CanEnter regular alternate (calledBy f selector number .nlocals) (frameWord selector (number % 2 ^ 11)) (jump (next % 2 ^ 16) m)
   unfolding seenOf
-  called next arguments alternate number c =
+  called next arguments selector number c =
       rw (sym (runs .regularSegment), sym (runs .alternateSegment))
-      (can-enter (number % 2 ^ 11) (omega arith) (f .regular) (f .alternate) alternate (jump (next % 2 ^ 16) m) (c .found)
+      (can-enter (number % 2 ^ 11) (omega arith) (f .regular) (f .alternate) selector (jump (next % 2 ^ 16) m) (c .found)
       (omega (arith, c .wanted, c .given)))
 
-  pub plan-meets : (i : Instruction) (next : ℕ) (es : List Effect) → planOf f seen i next ≡ gives es → AllMeet regular other es m
+  pub plan-meets : (i : Instruction) (next : ℕ) (es : List Effect) → planOf f seen i next ≡ gives es → AllMeet regular alternate es m
   unfolding seenOf
   plan-meets i next es e =
-      subst (OfPlan (λ es. AllMeet regular other es m) (λ class number. Unit {0})) e
-      (plan-cases f seen i next (λ es. AllMeet regular other es m) (λ class number. Unit {0})
+      subst (OfPlan (λ es. AllMeet regular alternate es m) (λ class number. Unit {0})) e
+      (plan-cases f seen i next (λ es. AllMeet regular alternate es m) (λ class number. Unit {0})
       (record {
         unresolved = λ a class number e. tt;
         stopped = λ class number l. tt;
@@ -89,5 +89,5 @@ module _ {regular other : List ℕ} {m : Machine Cell} (g : Legal regular other 
         dropped = λ c t. (tt, (tt, tt));
         left = λ l. (l .below, tt);
         leftDropping = λ c l. (tt, (l .below, tt));
-        entered = λ arguments alternate number e c. (tt, (called next arguments alternate number c, tt));
+        entered = λ arguments selector number e c. (tt, (called next arguments selector number c, tt));
       }))

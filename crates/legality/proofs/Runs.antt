@@ -9,7 +9,8 @@ use borrow.Author.Tests.{ltb-true, eqb-false}
 use Rattle.descriptor.specs.declared.Target.{Target}
 use Rattle.descriptor.specs.declared.Target.the-variants.{Local, Global}
 use Rattle.segment.specs.State.{lbase}
-use Rattle.segment.specs.Stack.{codeWordAt, alternate, functionNumber}
+use Rattle.segment.specs.Stack as stack
+use Rattle.segment.specs.Stack.{codeWordAt, functionNumber}
 use Rattle.segment.specs.Cells.{undefined, indirect, cell}
 use Rattle.procedure.specs.Directory.{selected, entries, hasFunction, resultOf}
 use Rattle.procedure.specs.Refusal.{procedureRefusal}
@@ -40,36 +41,36 @@ in-directory p k h = go (eqb k 0) refl
     go true e = absurd (never (simp e at h))
     go false e = (omega (arith, eqb-false k 0 e), ltb-true k (entries p) (simp e at h))
 
-segment-accepted : (P : Bool) (regular other : List ℕ) → table.Accepted regular × table.Accepted other → table.Accepted (selected P regular other)
-segment-accepted true regular other h = h .1
-segment-accepted false regular other h = h .0
+segment-accepted : (P : Bool) (regular alternate : List ℕ) → table.Accepted regular × table.Accepted alternate → table.Accepted (selected P regular alternate)
+segment-accepted true regular alternate h = h .1
+segment-accepted false regular alternate h = h .0
 
-result-local : (regular other : List ℕ) (w : ℕ) → procedureRefusal regular other ≡ 0 → known regular other w ≡ true
-    → resultOf (frameSegment regular other w) (functionNumber w) ≡ true → 1 ≤ variables regular other w
+result-local : (regular alternate : List ℕ) (w : ℕ) → procedureRefusal regular alternate ≡ 0 → known regular alternate w ≡ true
+    → resultOf (frameSegment regular alternate w) (functionNumber w) ≡ true → 1 ≤ variables regular alternate w
 unfolding known variables
-result-local regular other w h k e =
-    let p = segment-accepted (eqb (alternate w) 1) regular other (acceptance regular other .sound h) in
-    let n = in-directory (frameSegment regular other w) (functionNumber w) (both (ltb w (2 ^ 28)) (hasFunction (frameSegment regular other w) (functionNumber w)) k .1) in
+result-local regular alternate w h k e =
+    let p = segment-accepted (eqb (stack.alternate w) 1) regular alternate (acceptance regular alternate .sound h) in
+    let n = in-directory (frameSegment regular alternate w) (functionNumber w) (both (ltb w (2 ^ 28)) (hasFunction (frameSegment regular alternate w) (functionNumber w)) k .1) in
     omega (arith, p .functions (functionNumber w) (n .0) (n .1) .result-local e)
 
-pub function-known : (s regular other older : List ℕ) (base : ℕ) → Chain s regular other base older → known regular other (codeWordAt s base) ≡ true
-function-known s regular other [] base h = h .function
-function-known s regular other (next ∷ older) base h = h .0 .function
+pub function-known : (s regular alternate older : List ℕ) (base : ℕ) → Chain s regular alternate base older → known regular alternate (codeWordAt s base) ≡ true
+function-known s regular alternate [] base h = h .function
+function-known s regular alternate (next ∷ older) base h = h .0 .function
 
-module _ (s regular other : List ℕ) (h : Accepted s regular other) where
+module _ (s regular alternate : List ℕ) (h : Accepted s regular alternate) where
   -- what a variable is seen as
   look-held : (t : Target) → AddressableIn t (view s) → look undefined t (view s) ≡ cell s (heldAt s t)
   look-held (Global g) v = look-global s (g .0) (v .0) (omega (arith, v, globals-length s))
-  look-held (Local a) v = look-local s regular other (h .older) (h .chain) (a .0) v
+  look-held (Local a) v = look-local s regular alternate (h .older) (h .chain) (a .0) v
 
   targets : (t u : Target) → Addressable s t → cell s (heldAt s t) ≡ indirect u → Addressable s u
   unfolding view
-  targets t u v e = in-map (cell s) u (words s) .1 (held-in (split s regular other h .legal) t u (look-held t (in-map (cell s) t (words s) .0 v) ∙ e))
+  targets t u v e = in-map (cell s) u (words s) .1 (held-in (split s regular alternate h .legal) t u (look-held t (in-map (cell s) t (words s) .0 v) ∙ e))
 
-  pub runs : HasFrame s (currentVariables s regular other) (currentResult s regular other)
+  pub runs : HasFrame s (currentVariables s regular alternate) (currentResult s regular alternate)
   unfolding view
   runs = record {
-    cells = omega (arith, current-room s regular other (whole s regular other (h .older) (h .chain)), current-map (cell s) (words s .frames));
-    some = result-local regular other (codeWordAt s (lbase s)) (h .procedures) (function-known s regular other (h .older) (lbase s) (h .chain));
+    cells = omega (arith, current-room s regular alternate (whole s regular alternate (h .older) (h .chain)), current-map (cell s) (words s .frames));
+    some = result-local regular alternate (codeWordAt s (lbase s)) (h .procedures) (function-known s regular alternate (h .older) (lbase s) (h .chain));
     targets = targets;
   }

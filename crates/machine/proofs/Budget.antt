@@ -1,4 +1,4 @@
--- What is left of a run, before and after one step or one stretch of it.
+-- What is left of a run, before and after one step or one part of it.
 use Prim.Native.Nat.{ℕ, suc, _+_, _-_, _/_, _%_, _^_, _<_, _≤_}
 use native.Mathlib.Omega.{arith}
 use mathlib.Core.Path.{_≡_, refl}
@@ -10,9 +10,9 @@ use Rattle.effects.specs.declared.Ran.{Ran}
 use Rattle.effects.specs.declared.Ran.the-variants.{Done, Trapped}
 use Rattle.effects.specs.Step.{stepResult, trapped, stepOf}
 use Rattle.effects.specs.Run.{RunResult, ended, stepsFrom}
-use Rattle.machine.specs.Stretches.{resumed, Advanced}
+use Rattle.machine.specs.Resuming.{resumed, Advanced}
 
--- a stretch by what it answers
+-- a part of a run by what it answers
 module _ (regular alternate : List ℕ) (budget n : ℕ) (t : List ℕ) {r : Ran} {o : RunResult} where
   pub goes-on : r ≡ Done n → resumed r budget regular alternate t ≡ o → stepsFrom (budget - n) n regular alternate t ≡ o
   goes-on is told = rw is at told
@@ -23,7 +23,7 @@ module _ (regular alternate : List ℕ) (budget n : ℕ) (t : List ℕ) {r : Ran
 pub advances : (start budget n : ℕ) {r : Ran} → r ≡ Done n → Advanced start budget r → (start < n) × (n ≤ budget)
 advances start budget n is told = rw is at told
 
--- a stretch that is left is not at its start, where the frame is of its function
+-- steps in one function that end at another function's frame have begun: the first frame is of that function
 pub left-later : {start n w held function : ℕ} → start ≤ n → (n ≡ start → held / 2 ^ 16 % 2 ^ 12 ≡ function) → w ≡ held → (w / 2 ^ 16 % 2 ^ 12 ≡ function → ⊥) → start < n
 left-later {start} {n} from same is differs =
     let later : (n ≡ start → ⊥) = λ e. differs (rw is (same e)) in
@@ -53,6 +53,6 @@ module _ (regular alternate : List ℕ) (budget n : ℕ) (s : List ℕ) where
     unfolding stepsFrom
     run-trapped class number trapped = rw (one, ← is, trapped)
 
-  -- a stretch in a function that is not there
+  -- a part of a run in a function that is not there
   pub run-absent : {r : Ran} {t : List ℕ} → n < budget → trapped s 3 1 ≡ stepOf regular alternate s → r ≡ Trapped n → t ≡ setTrap s 3 1 → (resumed r budget regular alternate t ≡ stepsFrom (budget - n) n regular alternate s) × Advanced n budget r
   run-absent more absent is words = rw (is, words) (run-trapped (answers.Trapped 3 1) (setTrap s 3 1) more absent 3 1 refl, tt)

@@ -16,7 +16,7 @@ use Rattle.manual.specs.Instructions.{Running, running, headerOf, planAt}
 use Rattle.effects.specs.declared.Outcome.{Outcome}
 use Rattle.effects.specs.Carried.{CarriesOut}
 use Rattle.effects.specs.declared.Stepped.the-variants.{Finished, Traced, Trapped}
-use Rattle.machine.specs.Stretches.{stepAt}
+use Rattle.machine.specs.Resuming.{stepAt}
 use Rattle.effects.specs.Step.{stepResult, selectorOf, numberOf, trapped, finished, settled, settle, stepIn, stepFound, stepOf}
 
 -- a class and a number of eight bits are themselves

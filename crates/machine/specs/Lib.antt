@@ -1,2 +1,2 @@
 -- What the contracts inside the crate cite: a run that is under way.
-pub mod Stretches
+pub mod Resuming

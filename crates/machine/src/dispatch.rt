@@ -77,15 +77,7 @@ pub fn obey(
                 arguments,
                 alternate: p,
                 function,
-            } => calls::call(
-                seg,
-                regular,
-                alternate,
-                arguments,
-                p,
-                function % 0x800,
-                next,
-            ),
+            } => calls::call(seg, regular, alternate, arguments, p, function, next),
             Instruction::Index(rank) => subscripts::index(seg, rank, next),
         },
     }

@@ -9,7 +9,7 @@ ghost use Rattle.manual.specs.Instructions as plan;
 ghost use Rattle.effects.specs.Step.{selectorOf, numberOf};
 ghost use Rattle.effects.specs.Run.{ended, stepsFrom};
 ghost use Rattle.effects.specs.declared.Ran.the-variants as R;
-ghost use Rattle.machine.specs.Stretches.{Resumes, Current};
+ghost use Rattle.machine.specs.Resuming.{Resumes, Current};
 use super::step::step_in;
 use effects::Ran;
 use effects::Stepped;
@@ -43,7 +43,7 @@ fn steps_up_to(
 {
     let mut steps = 0;
     while steps < budget {
-        match stretch(seg, regular, alternate, steps, budget, scratch) {
+        match run_current(seg, regular, alternate, steps, budget, scratch) {
             Ran::Trapped(n) => {
                 return Ran::Trapped(n);
             }
@@ -56,7 +56,7 @@ fn steps_up_to(
 }
 
 // The steps in the function of the current frame, up to the next call or return.
-fn stretch(
+fn run_current(
     seg: &mut [u32],
     regular: &[u8],
     alternate: &[u8],
@@ -70,7 +70,7 @@ fn stretch(
     let base = lbase(seg);
     let number = stack::function_number(seg, base);
     if stack::alternate(seg, base) {
-        return stretch_of(
+        return run_function(
             seg,
             regular,
             alternate,
@@ -82,7 +82,7 @@ fn stretch(
             scratch,
         );
     }
-    stretch_of(
+    run_function(
         seg,
         regular,
         alternate,
@@ -96,7 +96,7 @@ fn stretch(
 }
 
 // The function stands in the segment `p`, which P selects.
-fn stretch_of(
+fn run_function(
     seg: &mut [u32],
     regular: &[u8],
     alternate: &[u8],

@@ -14,7 +14,7 @@ ghost use Rattle.operations.specs.Load as meaning;
 use acceptance::Judgement;
 use elements::kinds::any_other;
 use procedure::directory::Function;
-use procedure::directory::find;
+use procedure::directory::find_in;
 use procedure::refusal::Refusal;
 use segment::state::blockptr;
 
@@ -56,10 +56,7 @@ pub fn bottom_function(regular: &[u8], alternate: &[u8], selector: u32, function
     if 2047 < function {
         return Function::Absent;
     }
-    if selector == 1 {
-        return find(alternate, function as u16);
-    }
-    find(regular, function as u16)
+    find_in(selector == 1, regular, alternate, function as u16)
 }
 
 // Test 19.

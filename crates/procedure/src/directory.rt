@@ -1,8 +1,9 @@
 // The directory of a procedure segment: functions by number.
 ghost use mathlib.Core.Path.{_≡_};
-ghost use Rattle.procedure.specs.Directory.{entries, startOf, lengthOf, hasFunction, inDirectory, functionOf};
+ghost use Rattle.procedure.specs.Directory.{entries, startOf, lengthOf, hasFunction, headerOfFunction, functionOf, selected, inDirectory};
 use crate::bytes::word_at;
 use crate::header::Block;
+use crate::header::Header;
 use crate::header::header_at;
 
 pub enum Function {
@@ -40,16 +41,6 @@ pub fn has_function(p: &[u8], number: u16) -> bool
     number < entries(p)
 }
 
-// Whether the segment that P names has the function.
-pub fn in_directory(selector: bool, regular: &[u8], alternate: &[u8], number: u16) -> bool
-    ensures { λ r. ⌜ r ≡ inDirectory selector (now (regular .entry)) (now (alternate .entry)) number ⌝ }
-{
-    if selector {
-        return has_function(alternate, number);
-    }
-    has_function(regular, number)
-}
-
 // The block of function `number`.
 pub fn find(p: &[u8], number: u16) -> Function
     ensures { λ r. ⌜ r ≡ functionOf (now (p .entry)) number ⌝ }
@@ -62,4 +53,34 @@ pub fn find(p: &[u8], number: u16) -> Function
         });
     }
     Function::Absent
+}
+
+// Whether the segment that P names has the function.
+pub fn in_directory(selector: bool, regular: &[u8], alternate: &[u8], number: u16) -> bool
+    ensures { λ r. ⌜ r ≡ inDirectory selector (now (regular .entry)) (now (alternate .entry)) number ⌝ }
+{
+    if selector {
+        return has_function(alternate, number);
+    }
+    has_function(regular, number)
+}
+
+// Its block there.
+pub fn find_in(selector: bool, regular: &[u8], alternate: &[u8], number: u16) -> Function
+    ensures { λ r. ⌜ r ≡ functionOf (selected selector (now (regular .entry)) (now (alternate .entry))) number ⌝ }
+{
+    if selector {
+        return find(alternate, number);
+    }
+    find(regular, number)
+}
+
+// What its header there says.
+pub fn header_in(selector: bool, regular: &[u8], alternate: &[u8], number: u16) -> Header
+    ensures { λ r. ⌜ r ≡ headerOfFunction (selected selector (now (regular .entry)) (now (alternate .entry))) number ⌝ }
+{
+    if selector {
+        return header_at(alternate, start_of(alternate, number));
+    }
+    header_at(regular, start_of(regular, number))
 }

@@ -46,6 +46,15 @@ pub fn header_at(p: &[u8], start: u16) -> Header
     }
 }
 
+impl Header {
+    // The first code address past the function's code.
+    pub fn code_end(self) -> u32
+        ensures { λ r. ⌜ r ≡ codeEnd self ⌝ }
+    {
+        8 + 4 * self.ncode as u32
+    }
+}
+
 impl Block {
     // Its first byte in the segment, from which code addresses count.
     pub fn first_byte(self) -> u32
@@ -54,11 +63,10 @@ impl Block {
         4 * self.start as u32
     }
 
-    // The first code address past its code.
     pub fn code_end(self) -> u32
         ensures { λ r. ⌜ r ≡ codeEnd (self .header) ⌝ }
     {
-        8 + 4 * self.header.ncode as u32
+        self.header.code_end()
     }
 
     // Its bytes up to the end of its code, as that part of the lent segment: a code address is an index.

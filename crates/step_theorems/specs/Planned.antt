@@ -10,7 +10,8 @@ use Rattle.procedure.specs.declared.directory.Function.{Function}
 use Rattle.procedure.specs.declared.directory.Function.the-variants as F
 use Rattle.procedure.specs.Directory.{functionOf, headerOfFunction}
 use Rattle.segment.specs.State.{sbase}
-use Rattle.segment.specs.Stack.{alternate, functionNumber}
+use Rattle.segment.specs.Stack as stack
+use Rattle.segment.specs.Stack.{functionNumber}
 use Rattle.segment.specs.Cells.{Cell}
 use Rattle.segment.specs.Machine.{Frame, Machine}
 use Rattle.segment.specs.View.{view}
@@ -23,28 +24,28 @@ use Rattle.legality.specs.Legal.{functionWord}
 
 -- P of a frame.
 abbrev pub frameSelector : Frame Cell → Bool
-frameSelector r = eqb (alternate (functionWord r)) 1
+frameSelector r = eqb (stack.alternate (functionWord r)) 1
 
 abbrev pub planIn : List ℕ → List ℕ → ℕ → Machine Cell → Frame Cell → Function → Plan
-planIn regular other words m r (F.At block) = planAt (running regular other (frameSelector r) block) (seenOf words m) (r .pctr)
-planIn regular other words m r F.Absent = trap 3 1
+planIn regular alternate words m r (F.At block) = planAt (running regular alternate (frameSelector r) block) (seenOf words m) (r .pctr)
+planIn regular alternate words m r F.Absent = trap 3 1
 
 abbrev pub planFrom : List ℕ → List ℕ → ℕ → Machine Cell → List (Frame Cell) → Plan
-planFrom regular other words m [] = trap 3 1
-planFrom regular other words m (r ∷ older) = planIn regular other words m r (functionOf (frameSegment regular other (functionWord r)) (functionNumber (functionWord r)))
+planFrom regular alternate words m [] = trap 3 1
+planFrom regular alternate words m (r ∷ older) = planIn regular alternate words m r (functionOf (frameSegment regular alternate (functionWord r)) (functionNumber (functionWord r)))
 
 -- On a stack of `words` words.
 unfoldable pub nextPlan : List ℕ → List ℕ → ℕ → Machine Cell → Plan
-nextPlan regular other words m = planFrom regular other words m (m .frames)
+nextPlan regular alternate words m = planFrom regular alternate words m (m .frames)
 
 -- The plan of the next instruction, by the view of the segment.
 abbrev pub planned : List ℕ → List ℕ → List ℕ → Plan
-planned s regular other = nextPlan regular other (length s - sbase s) (view s)
+planned s regular alternate = nextPlan regular alternate (length s - sbase s) (view s)
 
 -- The header of the current frame's function. A machine has at least one frame.
 abbrev pub headerFrom : List ℕ → List ℕ → List (Frame Cell) → Header
-headerFrom regular other [] = headerOfFunction regular 0
-headerFrom regular other (r ∷ older) = headerOfFunction (frameSegment regular other (functionWord r)) (functionNumber (functionWord r))
+headerFrom regular alternate [] = headerOfFunction regular 0
+headerFrom regular alternate (r ∷ older) = headerOfFunction (frameSegment regular alternate (functionWord r)) (functionNumber (functionWord r))
 
 abbrev pub headerIn : List ℕ → List ℕ → Machine Cell → Header
-headerIn regular other m = headerFrom regular other (m .frames)
+headerIn regular alternate m = headerFrom regular alternate (m .frames)

@@ -2,7 +2,6 @@
 ghost use mathlib.Core.Path.{_≡_};
 ghost use Prim.Native.Nat.{_+_, _<_, _^_};
 ghost use lib.ListN.{length};
-ghost use Rattle.descriptor.specs.Fields.{isArray};
 ghost use Rattle.segment.specs.State.{sbase};
 ghost use Rattle.storage.specs.Arrays as arrays;
 ghost use Rattle.storage.specs.Found.{found};
@@ -47,7 +46,7 @@ fn fill(seg: &mut [u32], block: SegmentAddress, shape: &[u32], elements: &[u32])
 pub fn share(seg: &mut [u32], w: u32)
     ensures { λ _. ⌜ now (seg .exit) ≡ arrays.share (now (seg .entry)) w ⌝ }
 {
-    if is_array(w) {
+    if Descriptor::of(w).is_array() {
         raise(seg, low(w));
     }
 }
@@ -56,7 +55,7 @@ pub fn share(seg: &mut [u32], w: u32)
 pub fn drop_word(seg: &mut [u32], w: u32)
     ensures { λ _. ⌜ now (seg .exit) ≡ arrays.dropWord (now (seg .entry)) w ⌝ }
 {
-    if is_array(w) {
+    if Descriptor::of(w).is_array() {
         lower(seg, low(w));
     }
 }
@@ -72,12 +71,6 @@ pub fn drop_cells(seg: &mut [u32], from: StackAddress, n: u32)
         let w = word(seg, start + left as usize);
         drop_word(seg, w);
     }
-}
-
-fn is_array(w: u32) -> bool
-    ensures { λ r. ⌜ r ≡ isArray w ⌝ }
-{
-    w / 0x1_0000 == Descriptor::TYPE_ARRAY * 0x100
 }
 
 fn raise(seg: &mut [u32], a: u16)

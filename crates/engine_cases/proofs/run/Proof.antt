@@ -6,11 +6,11 @@ use Rattle.engine_cases.proofs.run.Statement.{statement}
 use Rattle.engine_cases.proofs.run.Tie as tie
 
 abbrev Inv-loop : tie.InvT-loop
-Inv-loop text seg₀ regular₀ other₀ lengths₀ numbers₀ at₀ seg regular other lengths numbers at =
-    (length seg ≡ length seg₀) × (length regular ≡ length regular₀) × (length other ≡ length other₀) × (length lengths ≡ length lengths₀) × (length numbers ≡ length numbers₀)
+Inv-loop text seg₀ regular₀ alternate₀ lengths₀ numbers₀ at₀ seg regular alternate lengths numbers at =
+    (length seg ≡ length seg₀) × (length regular ≡ length regular₀) × (length alternate ≡ length alternate₀) × (length lengths ≡ length lengths₀) × (length numbers ≡ length numbers₀)
 
 abbrev μ-loop : tie.MeasureT-loop
-μ-loop text seg₀ regular₀ other₀ lengths₀ numbers₀ at₀ seg regular other lengths numbers at = length text - at
+μ-loop text seg₀ regular₀ alternate₀ lengths₀ numbers₀ at₀ seg regular alternate lengths numbers at = length text - at
 
 pub run-spec : {M : Type 1} → statement M
 run-spec =

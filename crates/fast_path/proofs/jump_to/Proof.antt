@@ -41,14 +41,8 @@ cast-number c = search needs
 returns-2 : tie.Need-returns-2
 returns-2 c = λ f. λ of. left
 
-cast-if3 : tie.Need-cast-if3
-cast-if3 c = search needs
-
-mul-if3 : tie.Need-mul-if3
-mul-if3 c = search needs
-
-add-if3 : tie.Need-add-if3
-add-if3 c = search needs
+code-end-requires : tie.Need-code-end-requires
+code-end-requires c κs = search needs
 
 returns-3 : tie.Need-returns-3
 returns-3 c = λ f. λ of. left
@@ -113,9 +107,7 @@ jump-to-spec =
     half-requires
     cast-number
     returns-2
-    cast-if3
-    mul-if3
-    add-if3
+    code-end-requires
     returns-3
     of-requires
     enum-told

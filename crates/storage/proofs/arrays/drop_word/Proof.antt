@@ -4,6 +4,9 @@ use borrow.Author.Needs.{needs}
 use Rattle.storage.proofs.arrays.drop_word.Statement.{statement}
 use Rattle.storage.proofs.arrays.drop_word.Tie as tie
 
+of-requires : tie.Need-of-requires
+of-requires c κs = search needs
+
 is-array-requires : tie.Need-is-array-requires
 is-array-requires c κs = search needs
 
@@ -25,4 +28,4 @@ returns-2 c = sym (drop-other _ _ (cc))
 pub drop-word-spec : {M : Type 1} → statement M
 drop-word-spec =
     tie.close
-    (tie.spec is-array-requires low-requires lower-requires same-length returns returns-2)
+    (tie.spec of-requires is-array-requires low-requires lower-requires same-length returns returns-2)

@@ -2,11 +2,11 @@ use native.Mathlib.Omega.{arith}
 use Rattle.machine.proofs.Budget.{run-absent}
 use Rattle.machine.proofs.Stepping.{step-absent}
 use borrow.Author.Needs.{needs}
-use Rattle.machine.proofs.run.stretch_of.Statement.{statement}
-use Rattle.machine.proofs.run.stretch_of.Tie as tie
+use Rattle.machine.proofs.run.run_function.Statement.{statement}
+use Rattle.machine.proofs.run.run_function.Tie as tie
 
-pub stretch-of-spec : {M : Type 1} → statement M
-stretch-of-spec =
+pub run-function-spec : {M : Type 1} → statement M
+run-function-spec =
     tie.close
     (tie.spec
     (λ c. search needs)

@@ -23,17 +23,17 @@ pub record Current (f : Running) (number : ℕ) (s : List ℕ) : Type 0 where
   pub selects : selectorOf s ≡ f .selector
   pub numbers : numberOf s ≡ number
 
--- What the whole run comes to, of `budget` instructions, when a stretch of it has answered so.
+-- What the whole run comes to, of `budget` instructions, when a part of it has answered so.
 abbrev pub resumed : Ran → ℕ → List ℕ → List ℕ → List ℕ → RunResult
 resumed (Done n) budget regular alternate s = stepsFrom (budget - n) n regular alternate s
 resumed (Trapped n) budget regular alternate s = ended (Trapped n) s
 
--- A stretch that begins after `start` instructions and has not trapped has done at least one more.
+-- A part that begins after `start` instructions and has not trapped has done at least one more.
 abbrev pub Advanced : ℕ → ℕ → Ran → Type 0
 Advanced start budget (Done n) = (start < n) × (n ≤ budget)
 Advanced start budget (Trapped n) = Unit {0}
 
--- A stretch's contract: begun after `start` instructions on the words `s`, it answers `r` and leaves the words `t`.
+-- A part's contract: begun after `start` instructions on the words `s`, it answers `r` and leaves the words `t`.
 abbrev pub Resumes : List ℕ → List ℕ → ℕ → ℕ → List ℕ → Ran → List ℕ → Type 0
 Resumes regular alternate start budget s r t =
     (resumed r budget regular alternate t ≡ stepsFrom (budget - start) start regular alternate s) × Advanced start budget r

@@ -1,10 +1,10 @@
 use mathlib.Core.Path.{refl}
 use borrow.Author.Needs.{needs}
-use Rattle.machine.proofs.run.stretch.Statement.{statement}
-use Rattle.machine.proofs.run.stretch.Tie as tie
+use Rattle.machine.proofs.run.run_current.Statement.{statement}
+use Rattle.machine.proofs.run.run_current.Tie as tie
 
-pub stretch-spec : {M : Type 1} → statement M
-stretch-spec =
+pub run-current-spec : {M : Type 1} → statement M
+run-current-spec =
     tie.close
     (tie.spec
     (λ c κs. search needs)
