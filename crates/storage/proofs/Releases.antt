@@ -1,7 +1,7 @@
 -- ROVER's move, and a release, by their ways.
 use Prim.Native.Nat.{ℕ, _+_, _-_}
-use mathlib.Core.Path.{_≡_}
-use mathlib.Core.Bool.{true, false}
+use mathlib.Core.Path.{_≡_, sym, _∙_}
+use mathlib.Core.Bool.{Bool, true, false}
 use mathlib.Core.List.{List}
 use borrow.Author.Tests.{eq-eqb, ne-eqb}
 use Rattle.segment.specs.State.{rover, setRover}
@@ -36,3 +36,19 @@ module _ (s : List ℕ) (a : ℕ) where
   pub release-none : prevFreeAt s a ≡ false → freeAt s (a + spanAt s a) ≡ false → release s a ≡ joinNone s a (spanAt s a) (a + spanAt s a)
   unfolding release
   release-none before after = simp (before, after)
+
+-- a release by what the code has in hand: the array's number and span, the block after, the two tests, and the start of the free block before
+module _ (s : List ℕ) {t : List ℕ} (a : ℕ) {number span after : ℕ} {low high : Bool}
+    (numbered : number ≡ a) (spanned : span ≡ spanAt s a) (behind : after ≡ number + span) (lowTest : low ≡ prevFreeAt s a) (highTest : high ≡ freeAt s after) where
+  module _ {i last size d p : ℕ} (one : i ≡ number - 1) (at : last ≡ i) (sized : size ≡ sizeAt s last) (less : d ≡ number - size) (start : p ≡ d) where
+    pub released-both : low ≡ true → high ≡ true → t ≡ joinBoth s p (size + span) after → t ≡ release s a
+    released-both l h joined = (cc) ∙ sym (release-both s a (cc) (cc))
+
+    pub released-before : low ≡ true → high ≡ false → t ≡ joinBefore s p (size + span) after → t ≡ release s a
+    released-before l h joined = (cc) ∙ sym (release-before s a (cc) (cc))
+
+  pub released-after : low ≡ false → high ≡ true → t ≡ joinAfter s a span after → t ≡ release s a
+  released-after l h joined = (cc) ∙ sym (release-after s a (cc) (cc))
+
+  pub released-none : low ≡ false → high ≡ false → t ≡ joinNone s a span after → t ≡ release s a
+  released-none l h joined = (cc) ∙ sym (release-none s a (cc) (cc))

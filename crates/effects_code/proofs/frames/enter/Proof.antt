@@ -47,7 +47,7 @@ same-length c = search needs
 
 returns : tie.Need-returns
 unfolding enter
-returns c = cc
+returns c = rw (c .before .before .set-frame .ensures, c .before .before .before .before .before .before .lay .ensures, c .before .before .before .before .before .before .before .before .number .ensures, c .before .before .before .before .before .before .before .before .before .lbase .ensures, c .before .before .before .before .before .before .before .before .before .before .before .index .ensures, c .before .before .before .before .before .before .before .before .before .before .before .before .top-cell .ensures .0, c .before .before .before .before .before .before .before .before .before .before .before .before .before .before .top .ensures)
 
 pub enter-spec : {M : Type 1} → statement M
 enter-spec =

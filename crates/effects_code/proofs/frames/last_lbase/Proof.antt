@@ -15,7 +15,7 @@ low-requires : tie.Need-low-requires
 low-requires c κs = search needs
 
 returns : tie.Need-returns
-returns c = cc
+returns c = rw (c .low .ensures, c .before .number .ensures, c .before .before .last-lbase .ensures, c .before .before .before .lbase .ensures)
 
 pub last-lbase-spec : {M : Type 1} → statement M
 last-lbase-spec =

@@ -37,7 +37,7 @@ same-length c = search needs
 
 returns : tie.Need-returns
 returns c = let s = c .before .before .before .before .before .before .before .before .before .before .before .before .before .args in
-    (cc) ∙ laid (s .seg .now) _ (s .nlocals) _ (s .start) _ (s .last) (s .function) refl (omega arith) (c .before .before .before .before .before .before .before .before .before .before .fill .ensures)
+    rw (c .before .before .put2 .ensures, c .before .before .before .before .before .before .put .ensures) (laid (s .seg .now) _ (s .nlocals) _ (s .start) _ (s .last) (s .function) refl (omega arith) (c .before .before .before .before .before .before .before .before .before .before .fill .ensures))
 
 pub lay-spec : {M : Type 1} → statement M
 lay-spec =

@@ -12,13 +12,13 @@ same-length : tie.Need-same-length
 same-length c = search needs
 
 returns : tie.Need-returns
-returns c = simp (c .before .before .before .before .if1 .taken) (cc)
+returns c = simp (c .before .before .before .before .if1 .taken) (c .before .before .leave-with .ensures)
 
 same-length-2 : tie.Need-same-length-2
 same-length-2 c = search needs
 
 returns-2 : tie.Need-returns-2
-returns-2 c = simp (c .before .before .before .before .if1 .left) (cc)
+returns-2 c = simp (c .before .before .before .before .if1 .left) (c .before .before .leave-without .ensures)
 
 pub leave-spec : {M : Type 1} → statement M
 leave-spec =

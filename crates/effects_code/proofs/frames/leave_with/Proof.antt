@@ -44,7 +44,7 @@ same-length c = search needs
 
 returns : tie.Need-returns
 unfolding leaveWith
-returns c = cc
+returns c = rw (c .before .before .put .ensures, c .before .before .before .index .ensures, c .before .before .before .before .before .before .before .set-frame .ensures, c .before .before .before .before .before .before .before .before .minus .ensures, c .before .before .before .before .before .before .before .before .before .before .before .before .drop-from .ensures, c .before .before .before .before .before .before .before .before .before .before .before .before .before .before .before .before .share .ensures, c .before .before .before .before .before .before .before .before .before .before .before .before .before .before .before .before .before .before .result-word .ensures, c .before .before .before .before .before .before .before .before .before .before .before .before .before .before .before .before .before .before .before .before .below .ensures, c .before .before .before .before .before .before .before .before .before .before .before .before .before .before .before .before .before .before .before .before .before .before .last-lbase .ensures, c .before .before .before .before .before .before .before .before .before .before .before .before .before .before .before .before .before .before .before .before .before .before .before .before .frame .ensures)
 
 pub leave-with-spec : {M : Type 1} → statement M
 leave-with-spec =

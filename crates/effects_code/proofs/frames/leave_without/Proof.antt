@@ -35,7 +35,7 @@ same-length c = search needs
 
 returns : tie.Need-returns
 unfolding leaveWithout
-returns c = cc
+returns c = rw (c .before .before .set-frame .ensures, c .before .before .before .minus2 .ensures, c .before .before .before .before .minus .ensures, c .before .before .before .before .before .before .before .before .drop-from .ensures, c .before .before .before .before .before .before .before .before .before .before .below .ensures, c .before .before .before .before .before .before .before .before .before .before .before .before .last-lbase .ensures, c .before .before .before .before .before .before .before .before .before .before .before .before .before .before .frame .ensures)
 
 pub leave-without-spec : {M : Type 1} → statement M
 leave-without-spec =

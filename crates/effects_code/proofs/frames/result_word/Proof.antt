@@ -12,7 +12,7 @@ word-requires : tie.Need-word-requires
 word-requires c κs = search needs
 
 returns : tie.Need-returns
-returns c = cc
+returns c = rw (c .word .ensures, c .before .index .ensures, c .before .before .below .ensures)
 
 pub result-word-spec : {M : Type 1} → statement M
 result-word-spec = tie.close (tie.spec below-requires index-requires word-requires returns)

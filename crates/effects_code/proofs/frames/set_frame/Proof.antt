@@ -18,7 +18,7 @@ same-length : tie.Need-same-length
 same-length c = search needs
 
 returns : tie.Need-returns
-returns c = cc
+returns c = rw (c .before .before .set-lbase .ensures, c .before .before .before .of2 .ensures, c .before .before .before .before .before .before .before .set-ltop .ensures, c .before .before .before .before .before .before .before .before .of .ensures)
 
 pub set-frame-spec : {M : Type 1} → statement M
 set-frame-spec =

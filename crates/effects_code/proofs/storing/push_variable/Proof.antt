@@ -1,4 +1,3 @@
-use mathlib.Core.Path.{_∙_}
 use native.Mathlib.Omega.{arith}
 use Rattle.effects_code.proofs.Carrying.{replace-variable}
 use borrow.Author.Needs.{needs}
@@ -15,7 +14,7 @@ same-length : tie.Need-same-length
 same-length c = search needs
 
 returns : tie.Need-returns
-returns c = (cc) ∙ replace-variable _ _ _
+returns c = rw (c .before .before .replace-by-share .ensures, c .before .before .before .before .held .ensures) (replace-variable _ _ _)
 
 pub push-variable-spec : {M : Type 1} → statement M
 push-variable-spec =

@@ -1,4 +1,4 @@
-use mathlib.Core.Path.{_∙_}
+use mathlib.Core.Path.{sym, _∙_}
 use Rattle.effects_code.proofs.Copying.{element-full, element-done}
 use borrow.Author.Needs.{needs}
 use Rattle.effects_code.proofs.storing.store_element.Statement.{statement}
@@ -29,7 +29,7 @@ same-length-2 : tie.Need-same-length-2
 same-length-2 c = search needs
 
 returns : tie.Need-returns
-returns c = let a = c .before .before .before .before .before .before .before .before .before .before .before .before .before .args in let kept = element-full (a .seg .now) (a .t) (a .at) (a .w) (a .n) (cc) in (kept .0, (cc) ∙ kept .1)
+returns c = let a = c .before .before .before .before .before .before .before .before .before .before .before .before .before .args in let kept = element-full (a .seg .now) (a .t) (a .at) (a .w) (a .n) (sym (c .enum-told .given .1) ∙ c .before .before .before .before .before .before .unshare .ensures .0) in (kept .0, c .before .before .before .before .before .before .unshare .ensures .1 ∙ kept .1)
 
 same-length-3 : tie.Need-same-length-3
 same-length-3 c = search needs
@@ -38,7 +38,10 @@ same-length-4 : tie.Need-same-length-4
 same-length-4 c = search needs
 
 returns-2 : tie.Need-returns-2
-returns-2 c = let a = c .before .before .before .before .before .before .before .before .before .before .before .before .before .before .before .before .before .before .before .before .before .args in let done = element-done (a .seg .now) (a .t) (a .at) (a .w) (a .n) (cc) in (done .0, (cc) ∙ done .1)
+returns-2 c =
+    let a = c .before .before .before .before .before .before .before .before .before .before .before .before .before .before .before .before .before .before .before .before .before .args in
+    let done = element-done (a .seg .now) (a .t) (a .at) (a .w) (a .n) (sym (c .before .before .before .before .before .before .before .before .enum-told2 .given .1) ∙ c .before .before .before .before .before .before .before .before .before .before .before .before .before .before .unshare .ensures .0) in
+    (done .0, rw (c .before .before .push-variable .ensures, c .before .before .before .before .before .before .write-element .ensures, c .before .before .before .before .before .before .before .before .before .before .before .before .before .before .unshare .ensures .1, c .before .before .before .before .before .before .before .before .before .before .before .before .before .before .before .before .before .place-of .ensures) (done .1))
 
 pub store-element-spec : {M : Type 1} → statement M
 store-element-spec =

@@ -23,7 +23,7 @@ same-length c = search needs
 
 returns : tie.Need-returns
 unfolding storeShared
-returns c = cc
+returns c = rw (c .before .before .drop-word .ensures, c .before .before .before .before .before .before .put .ensures, c .before .before .before .before .before .before .before .before .before .before .share .ensures, c .before .before .before .before .before .before .before .before .before .before .before .before .word .ensures, c .before .before .before .before .before .before .before .before .before .before .before .before .before .before .place-of .ensures)
 
 pub store-share-spec : {M : Type 1} → statement M
 store-share-spec =

@@ -38,7 +38,7 @@ same-length c = search needs
 
 returns : tie.Need-returns
 unfolding writeElement
-returns c = cc
+returns c = rw (c .before .before .put .ensures, c .before .before .before .before .rank .ensures, c .before .before .before .before .before .before .index .ensures, c .before .before .before .before .before .before .before .of .ensures, c .before .before .before .before .before .before .before .before .low .ensures, c .before .before .before .before .before .before .before .before .before .word .ensures)
 
 pub write-element-spec : {M : Type 1} → statement M
 write-element-spec =

@@ -29,7 +29,7 @@ same-length c = search needs
 
 returns : tie.Need-returns
 unfolding discard
-returns c = cc
+returns c = rw (c .before .before .set-ltop .ensures, c .before .before .before .of .ensures, c .before .before .before .before .before .before .before .drop-from .ensures, c .before .before .before .before .before .before .before .before .before .minus .ensures, c .before .before .before .before .before .before .before .before .before .before .top .ensures, c .before .before .before .before .before .before .before .before .before .before .before .before .bottom .ensures)
 
 pub discard-spec : {M : Type 1} → statement M
 discard-spec =

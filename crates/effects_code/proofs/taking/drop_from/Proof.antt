@@ -1,5 +1,5 @@
 use Prim.Native.Nat.{_<_, _^_}
-use mathlib.Core.Path.{_≡_, refl}
+use mathlib.Core.Path.{_≡_, refl, sym, _∙_}
 use native.Mathlib.Omega.{arith}
 use lib.ListN.{length}
 use Rattle.storage.specs.Arrays.{dropWords}
@@ -41,13 +41,13 @@ loop-less c = search needs
 loop-again : tie.Need-loop-again Inv-loop μ-loop
 loop-again c =
     let turn = c .before .before .before .before .before .before .before in
-    (cc (drops-on (turn .loop .left) (turn .loop .seg) (turn .before .index .result) (omega arith)), search needs, omega arith)
+    (rw (c .before .before .drop-word .ensures, c .before .before .before .before .word .ensures) (sym (drops-on (turn .loop .left) (turn .loop .seg) (turn .before .index .result) (c .before .before .before .before .before .before .loop-test .taken)) ∙ turn .loop .inv .0), search needs, omega arith)
 
 same-length : tie.Need-same-length Inv-loop μ-loop
 same-length c = c .before .loop .inv .1
 
 returns : tie.Need-returns Inv-loop μ-loop
-returns c = cc (drops-none (c .before .loop .left) (c .before .loop .seg) (c .before .before .index .result) (omega arith))
+returns c = sym (drops-none (c .before .loop .left) (c .before .loop .seg) (c .before .before .index .result) (omega arith)) ∙ rw (← c .before .before .index .ensures) (c .before .loop .inv .0)
 
 pub drop-from-spec : {M : Type 1} → statement M
 drop-from-spec =

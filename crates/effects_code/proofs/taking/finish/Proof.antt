@@ -36,7 +36,7 @@ same-length c = search needs
 
 returns : tie.Need-returns
 unfolding finish setLtop
-returns c = cc
+returns c = rw (c .before .before .put2 .ensures, c .before .before .before .index .ensures, c .before .before .before .before .before .before .before .put .ensures, c .before .before .before .before .before .before .before .before .minus .ensures, c .before .before .before .before .before .before .before .before .before .number .ensures, c .before .before .before .before .before .before .before .before .before .before .before .base .ensures)
 
 pub finish-spec : {M : Type 1} → statement M
 finish-spec =

@@ -15,7 +15,7 @@ same-length : tie.Need-same-length
 same-length c = search needs
 
 returns : tie.Need-returns
-returns c = cc
+returns c = rw (c .before .before .set-pctr .ensures, c .before .before .before .of .ensures, c .before .before .before .before .number .ensures)
 
 pub jump-spec : {M : Type 1} → statement M
 jump-spec = tie.close (tie.spec number-requires of-requires set-pctr-requires same-length returns)

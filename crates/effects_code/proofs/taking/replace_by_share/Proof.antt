@@ -17,7 +17,7 @@ same-length c = search needs
 
 returns : tie.Need-returns
 unfolding replaceShared
-returns c = cc
+returns c = rw (c .before .before .take .ensures, c .before .before .before .before .before .before .share .ensures, c .before .before .before .before .before .before .before .before .bottom .ensures)
 
 pub replace-by-share-spec : {M : Type 1} → statement M
 replace-by-share-spec =

@@ -14,7 +14,7 @@ same-length c = search needs
 
 returns : tie.Need-returns
 unfolding replace
-returns c = cc
+returns c = rw (c .before .before .take .ensures, c .before .before .before .before .bottom .ensures)
 
 pub replace-by-word-spec : {M : Type 1} → statement M
 replace-by-word-spec = tie.close (tie.spec bottom-requires take-requires same-length returns)

@@ -1,4 +1,3 @@
-use mathlib.Core.Path.{_∙_}
 use Rattle.instructions_memory.proofs.Pushing.{origin-pushed}
 use borrow.Author.Needs.{needs}
 use Rattle.instructions_memory.proofs.loads.get_origin.Statement.{statement}
@@ -14,7 +13,7 @@ same-length : tie.Need-same-length
 same-length c = search needs
 
 returns : tie.Need-returns
-returns c = (cc) ∙ origin-pushed _ _
+returns c = rw (c .before .before .push-word .ensures, c .before .before .before .before .iorg .ensures) (origin-pushed _ _)
 
 pub get-origin-spec : {M : Type 1} → statement M
 get-origin-spec = tie.close (tie.spec iorg-requires push-word-requires same-length returns)

@@ -11,7 +11,7 @@ same-length : tie.Need-same-length
 same-length c = search needs
 
 returns : tie.Need-returns
-returns c = (cc) ∙ undefined-pushed _ _
+returns c = c .before .before .push-word .ensures ∙ undefined-pushed _ _
 
 pub push-undefined-spec : {M : Type 1} → statement M
 push-undefined-spec = tie.close (tie.spec push-word-requires same-length returns)

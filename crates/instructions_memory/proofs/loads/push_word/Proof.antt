@@ -1,4 +1,3 @@
-use mathlib.Core.Path.{_∙_}
 use native.Mathlib.Omega.{arith}
 use Rattle.instructions_memory.proofs.Pushing.{push-full, word-pushed}
 use borrow.Author.Needs.{needs}
@@ -24,7 +23,7 @@ same-length-2 : tie.Need-same-length-2
 same-length-2 c = search needs
 
 returns-2 : tie.Need-returns-2
-returns-2 c = (cc) ∙ word-pushed _ _ _ (omega arith)
+returns-2 c = rw (c .before .before .jump .ensures, c .before .before .before .before .before .before .replace-by-word .ensures) (word-pushed _ _ _ (omega (arith, c .before .before .before .before .before .before .before .before .if1 .left, c .before .before .before .before .before .before .before .before .before .room .ensures)))
 
 pub push-word-spec : {M : Type 1} → statement M
 push-word-spec =

@@ -62,7 +62,7 @@ same-length c = omega arith
 returns : tie.Need-returns Inv-loop μ-loop
 returns c =
     let inv = c .before .loop .inv in
-    words-written _ _ _ (inv .5) refl (omega arith) ∙ (cc)
+    words-written _ _ _ (inv .5) refl (omega arith) ∙ rw (c .before .before .number .ensures)
 
 pub read-words-spec : {M : Type 1} → statement M
 read-words-spec =

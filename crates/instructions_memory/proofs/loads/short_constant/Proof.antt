@@ -17,7 +17,7 @@ same-length c = search needs
 
 returns : tie.Need-returns
 unfolding shortConstant
-returns c = cc
+returns c = rw (c .before .before .push-word .ensures, c .before .before .before .word .ensures, c .before .before .before .before .integer .ensures)
 
 pub short-constant-spec : {M : Type 1} → statement M
 short-constant-spec =

@@ -1,5 +1,4 @@
 use Rattle.instructions_memory.proofs.Variables.{variable-trapped}
-use mathlib.Core.Path.{_∙_}
 use Rattle.manual.specs.Loads as plan
 use Rattle.instructions_memory.proofs.Pushing.{tested}
 use borrow.Author.Needs.{needs}
@@ -26,7 +25,7 @@ same-length : tie.Need-same-length
 same-length c = search needs
 
 returns-2 : tie.Need-returns-2
-returns-2 c = (cc) ∙ tested _ _ _ _ _ (c .before .before .before .before .before .before .variable2 .given .1)
+returns-2 c = rw (c .before .before .push-word .ensures, c .before .before .before .defined .ensures) (tested _ _ _ _ _ (c .before .before .before .before .before .before .variable2 .given .1))
 
 pub test-defined-spec : {M : Type 1} → statement M
 test-defined-spec =

@@ -30,7 +30,7 @@ same-length-2 : tie.Need-same-length-2
 same-length-2 c = search needs
 
 returns-2 : tie.Need-returns-2
-returns-2 c = indexed-other _ _ _ _ _ (omega arith) (cc)
+returns-2 c = indexed-other _ _ _ _ _ (omega (arith, c .before .before .before .before .if1 .left, c .before .before .before .before .before .count .ensures)) (sym (c .before .before .value-of .ensures) ∙ c .enum-told .given .1)
 
 add-take-scalars : tie.Need-add-take-scalars
 add-take-scalars c = search needs

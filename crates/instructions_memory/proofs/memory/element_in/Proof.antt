@@ -1,5 +1,6 @@
-use mathlib.Core.Path.{sym, _∙_}
+use mathlib.Core.Path.{sym, ap, _∙_}
 use native.Mathlib.Omega.{arith}
+use lib.ListN.{length}
 use lib.Seq.{length-take-le}
 use Rattle.instructions_memory.proofs.Storing.{block-whole, block-held, few-elements, other-rank, outside, element-found}
 use borrow.Author.Needs.{needs}
@@ -13,7 +14,7 @@ same-length : tie.Need-same-length
 same-length c = search needs
 
 returns : tie.Need-returns
-returns c = other-rank _ _ _ _ _ (c .before .before .before .before .before .before .pre .1) _ (λ same. c .if1 .taken (cc))
+returns c = other-rank _ _ _ _ _ (c .before .before .before .before .before .before .pre .1) _ (λ same. c .if1 .taken (same ∙ sym (ap length (c .before .lengths-of .ensures))))
 
 iorg-requires : tie.Need-iorg-requires
 iorg-requires c κs = search needs
@@ -46,7 +47,7 @@ same-length-2 : tie.Need-same-length-2
 same-length-2 c = search needs
 
 returns-2 : tie.Need-returns-2
-returns-2 c = outside _ _ _ _ _ (c .before .before .before .before .before .before .before .before .before .before .before .before .pre .1) _ (cc) _ _ _ (c .before .class .given .1) (cc)
+returns-2 c = outside _ _ _ _ _ (c .before .before .before .before .before .before .before .before .before .before .before .before .pre .1) _ (c .before .before .before .before .before .before .if1 .left ∙ ap length (c .before .before .before .before .before .before .before .lengths-of .ensures)) _ _ _ (c .before .class .given .1) (c .before .before .before .place .ensures ∙ rw (c .before .before .before .before .before .iorg .ensures, c .before .before .before .before .before .before .before .lengths-of .ensures))
 
 same-length-3 : tie.Need-same-length-3
 same-length-3 c = search needs
@@ -55,7 +56,7 @@ same-length-4 : tie.Need-same-length-4
 same-length-4 c = search needs
 
 returns-3 : tie.Need-returns-3
-returns-3 c = c .before .before .before .before .store-at .ensures ∙ element-found _ _ _ _ _ (c .before .before .before .before .before .before .before .before .before .before .before .before .before .before .before .before .before .before .before .before .pre .1) _ (cc) _ _ (c .before .before .before .before .before .before .before .before .before .k .given .1) (cc)
+returns-3 c = c .before .before .before .before .store-at .ensures ∙ element-found _ _ _ _ _ (c .before .before .before .before .before .before .before .before .before .before .before .before .before .before .before .before .before .before .before .before .pre .1) _ (c .before .before .before .before .before .before .before .before .before .before .before .before .before .before .if1 .left ∙ ap length (c .before .before .before .before .before .before .before .before .before .before .before .before .before .before .before .lengths-of .ensures)) _ _ (c .before .before .before .before .before .before .before .before .before .k .given .1) (c .before .before .before .before .before .before .before .before .before .before .before .place .ensures ∙ rw (c .before .before .before .before .before .before .before .before .before .before .before .before .before .iorg .ensures, c .before .before .before .before .before .before .before .before .before .before .before .before .before .before .before .lengths-of .ensures))
 
 pub element-in-spec : {M : Type 1} → statement M
 element-in-spec =

@@ -1,5 +1,5 @@
 use Rattle.instructions_memory.proofs.Assigning.{move-missing, move-other, value-moved}
-use mathlib.Core.Path.{_∙_}
+use mathlib.Core.Path.{sym, _∙_}
 use native.Mathlib.Omega.{arith}
 use borrow.Author.Needs.{needs}
 use Rattle.instructions_memory.proofs.memory.move_to.Statement.{statement}
@@ -30,7 +30,7 @@ same-length-2 : tie.Need-same-length-2
 same-length-2 c = search needs
 
 returns-2 : tie.Need-returns-2
-returns-2 c = λ cell. move-other _ _ _ cell (omega arith) (cc)
+returns-2 c = λ cell. move-other _ _ _ cell (omega (arith, c .before .before .before .before .before .before .if1 .left, c .before .before .before .before .before .before .before .count .ensures)) (rw (← c .before .before .before .before .operand-at .ensures) (sym (c .before .before .value-of .ensures) ∙ c .enum-told2 .given .1))
 
 store-share-requires : tie.Need-store-share-requires
 store-share-requires c κs = search needs
@@ -45,7 +45,9 @@ same-length-3 : tie.Need-same-length-3
 same-length-3 c = search needs
 
 returns-3 : tie.Need-returns-3
-returns-3 c = λ cell. (cc) ∙ value-moved _ _ _ cell (omega arith) _ _ (c .before .before .before .before .before .before .before .before .before .before .before .before .enum-told .given .1) (cc)
+returns-3 c = λ cell.
+    rw (c .before .before .jump .ensures, c .before .before .before .before .before .before .discard .ensures, c .before .before .before .before .before .before .before .before .before .before .store-share .ensures, c .before .before .before .before .before .before .before .before .before .before .before .before .before .before .before .before .operand-at .ensures)
+    (value-moved _ _ _ cell (omega (arith, c .before .before .before .before .before .before .before .before .before .before .before .before .before .before .before .before .before .before .if1 .left, c .before .before .before .before .before .before .before .before .before .before .before .before .before .before .before .before .before .before .before .count .ensures)) _ _ (c .before .before .before .before .before .before .before .before .before .before .before .before .enum-told .given .1) (rw (← c .before .before .before .before .before .before .before .before .before .before .before .before .before .before .before .before .operand-at .ensures) (sym (c .before .before .before .before .before .before .before .before .before .before .before .before .before .before .value-of .ensures))))
 
 pub move-to-spec : {M : Type 1} → statement M
 move-to-spec =

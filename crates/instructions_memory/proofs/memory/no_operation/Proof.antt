@@ -1,4 +1,3 @@
-use mathlib.Core.Path.{_∙_}
 use Rattle.instructions_memory.proofs.Stacking.{nothing-done}
 use borrow.Author.Needs.{needs}
 use Rattle.instructions_memory.proofs.memory.no_operation.Statement.{statement}
@@ -11,7 +10,7 @@ same-length : tie.Need-same-length
 same-length c = search needs
 
 returns : tie.Need-returns
-returns c = (cc) ∙ nothing-done _ _
+returns c = rw (c .before .before .jump .ensures) (nothing-done _ _)
 
 pub no-operation-spec : {M : Type 1} → statement M
 no-operation-spec = tie.close (tie.spec jump-requires same-length returns)

@@ -1,4 +1,4 @@
-use mathlib.Core.Path.{_∙_}
+use mathlib.Core.Path.{sym, _∙_}
 use mathlib.Core.List.{[], _∷_}
 use Rattle.manual.specs.Effects.{storesElement, jumps}
 use Rattle.effects_code.proofs.Carrying.{carry-refused, carry-served}
@@ -26,7 +26,7 @@ same-length-2 c = search needs
 
 returns : tie.Need-returns
 returns c = let a = c .before .before .before .before .before .before .before .before .before .before .before .args in
-    (cc) ∙ carry-refused (a .seg .now) (storesElement (a .t) (a .k) (a .w) (a .n)) (jumps (a .next .0) ∷ []) (cc)
+    rw (c .before .before .before .before .before .before .store-element .ensures .1) (carry-refused (a .seg .now) (storesElement (a .t) (a .k) (a .w) (a .n)) (jumps (a .next .0) ∷ []) (sym (c .enum-told .given .1) ∙ c .before .before .before .before .before .before .store-element .ensures .0))
 
 same-length-3 : tie.Need-same-length-3
 same-length-3 c = search needs
@@ -36,7 +36,7 @@ same-length-4 c = search needs
 
 returns-2 : tie.Need-returns-2
 returns-2 c = let a = c .before .before .before .before .before .before .before .before .before .before .before .before .before .before .before .args in
-    (cc) ∙ carry-served (a .seg .now) (storesElement (a .t) (a .k) (a .w) (a .n)) (jumps (a .next .0) ∷ []) (cc)
+    rw (c .before .before .jump .ensures, c .before .before .before .before .before .before .before .before .before .before .store-element .ensures .1) (carry-served (a .seg .now) (storesElement (a .t) (a .k) (a .w) (a .n)) (jumps (a .next .0) ∷ []) (sym (c .before .before .before .before .enum-told2 .given .1) ∙ c .before .before .before .before .before .before .before .before .before .before .store-element .ensures .0))
 
 pub store-at-spec : {M : Type 1} → statement M
 store-at-spec =

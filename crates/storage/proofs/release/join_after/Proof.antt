@@ -26,7 +26,7 @@ same-length c = search needs
 
 returns : tie.Need-returns
 unfolding joinAfter
-returns c = cc
+returns c = rw (c .before .before .move-rover .ensures, c .before .before .before .before .before .before .mark-free .ensures, c .before .before .before .before .before .before .before .before .before .before .relink .ensures, c .before .before .before .before .before .before .before .before .before .before .before .before .size-at .ensures)
 
 pub join-after-spec : {M : Type 1} → statement M
 join-after-spec =

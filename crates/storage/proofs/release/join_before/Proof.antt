@@ -14,7 +14,7 @@ same-length c = search needs
 
 returns : tie.Need-returns
 unfolding joinBefore
-returns c = cc
+returns c = rw (c .before .before .set-prev-free .ensures, c .before .before .before .before .before .before .mark-free .ensures)
 
 pub join-before-spec : {M : Type 1} → statement M
 join-before-spec =

@@ -26,7 +26,7 @@ same-length c = search needs
 
 returns : tie.Need-returns
 unfolding joinBoth
-returns c = cc
+returns c = rw (c .before .before .move-rover .ensures, c .before .before .before .before .before .before .mark-free .ensures, c .before .before .before .before .before .before .before .before .before .before .unlink .ensures, c .before .before .before .before .before .before .before .before .before .before .before .before .size-at .ensures)
 
 pub join-both-spec : {M : Type 1} → statement M
 join-both-spec =

@@ -17,7 +17,7 @@ same-length c = search needs
 
 returns : tie.Need-returns
 unfolding joinNone
-returns c = cc
+returns c = rw (c .before .before .set-prev-free .ensures, c .before .before .before .before .before .before .mark-free .ensures, c .before .before .before .before .before .before .before .before .before .before .insert .ensures)
 
 pub join-none-spec : {M : Type 1} → statement M
 join-none-spec =

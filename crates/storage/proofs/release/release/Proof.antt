@@ -1,5 +1,4 @@
-use mathlib.Core.Path.{sym, _∙_}
-use Rattle.storage.proofs.Releases.{release-both, release-before, release-after, release-none}
+use Rattle.storage.proofs.Releases.{released-both, released-before, released-after, released-none}
 use borrow.Author.Needs.{needs}
 use Rattle.storage.proofs.release.release.Statement.{statement}
 use Rattle.storage.proofs.release.release.Tie as tie
@@ -65,25 +64,45 @@ same-length : tie.Need-same-length
 same-length c = search needs
 
 returns : tie.Need-returns
-returns c = (cc) ∙ sym (release-both _ _ (cc) (cc))
+returns c =
+    let e = c .before .before .before .before in
+    let p = e .before .before .before in
+    let a = p .before .before .before .before .before .before in
+    released-both _ _ (a .before .before .before .before .before .before .number .ensures) (a .before .before .before .before .span-at .ensures) (a .before .before .before .of .ensures) (a .before .prev-free-at .ensures) (e .before .free-at .ensures)
+    (p .before .before .before .before .minus .ensures) (p .before .before .before .of2 .ensures) (p .before .before .size-at .ensures) (p .before .minus2 .ensures) (p .of3 .ensures)
+    (a .if1 .taken) (e .if2 .taken) (c .before .before .join-both .ensures)
 
 same-length-2 : tie.Need-same-length-2
 same-length-2 c = search needs
 
 returns-2 : tie.Need-returns-2
-returns-2 c = (cc) ∙ sym (release-before _ _ (cc) (cc))
+returns-2 c =
+    let e = c .before .before .before .before in
+    let p = e .before .before .before in
+    let a = p .before .before .before .before .before .before in
+    released-before _ _ (a .before .before .before .before .before .before .number .ensures) (a .before .before .before .before .span-at .ensures) (a .before .before .before .of .ensures) (a .before .prev-free-at .ensures) (e .before .free-at .ensures)
+    (p .before .before .before .before .minus .ensures) (p .before .before .before .of2 .ensures) (p .before .before .size-at .ensures) (p .before .minus2 .ensures) (p .of3 .ensures)
+    (a .if1 .taken) (e .if2 .left) (c .before .before .join-before .ensures)
 
 same-length-3 : tie.Need-same-length-3
 same-length-3 c = search needs
 
 returns-3 : tie.Need-returns-3
-returns-3 c = (cc) ∙ sym (release-after _ _ (cc) (cc))
+returns-3 c =
+    let e = c .before .before .before .before in
+    let a = e .before .before .before in
+    released-after _ _ (a .before .before .before .before .before .before .number .ensures) (a .before .before .before .before .span-at .ensures) (a .before .before .before .of .ensures) (a .before .prev-free-at .ensures) (e .before .free-at2 .ensures)
+    (a .if1 .left) (e .if3 .taken) (c .before .before .join-after .ensures)
 
 same-length-4 : tie.Need-same-length-4
 same-length-4 c = search needs
 
 returns-4 : tie.Need-returns-4
-returns-4 c = (cc) ∙ sym (release-none _ _ (cc) (cc))
+returns-4 c =
+    let e = c .before .before .before .before in
+    let a = e .before .before .before in
+    released-none _ _ (a .before .before .before .before .before .before .number .ensures) (a .before .before .before .before .span-at .ensures) (a .before .before .before .of .ensures) (a .before .prev-free-at .ensures) (e .before .free-at2 .ensures)
+    (a .if1 .left) (e .if3 .left) (c .before .before .join-none .ensures)
 
 pub release-spec : {M : Type 1} → statement M
 release-spec =

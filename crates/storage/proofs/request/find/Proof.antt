@@ -19,7 +19,7 @@ rover-requires c κs = search needs
 
 loop-holds : tie.Need-loop-holds Inv-loop μ-loop
 unfolding find
-loop-holds c = ((cc), (cc), omega arith)
+loop-holds c = (c .rover .ensures, rw (c .rover .ensures), omega (arith, c .rover .ensures))
 
 size-at-requires : tie.Need-size-at-requires Inv-loop μ-loop
 size-at-requires c κs = search needs
@@ -43,7 +43,9 @@ of-requires : tie.Need-of-requires Inv-loop μ-loop
 of-requires c κs = search needs
 
 returns-2 : tie.Need-returns-2 Inv-loop μ-loop
-returns-2 c = ((cc) ∙ sym (c .before .before .before .before .before .before .before .before .loop .inv .1 ∙ find-round _ _ _ _ _ (omega arith) (omega arith) (cc)), omega arith)
+returns-2 c =
+    let round = sym (c .before .before .before .before .next-at .ensures .0) ∙ sym (c .before .before .before .number .ensures) ∙ c .before .if2 .taken ∙ c .before .before .number2 .ensures in
+    (c .of .ensures ∙ sym (c .before .before .before .before .before .before .before .before .loop .inv .1 ∙ find-round _ _ _ _ _ (omega arith) (omega arith) round), omega arith)
 
 sub-left : tie.Need-sub-left Inv-loop μ-loop
 sub-left c = search needs
@@ -54,13 +56,13 @@ loop-less c = search needs
 loop-again : tie.Need-loop-again Inv-loop μ-loop
 loop-again c =
     let inv = c .before .before .before .before .before .before .before .loop .inv in
-    (inv .0, inv .1 ∙ find-on _ _ _ _ _ (omega arith) (omega arith) (λ e. c .if2 .left ((cc) ∙ e ∙ (cc))) ∙ rw (← c .before .before .before .next-at .ensures .0), omega arith)
+    (inv .0, inv .1 ∙ find-on _ _ _ _ _ (omega arith) (omega arith) (λ e. c .if2 .left (c .before .before .number .ensures ∙ c .before .before .before .next-at .ensures .0 ∙ e ∙ sym (c .before .number2 .ensures))) ∙ rw (← c .before .before .before .next-at .ensures .0), omega arith)
 
 of-requires-2 : tie.Need-of-requires-2 Inv-loop μ-loop
 of-requires-2 c κs = search needs
 
 returns-3 : tie.Need-returns-3 Inv-loop μ-loop
-returns-3 c = ((cc) ∙ sym (c .before .before .loop .inv .1 ∙ find-none _ _ _ _ _ (omega arith)), omega arith)
+returns-3 c = (c .of2 .ensures ∙ sym (c .before .before .loop .inv .1 ∙ find-none _ _ _ _ _ (omega arith)), omega arith)
 
 pub find-spec : {M : Type 1} → statement M
 find-spec =

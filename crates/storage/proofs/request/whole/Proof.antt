@@ -38,7 +38,7 @@ same-length c = search needs
 
 returns : tie.Need-returns
 unfolding givenWhole
-returns c = cc
+returns c = rw (c .before .before .clear-prev-free .ensures, c .before .before .before .of .ensures, c .before .before .before .before .number .ensures, c .before .before .before .before .before .before .before .before .put .ensures, c .before .before .before .before .before .before .before .before .before .index .ensures, c .before .before .before .before .before .before .before .before .before .before .before .before .before .unlink .ensures)
 
 pub whole-spec : {M : Type 1} → statement M
 whole-spec =

@@ -17,7 +17,7 @@ same-length c = search needs
 
 returns : tie.Need-returns
 unfolding clearPrevFree
-returns c = cc
+returns c = rw (c .before .before .put .ensures, c .before .before .before .before .word .ensures, c .before .before .before .before .before .before .index .ensures)
 
 pub clear-prev-free-spec : {M : Type 1} → statement M
 clear-prev-free-spec =

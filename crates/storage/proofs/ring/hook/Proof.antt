@@ -23,7 +23,7 @@ same-length c = search needs
 
 returns : tie.Need-returns
 unfolding hook
-returns c = cc
+returns c = rw (c .before .before .set-last .ensures, c .before .before .before .before .before .before .set-next .ensures, c .before .before .before .before .before .before .before .before .before .before .put .ensures, c .before .before .before .before .before .before .before .before .before .before .before .index .ensures)
 
 pub hook-spec : {M : Type 1} → statement M
 hook-spec =

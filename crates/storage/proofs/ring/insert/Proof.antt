@@ -32,7 +32,7 @@ same-length c = search needs
 
 returns : tie.Need-returns
 unfolding insert
-returns c = cc
+returns c = rw (c .before .before .hook .ensures, c .before .before .before .before .halves .ensures, c .before .before .before .before .before .number2 .ensures, c .before .before .before .before .before .before .number .ensures, c .before .before .before .before .before .before .before .next-at .ensures .0, c .before .before .before .before .before .before .before .before .before .dummy .ensures .0)
 
 pub insert-spec : {M : Type 1} → statement M
 insert-spec =

@@ -32,7 +32,7 @@ same-length c = search needs
 
 returns : tie.Need-returns
 unfolding markFree
-returns c = cc
+returns c = rw (c .before .before .put2 .ensures, c .before .before .before .minus .ensures, c .before .before .before .before .number .ensures, c .before .before .before .before .before .before .before .before .put .ensures, c .before .before .before .before .before .before .before .before .before .index .ensures)
 
 pub mark-free-spec : {M : Type 1} → statement M
 mark-free-spec =

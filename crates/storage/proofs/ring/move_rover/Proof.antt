@@ -21,13 +21,15 @@ same-length : tie.Need-same-length
 same-length c = search needs
 
 returns : tie.Need-returns
-returns c = (cc) ∙ sym (moveRover-on _ _ _ (cc))
+returns c =
+    let e = c .before .before .before .before in
+    c .before .before .set-rover .ensures ∙ sym (moveRover-on _ _ _ (sym (e .before .before .before .rover .ensures) ∙ sym (e .before .before .number .ensures) ∙ e .if1 .taken ∙ e .before .number2 .ensures))
 
 same-length-2 : tie.Need-same-length-2
 same-length-2 c = search needs
 
 returns-2 : tie.Need-returns-2
-returns-2 c = sym (moveRover-off _ _ _ (omega arith))
+returns-2 c = sym (moveRover-off _ _ _ (λ e. c .if1 .left (c .before .before .number .ensures ∙ c .before .before .before .rover .ensures ∙ e ∙ sym (c .before .number2 .ensures))))
 
 pub move-rover-spec : {M : Type 1} → statement M
 move-rover-spec =

@@ -26,7 +26,7 @@ same-length c = search needs
 
 returns : tie.Need-returns
 unfolding relink
-returns c = cc
+returns c = rw (c .before .before .hook .ensures, c .before .before .before .before .word .ensures, c .before .before .before .before .before .index .ensures, c .before .before .before .before .before .before .before .last-at .ensures .0, c .before .before .before .before .before .before .before .before .before .next-at .ensures .0)
 
 pub relink-spec : {M : Type 1} → statement M
 relink-spec =

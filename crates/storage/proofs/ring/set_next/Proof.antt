@@ -32,7 +32,7 @@ same-length c = search needs
 
 returns : tie.Need-returns
 unfolding setNext
-returns c = cc
+returns c = rw (c .before .before .put .ensures, c .before .before .before .halves .ensures, c .before .before .before .before .number .ensures, c .before .before .before .before .before .before .low .ensures, c .before .before .before .before .before .before .before .word .ensures, c .before .before .before .before .before .before .before .before .before .index .ensures)
 
 pub set-next-spec : {M : Type 1} → statement M
 set-next-spec =

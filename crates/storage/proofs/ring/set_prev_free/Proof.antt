@@ -20,7 +20,7 @@ same-length c = search needs
 
 returns : tie.Need-returns
 unfolding setPrevFree
-returns c = cc
+returns c = rw (c .before .before .put .ensures, c .before .before .before .before .word .ensures, c .before .before .before .before .before .before .index .ensures)
 
 pub set-prev-free-spec : {M : Type 1} → statement M
 set-prev-free-spec =

@@ -20,7 +20,7 @@ same-length c = search needs
 
 returns : tie.Need-returns
 unfolding unlink
-returns c = cc
+returns c = rw (c .before .before .set-last .ensures, c .before .before .before .before .before .before .set-next .ensures, c .before .before .before .before .before .before .before .before .last-at .ensures .0, c .before .before .before .before .before .before .before .before .before .before .next-at .ensures .0)
 
 pub unlink-spec : {M : Type 1} → statement M
 unlink-spec =
