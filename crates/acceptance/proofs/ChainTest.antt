@@ -10,10 +10,10 @@ use Rattle.segment.specs.Stack.{lastLbaseAt, codeWordAt}
 use Rattle.descriptor.proofs.Truth.{by-eq}
 use Rattle.acceptance_storage.proofs.Tests.{never, both}
 use Rattle.acceptance.specs.Frames.{known, variables, framesPass}
-use Rattle.acceptance.specs.Structure.{Chain}
+use Rattle.acceptance.specs.Structure.{FrameChain}
 
 pub chain-sound : (n : ℕ) (s regular alternate : List ℕ) (base : ℕ) → framesPass n (known regular alternate) (variables regular alternate) s base ≡ true
-    → (older : List ℕ) × Chain s regular alternate base older
+    → (older : List ℕ) × FrameChain s regular alternate base older
 unfolding framesPass
 chain-sound zero s regular alternate base h = absurd (never h)
 chain-sound (suc n) s regular alternate base h =
@@ -24,7 +24,7 @@ chain-sound (suc n) s regular alternate base h =
     let r = chain-sound n s regular alternate (lastLbaseAt s base) (b .1) in
     (lastLbaseAt s base ∷ r .0, (record { function = a .0; last = refl; start = leb-true _ _ (b .0) }, r .1)))
 
-pub chain-complete : (n : ℕ) (s regular alternate : List ℕ) (base : ℕ) (older : List ℕ) → base < n → Chain s regular alternate base older
+pub chain-complete : (n : ℕ) (s regular alternate : List ℕ) (base : ℕ) (older : List ℕ) → base < n → FrameChain s regular alternate base older
     → framesPass n (known regular alternate) (variables regular alternate) s base ≡ true
 unfolding framesPass
 chain-complete zero s regular alternate base older l h = absurd (omega arith)

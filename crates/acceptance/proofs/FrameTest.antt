@@ -14,14 +14,14 @@ use Rattle.descriptor.proofs.Truth.{by-le}
 use Rattle.acceptance_storage.proofs.Tests.{both, passes}
 use Rattle.acceptance.specs.Frames.{arguments, variables}
 use Rattle.acceptance.specs.Cells.{inList, range, plainCell, freeCell, variablesFrom, frameCells, cellsFrom}
-use Rattle.acceptance.specs.Structure.{Chain, frameStart, localsOf, VariableOf, FrameCells, StackCells}
+use Rattle.acceptance.specs.Structure.{FrameChain, frameStart, localsStart, VariableOf, FrameCells, StackCells}
 use Rattle.acceptance.proofs.VariableMarks.{variables-bottom, variables-on}
 use Rattle.acceptance.proofs.FrameCells.{cells-at-bottom, cells-above}
 use Rattle.acceptance.proofs.Positions.{words-at, words-all, range-in, range-has}
 use Rattle.acceptance.proofs.CellKinds.{direct-sound, direct-complete, free-sound, free-complete, direct-map, either-map}
 
 -- The variables of a chain of frames.
-pub variable-sound : (older : List ℕ) (n : ℕ) (s regular alternate : List ℕ) (base : ℕ) → base < n → Chain s regular alternate base older
+pub variable-sound : (older : List ℕ) (n : ℕ) (s regular alternate : List ℕ) (base : ℕ) → base < n → FrameChain s regular alternate base older
     → (a : ℕ) → 0 < count a (variablesFrom n (variables regular alternate) s base) → VariableOf s regular alternate (base ∷ older) a
 variable-sound [] n s regular alternate base l h a k =
     let r = range-in (frameStart s regular alternate base) (base - frameStart s regular alternate base) a
@@ -33,7 +33,7 @@ variable-sound (next ∷ older) n s regular alternate base l h a k =
     (λ m. inr (variable-sound older (n - 1) s regular alternate next (omega (arith, h .0 .start)) (h .1) a
     (omega (arith, k, m, variables-on (variables regular alternate) s base {start = frameStart s regular alternate base} {last = next} refl (sym (h .0 .last)) n (omega arith) a (omega (arith, h .0 .start))))))
 
-pub variable-complete : (older : List ℕ) (n : ℕ) (s regular alternate : List ℕ) (base : ℕ) → base < n → Chain s regular alternate base older
+pub variable-complete : (older : List ℕ) (n : ℕ) (s regular alternate : List ℕ) (base : ℕ) → base < n → FrameChain s regular alternate base older
     → (a : ℕ) → VariableOf s regular alternate (base ∷ older) a → (0 < count a (variablesFrom n (variables regular alternate) s base)) × (a < base)
 variable-complete [] n s regular alternate base l h a (inl k) = (
   omega (
@@ -73,7 +73,7 @@ module _ (arrays : ℕ → ℕ) (s regular alternate own under : List ℕ) (base
       → FrameCells (λ a. 1 ≤ arrays a) s regular alternate base top older
   unfolding frameCells
   frame-sound v u h =
-      let q = both _ (wordsWhere (base - localsOf s regular alternate base) (plainCell arrays) s (sbase s + frameStart s regular alternate base + arguments regular alternate (codeWordAt s base))) h in
+      let q = both _ (wordsWhere (base - localsStart s regular alternate base) (plainCell arrays) s (sbase s + frameStart s regular alternate base + arguments regular alternate (codeWordAt s base))) h in
       let p = both (wordsWhere (top - (base + 2)) (freeCell s arrays (inList own)) s (sbase s + base + 2)) _ (q .0) in
       record {
         temporaries = λ i l k. free-sound arrays s regular alternate own (base ∷ older) (stackAt s i) v
@@ -81,7 +81,7 @@ module _ (arrays : ℕ → ℕ) (s regular alternate own under : List ℕ) (base
         arguments = λ i l k. free-sound arrays s regular alternate under older (stackAt s i) u
             (words-at (arguments regular alternate (codeWordAt s base)) (freeCell s arrays (inList under)) s (sbase s + frameStart s regular alternate base) (p .1) (sbase s + i) (omega arith) (omega arith));
         locals = λ i l k. direct-sound arrays (stackAt s i)
-            (words-at (base - localsOf s regular alternate base) (plainCell arrays) s (sbase s + frameStart s regular alternate base + arguments regular alternate (codeWordAt s base)) (q .1) (sbase s + i) (omega arith) (omega arith));
+            (words-at (base - localsStart s regular alternate base) (plainCell arrays) s (sbase s + frameStart s regular alternate base + arguments regular alternate (codeWordAt s base)) (q .1) (sbase s + i) (omega arith) (omega arith));
       }
 
   pub frame-complete : blockptr s ≤ 2 ^ 16
@@ -97,12 +97,12 @@ module _ (arrays : ℕ → ℕ) (s regular alternate own under : List ℕ) (base
       (words-all (arguments regular alternate (codeWordAt s base)) (freeCell s arrays (inList under)) s (sbase s + frameStart s regular alternate base)
       (λ j l k. let e : sbase s + (j - sbase s) ≡ j = omega arith in
       free-complete arrays s regular alternate under older (getD s j 0) small u (rw e at (h .arguments (j - sbase s) (omega arith) (omega arith))))))
-      (words-all (base - localsOf s regular alternate base) (plainCell arrays) s (sbase s + frameStart s regular alternate base + arguments regular alternate (codeWordAt s base))
+      (words-all (base - localsStart s regular alternate base) (plainCell arrays) s (sbase s + frameStart s regular alternate base + arguments regular alternate (codeWordAt s base))
       (λ j l k. let e : sbase s + (j - sbase s) ≡ j = omega arith in
       direct-complete arrays (getD s j 0) (rw e at (h .locals (j - sbase s) (omega arith) (omega arith)))))
 
 -- The cells of all frames.
-pub stack-sound : (older : List ℕ) (n : ℕ) (arrays : ℕ → ℕ) (s regular alternate : List ℕ) (base top : ℕ) → base < n → Chain s regular alternate base older
+pub stack-sound : (older : List ℕ) (n : ℕ) (arrays : ℕ → ℕ) (s regular alternate : List ℕ) (base top : ℕ) → base < n → FrameChain s regular alternate base older
     → cellsFrom n (arguments regular alternate) (variables regular alternate) s arrays base top ≡ true
     → StackCells (λ a. 1 ≤ arrays a) s regular alternate base top older
 stack-sound [] n arrays s regular alternate base top l h t =
@@ -118,7 +118,7 @@ stack-sound (next ∷ older) n arrays s regular alternate base top l h t =
     )
 
 pub stack-complete : (older : List ℕ) (n : ℕ) (arrays : ℕ → ℕ) (s regular alternate : List ℕ) (base top : ℕ) → base < n → base ≤ 2 ^ 16 → blockptr s ≤ 2 ^ 16
-    → Chain s regular alternate base older → StackCells (λ a. 1 ≤ arrays a) s regular alternate base top older
+    → FrameChain s regular alternate base older → StackCells (λ a. 1 ≤ arrays a) s regular alternate base top older
     → cellsFrom n (arguments regular alternate) (variables regular alternate) s arrays base top ≡ true
 stack-complete [] n arrays s regular alternate base top l low small h t =
     cells-at-bottom (arguments regular alternate) (variables regular alternate) s arrays base top n (omega arith) (omega (arith, h .itself))

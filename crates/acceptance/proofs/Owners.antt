@@ -19,7 +19,7 @@ use Rattle.segment.specs.Machine.{cellsOfFrames}
 use Rattle.segment.specs.View.{framesFrom, words, owners}
 use Rattle.descriptor.proofs.Truth.{by-le}
 use Rattle.acceptance_storage.proofs.Tests.{never}
-use Rattle.acceptance.specs.Structure.{Chain, frameStart, localsOf, Direct, DirectOrIndirect, FrameCells, StackCells}
+use Rattle.acceptance.specs.Structure.{FrameChain, frameStart, localsStart, Direct, DirectOrIndirect, FrameCells, StackCells}
 use Rattle.acceptance.proofs.Tallies.{downward-count, cells-bottom, cells-on}
 use Rattle.acceptance.proofs.Positions.{downward-at}
 
@@ -48,7 +48,7 @@ module _ (A : ℕ → Type 0) (s regular alternate : List ℕ) (x : ℕ) (small 
   variables-name : (base top : ℕ) (older : List ℕ) → FrameCells A s regular alternate base top older
       → (i : ℕ) → frameStart s regular alternate base ≤ i → i < base → stackAt s i ≡ arrayWord x → A x
   variables-name base top older h i l u e =
-      by-le (localsOf s regular alternate base) i (λ m. direct-names A x small e (h .locals i m u)) (λ m. either-names A x small e (h .arguments i l m))
+      by-le (localsStart s regular alternate base) i (λ m. direct-names A x small e (h .locals i m u)) (λ m. either-names A x small e (h .arguments i l m))
 
   pub temporaries-name : (base top : ℕ) (older : List ℕ) → FrameCells A s regular alternate base top older
       → 0 < count (arrayWord x) (downward s (sbase s + base + 2) (top - (base + 2))) → A x
@@ -57,7 +57,7 @@ module _ (A : ℕ → Type 0) (s regular alternate : List ℕ) (x : ℕ) (small 
       let e : sbase s + (r .0 - sbase s) ≡ r .0 = omega (arith, r .1) in
       either-names A x small (rw e (r .3)) (h .temporaries (r .0 - sbase s) (omega (arith, r .1)) (omega (arith, r .2)))
 
-  pub frames-name : (older : List ℕ) (n base top : ℕ) → base < n → Chain s regular alternate base older → StackCells A s regular alternate base top older
+  pub frames-name : (older : List ℕ) (n base top : ℕ) → base < n → FrameChain s regular alternate base older → StackCells A s regular alternate base top older
       → 0 < count (arrayWord x) (cellsOfFrames (framesFrom n s base)) → A x
   frames-name [] n base top l h t k =
       let c : 0 < count (arrayWord x) (downward s (sbase s) base)
@@ -87,7 +87,7 @@ module _ (A : ℕ → Type 0) (s regular alternate : List ℕ) (x : ℕ) (small 
           → 0 < count (arrayWord x) (cellsOfFrames (framesFrom (n - 1) s (lastLbaseAt s base)))
       rest m = omega (arith, m, k, all)
 
-  pub owners-name : (older : List ℕ) → Chain s regular alternate (lbase s) older → StackCells A s regular alternate (lbase s) (ltop s + 1) older
+  pub owners-name : (older : List ℕ) → FrameChain s regular alternate (lbase s) older → StackCells A s regular alternate (lbase s) (ltop s + 1) older
       → ((i : ℕ) → 8 ≤ i → i < blockptr s → Direct A (getD s i 0)) → 0 < count (arrayWord x) (owners s) → A x
   unfolding words
   owners-name older h t g k =

@@ -27,7 +27,7 @@ use Rattle.acceptance.specs.Frames.{framesTest}
 use Rattle.acceptance.specs.Cells.{inList, plainCell, cellsTest}
 use Rattle.acceptance.specs.Counts.{countTest, countsTest}
 use Rattle.acceptance.specs.Refusal.{lengthTest, dataRefusal, refusal}
-use Rattle.acceptance.specs.Structure.{Chain, Direct, StackCells, Accepted, Structure}
+use Rattle.acceptance.specs.Structure.{FrameChain, Direct, StackCells, Accepted, Structure}
 use Rattle.acceptance.proofs.ChainTest.{chain-sound, chain-complete}
 use Rattle.acceptance.proofs.Positions.{words-at, words-all}
 use Rattle.acceptance.proofs.CellKinds.{direct-sound, direct-complete, direct-map}
@@ -126,7 +126,7 @@ module _ (s regular alternate : List ℕ) where
       (λ x z. count-sound s (owners s) x (every-at (countTest s (owners s)) (arrayStarts s) (t .counts) x z))
     where
       put : AllPass s regular alternate → (blocks : List Block) (ring : List ℕ) → Stored s blocks ring → lbase s + 1 ≤ ltop s
-          → (older : List ℕ) → Chain s regular alternate (lbase s) older
+          → (older : List ℕ) → FrameChain s regular alternate (lbase s) older
           → ((i : ℕ) → 8 ≤ i → i < blockptr s → Direct (λ a. 1 ≤ count a (arrayStarts s)) (getD s i 0))
           → StackCells (λ a. 1 ≤ count a (arrayStarts s)) s regular alternate (lbase s) (ltop s + 1) older
           → ((x : ℕ) → 0 < count x (arrayStarts s) → (countAt s x ≡ count (arrayWord x) (owners s)) × (0 < count (arrayWord x) (owners s)))

@@ -5,17 +5,17 @@ use Rattle.acceptance.specs.declared.Test.the-variants as T
 use Rattle.acceptance.specs.declared.Judgement.{Judgement}
 use Rattle.acceptance.specs.declared.Judgement.the-variants as J
 
-abbrev pub testNumber : Test → ℕ
-testNumber T.Length = 10
-testNumber T.ProcedureLength = 11
-testNumber T.Procedures = 12
-testNumber T.StateWords = 13
-testNumber T.Blocks = 14
-testNumber T.Ring = 15
-testNumber T.Frames = 16
-testNumber T.Cells = 17
-testNumber T.Counts = 18
+abbrev pub numberOfTest : Test → ℕ
+numberOfTest T.Length = 10
+numberOfTest T.ProcedureLength = 11
+numberOfTest T.Procedures = 12
+numberOfTest T.StateWords = 13
+numberOfTest T.Blocks = 14
+numberOfTest T.Ring = 15
+numberOfTest T.Frames = 16
+numberOfTest T.Cells = 17
+numberOfTest T.Counts = 18
 
 abbrev pub judgementNumber : Judgement → ℕ
 judgementNumber J.Accepted = 0
-judgementNumber (J.Refused test) = testNumber test
+judgementNumber (J.Refused test) = numberOfTest test

@@ -35,16 +35,16 @@ pub record Above (s regular alternate : List ℕ) (base older : ℕ) : Type 0 wh
   pub start : older + 2 + variables regular alternate (codeWordAt s base) ≤ base
 
 -- The frame at `base`, and under it the older ones, each by its LBASE.
-abbrev pub Chain : List ℕ → List ℕ → List ℕ → ℕ → List ℕ → Type 0
-Chain s regular alternate base [] = Bottom s regular alternate base
-Chain s regular alternate base (next ∷ older) = Above s regular alternate base next × Chain s regular alternate next older
+abbrev pub FrameChain : List ℕ → List ℕ → List ℕ → ℕ → List ℕ → Type 0
+FrameChain s regular alternate base [] = Bottom s regular alternate base
+FrameChain s regular alternate base (next ∷ older) = Above s regular alternate base next × FrameChain s regular alternate next older
 
 -- Where a frame's arguments, and its locals, start.
 abbrev pub frameStart : List ℕ → List ℕ → List ℕ → ℕ → ℕ
 frameStart s regular alternate base = base - variables regular alternate (codeWordAt s base)
 
-abbrev pub localsOf : List ℕ → List ℕ → List ℕ → ℕ → ℕ
-localsOf s regular alternate base = frameStart s regular alternate base + arguments regular alternate (codeWordAt s base)
+abbrev pub localsStart : List ℕ → List ℕ → List ℕ → ℕ → ℕ
+localsStart s regular alternate base = frameStart s regular alternate base + arguments regular alternate (codeWordAt s base)
 
 -- A variable, argument or local, of one of these frames.
 abbrev pub VariableOf : List ℕ → List ℕ → List ℕ → List ℕ → ℕ → Type 0
@@ -77,9 +77,9 @@ DirectOrIndirect Array s regular alternate frames w = Direct Array w ⊎ (NamesG
 -- The cells of the frame at `base`, over the older ones, with its temporaries below `top`.
 pub record FrameCells (Array : ℕ → Type 0) (s regular alternate : List ℕ) (base top : ℕ) (older : List ℕ) : Type 0 where
   pub temporaries : (i : ℕ) → base + 2 ≤ i → i < top → DirectOrIndirect Array s regular alternate (base ∷ older) (stackAt s i)
-  pub arguments : (i : ℕ) → frameStart s regular alternate base ≤ i → i < localsOf s regular alternate base
+  pub arguments : (i : ℕ) → frameStart s regular alternate base ≤ i → i < localsStart s regular alternate base
       → DirectOrIndirect Array s regular alternate older (stackAt s i)
-  pub locals : (i : ℕ) → localsOf s regular alternate base ≤ i → i < base → Direct Array (stackAt s i)
+  pub locals : (i : ℕ) → localsStart s regular alternate base ≤ i → i < base → Direct Array (stackAt s i)
 
 -- The cells of all frames: the words between a frame's start and the two words of the older one are the older one's temporaries.
 abbrev pub StackCells : (ℕ → Type 0) → List ℕ → List ℕ → List ℕ → ℕ → ℕ → List ℕ → Type 0
@@ -100,7 +100,7 @@ pub record Accepted (s regular alternate : List ℕ) : Type 0 where
   pub top : lbase s + 1 ≤ ltop s
   -- the LBASEs of the frames under the current one
   pub older : List ℕ
-  pub chain : Chain s regular alternate (lbase s) older
+  pub chain : FrameChain s regular alternate (lbase s) older
   pub globals : (i : ℕ) → 8 ≤ i → i < blockptr s → Direct (λ a. (size : ℕ) × ArrayIn (blockptr s) (owned .blocks) a size) (getD s i 0)
   pub cells : StackCells (λ a. (size : ℕ) × ArrayIn (blockptr s) (owned .blocks) a size) s regular alternate (lbase s) (ltop s + 1) older
 

@@ -7,7 +7,7 @@ ghost use Rattle.acceptance_storage.specs.Head.{headTest};
 ghost use Rattle.acceptance_storage.specs.Marks.{Clear};
 ghost use Rattle.acceptance.specs.Refusal.{dataRefusal, refusal};
 ghost use Rattle.acceptance.specs.Before.{BeforeRing};
-ghost use Rattle.acceptance.specs.Answer.{testNumber, judgementNumber};
+ghost use Rattle.acceptance.specs.Answer.{numberOfTest, judgementNumber};
 
 pub mod cells;
 pub mod counts;
@@ -45,7 +45,7 @@ pub enum Judgement {
 impl Test {
     // Its number in the table.
     pub fn number(self) -> u8
-        ensures { λ r. ⌜ r ≡ testNumber self ⌝ }
+        ensures { λ r. ⌜ r ≡ numberOfTest self ⌝ }
     {
         match self {
             Test::Length => 10,

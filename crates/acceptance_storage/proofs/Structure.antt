@@ -14,7 +14,7 @@ use Rattle.storage.specs.Owned.{ArrayIn, Inside}
 use Rattle.acceptance_storage.specs.Tests.{every}
 use Rattle.acceptance_storage.specs.Head.{Head}
 use Rattle.acceptance_storage.specs.Blocks.{walkTest, freeStarts, arrayStarts, arrayTest, blocksTest}
-use Rattle.acceptance_storage.specs.Structure.{Passed, Stored, arrays, Structure}
+use Rattle.acceptance_storage.specs.Structure.{Passed, Stored, arrays, StorageStructure}
 use Rattle.acceptance_storage.proofs.Tests.{both, passes, every-at, every-all}
 use Rattle.acceptance_storage.proofs.StateWords.{head-sound, head-complete}
 use Rattle.acceptance_storage.proofs.Insides.{array-sound, array-complete}
@@ -118,5 +118,5 @@ module _ (s : List ℕ) (blocks : List Block) (ring : List ℕ) (h : Stored s bl
   pub complete : Passed s
   complete = record { head = head-complete s (h .head); blocks = blocks-pass; ring = ring-complete s ringed }
 
-pub structure : Structure
+pub structure : StorageStructure
 structure = record { sound = sound; complete = complete; arrayBlocks = stored-arrays; freeBlocks = stored-frees }

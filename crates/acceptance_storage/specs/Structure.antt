@@ -31,7 +31,7 @@ arrays a [] = []
 arrays a (free size ∷ blocks) = arrays (a + size) blocks
 arrays a (array size slop ∷ blocks) = a ∷ arrays (a + (size + slop)) blocks
 
-pub record Structure : Type 0 where
+pub record StorageStructure : Type 0 where
   -- what passes the tests is stored so, and what is stored so passes them
   pub sound : (s : List ℕ) → length s ≤ 16384 → Passed s → (blocks : List Block) × (ring : List ℕ) × Stored s blocks ring
   pub complete : (s : List ℕ) (blocks : List Block) (ring : List ℕ) → Stored s blocks ring → Passed s

@@ -10,6 +10,7 @@ use borrow.Author.Tests.{ne-eqb}
 use Rattle.segment.specs.State.{sbase, flags}
 use Rattle.segment.specs.Cells.{Cell}
 use Rattle.segment.specs.View.{view}
+use Rattle.segment.specs.Lent.{Words, Lent}
 use Rattle.storage_theorems.proofs.HeapTheorems.{heap-theorems}
 use Rattle.acceptance_storage.proofs.Tests.{by-eq}
 use Rattle.manual.specs.OrTrap.{gives, trap}
@@ -25,9 +26,7 @@ use Rattle.operations.specs.Load.{loadRefusal, loaded}
 use Rattle.operations.specs.Look.{looked}
 use Rattle.operations.specs.Run.{ran as ranOf}
 use Rattle.operations.specs.Answers as operations
-use Rattle.plan_theorems.specs.Fitting.{Words}
-use Rattle.plan_theorems.specs.Lent.{Lent}
-use Rattle.audit.specs.Calls.{Procedures, Call, layOut, run, load, look, Answer, refused, done, ran, trapped, scalar, array, answerOf, runAnswer, lookAnswer, firstFailed, tests, Passes, held, LentProcedures, LentCall}
+use Rattle.audit.specs.Calls.{Procedures, Call, layOut, run, load, look, Answer, refused, done, ran, trapped, scalar, array, answerOf, runAnswer, lookAnswer, firstFailed, tests, Passes, globalValue, LentProcedures, LentCall}
 use Rattle.audit.specs.Steps.{StepOutcome, trapsBy, finishes, Step, traps, full, does, EffectsDone, inVain}
 use Rattle.audit.specs.Runs.{Runs}
 use Rattle.audit.specs.Did.{LaidOut, Ran, Loaded, Tells, Did, isRefused, isLaidOut, hasRun, isLoaded, hasTold}
@@ -56,7 +55,7 @@ number (isRefused d e) = sym e
 number (isLaidOut e h) = sym e
 number (hasRun e h) = run-unrefused (h .steps) ∙ sym e
 number (isLoaded e h) = sym e
-number {s = s} (hasTold {g = g} {answer = answer} e h) = told-unrefused s answer (held s g) h ∙ sym e
+number {s = s} (hasTold {g = g} {answer = answer} e h) = told-unrefused s answer (globalValue s g) h ∙ sym e
 
 unchanged : {s t : List ℕ} {c : Call} {a : Answer} → Did s c a t → refusalOf a ≢ 0 → t ≡ s
 unchanged (isRefused d e) n = refl
@@ -78,7 +77,7 @@ Made s c = (a : Answer) × (t : List ℕ) × Did s c a t × Words t
 
 ends : (s : List ℕ) → Words s → (c : Call) → LentCall c → Made s c
 ends s words (layOut p l) lent =
-    (answerOf (operations.answerOf (layOutRefusal s (p .regular) (p .alternate) l)), laidOut s (p .regular) (p .alternate) l, lay-out-did s p l, lay-out-words s p l words)
+    (answerOf (operations.doneOrRefused (layOutRefusal s (p .regular) (p .alternate) l)), laidOut s (p .regular) (p .alternate) l, lay-out-did s p l, lay-out-words s p l words)
 ends s words (run p budget) lent = (
   runAnswer (ranOf s (p .regular) (p .alternate) budget .answer),
   ranOf s (p .regular) (p .alternate) budget .words,
@@ -86,7 +85,7 @@ ends s words (run p budget) lent = (
   run-words s p budget words lent,
 )
 ends s words (load p g lengths ravel) lent = (
-  answerOf (operations.answerOf (loadRefusal s (p .regular) (p .alternate) g lengths ravel)),
+  answerOf (operations.doneOrRefused (loadRefusal s (p .regular) (p .alternate) g lengths ravel)),
   loaded s (p .regular) (p .alternate) g lengths ravel,
   load-did s p g lengths ravel,
   load-words s p g lengths ravel words (lent .2),
@@ -155,7 +154,7 @@ is-loaded : {s t lengths ravel : List ℕ} {p : Procedures} {g : ℕ} {a : Answe
 is-loaded (isRefused d e) z = absurd (d z)
 is-loaded (isLoaded e h) z = h
 
-has-told : {s t : List ℕ} {p : Procedures} {g : ℕ} {a : Answer} → Did s (look p g) a t → refusalOf a ≡ 0 → Tells s a (held s g) × (t ≡ s)
+has-told : {s t : List ℕ} {p : Procedures} {g : ℕ} {a : Answer} → Did s (look p g) a t → refusalOf a ≡ 0 → Tells s a (globalValue s g) × (t ≡ s)
 has-told (isRefused d e) z = absurd (d z)
 has-told (hasTold e h) z = (h, refl)
 

@@ -62,7 +62,7 @@ unfolding laidOut layOutRefusal functionTest partsTest fresh freshHead freshStor
     operatorOf plus sum ratioOf quotient size shapeAt elementsAt shapePart elementsPart arraySpan arrayTest memoryOf addressIn
     addressAt loadAt memoryAt discard storeAt store unshare writeElement storeElement whole isGlobal isValue lacksRoom loadRefusal
     loaded looked arrays.share arrays.raise arrays.lower memory.assignNoResult memory.assignIndexed memory.eat loads.load
-    values.place arrayKind countTest within
+    values.ravelPlace arrayKind countTest within
 computed = (
   record {
     m1 = record { word0 = refl; word1 = refl; word12 = refl; word13 = refl; word33 = refl; word34 = refl };

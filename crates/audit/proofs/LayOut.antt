@@ -9,9 +9,9 @@ use lib.Seq.{sets}
 use borrow.Author.Tests.{eq-eqb, ne-eqb}
 use Rattle.acceptance_storage.proofs.Tests.{by-eq}
 use Rattle.descriptor.specs.Fields.{undefinedWord}
-use Rattle.plan_theorems.specs.Fitting.{Words}
-use Rattle.plan_theorems.proofs.Lists.{all-replicate}
-use Rattle.plan_theorems.proofs.BoundedWords.{words-all, words-set, words-sets}
+use Rattle.segment.specs.Lent.{Words}
+use Rattle.segment.proofs.Words.{words-set, words-sets}
+use Rattle.plan_theorems.proofs.Lists.{all-replicate, words-all}
 use Rattle.fresh_segment.specs.LayOut.{Layout, storageStart, baseOf, localsOf, freshHead, freshStorage, freshFrame, fresh, layOutRefusal, laidOut}
 use Rattle.fresh_segment.proofs.Words.{Room}
 use Rattle.fresh_segment.proofs.Passed.{wordOf, passed, laid-out, word-made}
@@ -87,7 +87,7 @@ module _ (s : List ℕ) (p : Procedures) (l : Layout) where
   abbrev number : ℕ
   number = layOutRefusal s (p .regular) (p .alternate) l
 
-  pub lay-out-did : Did s (layOut p l) (answerOf (operations.answerOf number)) (laidOut s (p .regular) (p .alternate) l)
+  pub lay-out-did : Did s (layOut p l) (answerOf (operations.doneOrRefused number)) (laidOut s (p .regular) (p .alternate) l)
   lay-out-did =
       by-eq number 0
       (λ e. rw (eq-eqb number 0 e) (isLaidOut (lay-out-told s p l ∙ e) (lay-out-laid e)))

@@ -16,6 +16,7 @@ use Rattle.segment.specs.Blocks.{product, need}
 use Rattle.segment.specs.Cells.{Cell, undefined, value}
 use Rattle.storage.specs.Heap.{count}
 use Rattle.segment.specs.View.{view}
+use Rattle.segment.specs.Lent.{Words}
 use Rattle.storage_theorems.proofs.Counts.{hit-cases, hit-same}
 use Rattle.acceptance_storage.specs.Room.{longEnough}
 use Rattle.acceptance_storage.proofs.Tests.{by-eq, both}
@@ -32,7 +33,6 @@ use Rattle.effects.specs.Perform as performing
 use Rattle.effects_theorems.specs.Theorems.{Performed}
 use Rattle.effects_theorems.proofs.Variables.{in-view}
 use Rattle.effects_theorems.proofs.Theorems.{effects-theorems}
-use Rattle.plan_theorems.specs.Fitting.{Words}
 use Rattle.plan_theorems.specs.Bounded.{SmallSource}
 use Rattle.plan_theorems.proofs.Bounded.{bounded-theorems}
 use Rattle.legality.proofs.Cells.{globals-length}
@@ -276,7 +276,7 @@ module _ (s : List ℕ) (p : Procedures) (g : ℕ) (lengths ravel : List ℕ) wh
           accepted = passes-of (perform s effect) p load-accepted;
         }
 
-  pub load-did : Did s (load p g lengths ravel) (answerOf (operations.answerOf number)) (loaded s (p .regular) (p .alternate) g lengths ravel)
+  pub load-did : Did s (load p g lengths ravel) (answerOf (operations.doneOrRefused number)) (loaded s (p .regular) (p .alternate) g lengths ravel)
   load-did =
       by-eq number 0
       (λ e. rw (eq-eqb number 0 e, load-done e) (isLoaded (first-number ∙ e) (load-loaded e)))

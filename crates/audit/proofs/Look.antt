@@ -35,7 +35,7 @@ use Rattle.operations.specs.declared.Looked.{Looked}
 use Rattle.operations.specs.declared.Looked.the-variants.{Refused}
 use Rattle.operations.specs.Load.{isGlobal}
 use Rattle.operations.specs.Look.{seenAs, looked}
-use Rattle.audit.specs.Calls.{Procedures, lookAnswer, look, firstFailed, tests, test, held}
+use Rattle.audit.specs.Calls.{Procedures, lookAnswer, look, firstFailed, tests, test, globalValue}
 use Rattle.audit.specs.Did.{Tells, Did, isRefused, hasTold}
 use Rattle.audit.proofs.Tests.{further-told}
 
@@ -96,8 +96,8 @@ module _ (s : List ℕ) (p : Procedures) (g : ℕ) where
   LookDid a = Did s (look p g) (lookAnswer a) s
 
   -- the ways of the table
-  first-is : first ≡ cond (eqb number 0) (cond (isGlobal s g) (cond (not (isUndefined (held s g))) 0 22) 21) number
-  first-is = further-told s p (test 21 (isGlobal s g) ∷ test 22 (not (isUndefined (held s g))) ∷ [])
+  first-is : first ≡ cond (eqb number 0) (cond (isGlobal s g) (cond (not (isUndefined (globalValue s g))) 0 22) 21) number
+  first-is = further-told s p (test 21 (isGlobal s g) ∷ test 22 (not (isUndefined (globalValue s g))) ∷ [])
 
   stops : (n : ℕ) → n ≢ 0 → first ≡ n → answer ≡ Refused n → LookDid answer
   stops n d f e = subst LookDid (sym e) (isRefused d f)
@@ -112,39 +112,39 @@ module _ (s : List ℕ) (p : Procedures) (g : ℕ) where
     outside k = (first-is ∙ simp (eq-eqb number 0 h, k), simp (eq-eqb number 0 h, k))
 
     module _ (k : isGlobal s g ≡ true) where
-      within : (first ≡ cond (not (isUndefined (held s g))) 0 22) × (answer ≡ seenAs v (kindOf v))
+      within : (first ≡ cond (not (isUndefined (globalValue s g))) 0 22) × (answer ≡ seenAs v (kindOf v))
       unfolding looked
       within = (first-is ∙ simp (eq-eqb number 0 h, k), simp (eq-eqb number 0 h, k))
 
       start : Accepted s (p .regular) (p .alternate)
       start = structure .sound s (p .regular) (p .alternate) h
 
-      held-is : held s g ≡ cellOfKind s v (kindOf v)
+      held-is : globalValue s g ≡ cellOfKind s v (kindOf v)
       unfolding cell
       held-is = let b = global-within s g k in look-global s g (b .0) (b .1)
 
-      held-direct : DirectCell (held s g)
+      held-direct : DirectCell (globalValue s g)
       held-direct = global-direct (legal-theorems .split s (p .regular) (p .alternate) start .legal) g
 
       held-read : readKind s v (kindOf v) ≡ cellOfKind s v (kindOf v)
       unfolding read cell
       held-read = let b = global-within s g k in read-cell s (sound-of start) v (global-owns s g (b .0) (b .1))
 
-      value-told : isUndefined (held s g) ≡ false → Tells s (lookAnswer answer) (held s g)
+      value-told : isUndefined (globalValue s g) ≡ false → Tells s (lookAnswer answer) (globalValue s g)
       value-told u =
           rw (within .1, held-is)
           (tells s v (kindOf v) (rw held-is at held-direct) (rw held-is at u) held-read)
 
-      none-told : isUndefined (held s g) ≡ true → answer ≡ Refused 22
+      none-told : isUndefined (globalValue s g) ≡ true → answer ≡ Refused 22
       none-told u = within .1 ∙ tells-none s v (kindOf v) (rw held-is at u)
 
   pub look-did : LookDid answer
   look-did = by-eq number 0 (λ h. inside h (isGlobal s g) refl) (λ h. stops number h (refused-by h .0) (refused-by h .1))
     where
-      holding : (h : number ≡ 0) (k : isGlobal s g ≡ true) (b : Bool) → isUndefined (held s g) ≡ b → LookDid answer
+      holding : (h : number ≡ 0) (k : isGlobal s g ≡ true) (b : Bool) → isUndefined (globalValue s g) ≡ b → LookDid answer
       holding h k true u = stops 22 (omega arith) (within h k .0 ∙ rw u) (none-told h k u)
       holding h k false u = hasTold (within h k .0 ∙ rw u) (value-told h k u)
 
       inside : number ≡ 0 → (b : Bool) → isGlobal s g ≡ b → LookDid answer
-      inside h true k = holding h k (isUndefined (held s g)) refl
+      inside h true k = holding h k (isUndefined (globalValue s g)) refl
       inside h false k = stops 21 (omega arith) (outside h k .0) (outside h k .1)

@@ -20,7 +20,7 @@ use Rattle.legality.proofs.Cells.{globals-length}
 use Rattle.step_theorems.specs.Planned.{planned}
 use Rattle.step_theorems.proofs.Again.{sound-of}
 use Rattle.operations.specs.Load.{isGlobal}
-use Rattle.audit.specs.Calls.{Procedures, Passes, held}
+use Rattle.audit.specs.Calls.{Procedures, Passes, globalValue}
 use Rattle.audit.specs.Steps.{StepOutcome, EffectsDone, Step, inVain}
 use Rattle.audit.specs.ParList.{ParList}
 use Rattle.audit.proofs.Accepts.{accepted-of}
@@ -50,7 +50,7 @@ module _ (s : List ℕ) (p : Procedures) (t : List ℕ) (h : Passes s p) (es : L
         ⊎-elim (λ q. ap (λ (m : Machine Cell). length (m .globals)) q)
         (λ d. omega (arith, globals-length s, globals-length t, d .1 .blockptr)) (left o k)
 
-    global : (g : ℕ) → isGlobal s g ≡ true → NoneStoresTo es (Global (segment g)) → held t g ≡ held s g
+    global : (g : ℕ) → isGlobal s g ≡ true → NoneStoresTo es (Global (segment g)) → globalValue t g ≡ globalValue s g
     global g i none =
         let b = global-within s g i in
         let there : g < 8 + length (view s .globals) = omega (arith, b, globals-length s) in

@@ -20,7 +20,7 @@ use Rattle.effects.specs.Carried.{outcomeOf}
 use Rattle.effects_theorems.proofs.Tests.{never}
 use Rattle.step_theorems.specs.Planned.{planned, headerIn}
 use Rattle.step_theorems.proofs.Settled.{outcome-by}
-use Rattle.audit.specs.Calls.{Procedures, Call, layOut, run, load, look, Answer, refused, ran, trapped, scalar, array, Test, firstFailed, tests, held}
+use Rattle.audit.specs.Calls.{Procedures, Call, layOut, run, load, look, Answer, refused, ran, trapped, scalar, array, Test, firstFailed, tests, globalValue}
 use Rattle.audit.specs.Steps.{StepOutcome, trapsBy, finishes, dueAfter, EffectsDone, Step, traps, full, does, inVain}
 use Rattle.audit.specs.Runs.{Runs, over, goesOn, RequestInVain}
 use Rattle.audit.specs.Did.{Tells, Did, isRefused, hasRun, hasTold}
@@ -96,8 +96,8 @@ trap-made-up {es = es} e v step = other-case (demands .second .does step es e v)
 same-told : (s : List ℕ) (a : Answer) (c d : Cell) → Tells s a c → Tells s a d → c ≡ d
 same-told s a c d h k = ⊎-elim (λ x. ⊎-elim (λ y. cc) (λ y. cc) k) (λ x. ⊎-elim (λ y. cc) (λ y. cc) k) h
 
-one-look : {p : Procedures} {s t u : List ℕ} {g h : ℕ} {a : Answer} → Did s (look p g) a t → Did s (look p h) a u → refusalOf a ≡ 0 → held s g ≡ held s h
-one-look {s = s} {g = g} {h = h} {a = a} d e z = same-told s a (held s g) (held s h) (demands .second .look d z .0) (demands .second .look e z .0)
+one-look : {p : Procedures} {s t u : List ℕ} {g h : ℕ} {a : Answer} → Did s (look p g) a t → Did s (look p h) a u → refusalOf a ≡ 0 → globalValue s g ≡ globalValue s h
+one-look {s = s} {g = g} {h = h} {a = a} d e z = same-told s a (globalValue s g) (globalValue s h) (demands .second .look d z .0) (demands .second .look e z .0)
 
 -- ---- runs
 

@@ -8,11 +8,11 @@ use lib.ListN.{length, set}
 use lib.Seq.{getD-set-same}
 use borrow.Author.Tests.{eq-eqb, ne-eqb}
 use Rattle.segment.specs.State.{trapWord}
+use Rattle.segment.specs.Lent.{Words}
 use Rattle.acceptance_storage.proofs.Tests.{by-eq}
 use Rattle.acceptance.specs.Refusal.{refusal}
 use Rattle.acceptance.proofs.Structure.{structure}
 use Rattle.effects.specs.Run.{runOf}
-use Rattle.plan_theorems.specs.Fitting.{Words}
 use Rattle.operations.specs.declared.Run.the-variants as answers
 use Rattle.operations.specs.Run as operations
 use Rattle.operations.specs.Run.{Ended, ended, ran}
@@ -33,7 +33,7 @@ module _ (s : List ℕ) (p : Procedures) (budget : ℕ) where
   unfolding ran
   run-refused h = simp (ne-eqb number 0 h)
 
-  run-done : number ≡ 0 → ran s (p .regular) (p .alternate) budget ≡ operations.accepted (runOf (p .regular) (p .alternate) s budget)
+  run-done : number ≡ 0 → ran s (p .regular) (p .alternate) budget ≡ operations.acceptedEnd (runOf (p .regular) (p .alternate) s budget)
   unfolding ran
   run-done e = simp (eq-eqb number 0 e)
 

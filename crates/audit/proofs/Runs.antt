@@ -12,6 +12,8 @@ use borrow.Author.Tests.{ne-eqb}
 use Rattle.segment.specs.State as state
 use Rattle.segment.specs.State.{sbase, trapWord}
 use Rattle.segment.specs.View.{view}
+use Rattle.segment.specs.Lent.{Words, Lent}
+use Rattle.segment.proofs.Words.{words-set}
 use Rattle.acceptance.specs.Structure.{Accepted}
 use Rattle.manual.specs.Traps.{listed}
 use Rattle.manual.proofs.Traps.{traps-listed}
@@ -22,9 +24,6 @@ use Rattle.effects.specs.Step.{stepOf}
 use Rattle.effects.specs.Run as stepping
 use Rattle.effects.specs.Run.{following, stepsFrom, runOf}
 use Rattle.effects_theorems.proofs.Tests.{never}
-use Rattle.plan_theorems.specs.Fitting.{Words}
-use Rattle.plan_theorems.specs.Lent.{Lent}
-use Rattle.plan_theorems.proofs.BoundedWords.{words-set}
 use Rattle.operations.specs.Run as operations
 use Rattle.step_theorems.proofs.Again.{trap-accepted}
 use Rattle.step_theorems.proofs.Planned.{plan-listed}
@@ -35,7 +34,7 @@ use Rattle.audit.proofs.Accepts.{accepted-of, passes-of}
 use Rattle.audit.proofs.Steps.{outcomeFrom, Some, step-done, step-accepted, step-words}
 
 abbrev pub answerOf : Ran → Answer
-answerOf r = runAnswer (operations.runAnswer r)
+answerOf r = runAnswer (operations.acceptedRun r)
 
 -- What a segment must be for its steps to be the manual's.
 pub record Ready (s : List ℕ) (p : Procedures) : Type 0 where
@@ -95,8 +94,8 @@ module _ (p : Procedures) where
 
 -- what a step leaves in the trap word
 abbrev Left : StepOutcome → List ℕ → List ℕ → Type 0
-Left (trapsBy class number) s t = t ≡ set s 3 (state.trap class number)
-Left (finishes d) s t = trapWord t ≡ cond (eqb d 0) (trapWord s) (state.trap 2 d)
+Left (trapsBy class number) s t = t ≡ set s 3 (state.trapOf class number)
+Left (finishes d) s t = trapWord t ≡ cond (eqb d 0) (trapWord s) (state.trapOf 2 d)
 
 pub step-left : {p : Procedures} {s t : List ℕ} {o : StepOutcome} → Step p s o t → Left o s t
 step-left (traps e) = refl
@@ -134,7 +133,7 @@ run-all {budget = budget} r z n e =
 
 -- a step whose instruction asks in vain is (1,2), and (1,2) comes of nothing else
 abbrev Vain : Procedures → List ℕ → StepOutcome → List ℕ → Type 0
-Vain p s o t = RequestInVain p s → (o ≡ trapsBy 1 2) × (t ≡ set s 3 (state.trap 1 2))
+Vain p s o t = RequestInVain p s → (o ≡ trapsBy 1 2) × (t ≡ set s 3 (state.trapOf 1 2))
 
 pub vain-traps : {p : Procedures} {s t : List ℕ} {o : StepOutcome} → Step p s o t → Vain p s o t
 vain-traps (traps e) k = let z : _≡_ {A = ℕ} 0 1 = cc in absurd (omega arith)
@@ -144,7 +143,7 @@ vain-traps {s = s} (does {es = es} e v d) k =
     never (sym (k .2) ∙ ap (inVain s) (sym same) ∙ v)
 
 abbrev OnlyVain : Procedures → List ℕ → StepOutcome → Type 0
-OnlyVain p s (trapsBy class number) = state.trap class number ≡ state.trap 1 2 → RequestInVain p s
+OnlyVain p s (trapsBy class number) = state.trapOf class number ≡ state.trapOf 1 2 → RequestInVain p s
 OnlyVain p s (finishes d) = Unit {0}
 
 never-full : listed 1 2 ≡ true → ⊥
@@ -169,17 +168,17 @@ reports : {p : Procedures} {budget steps : ℕ} {s t : List ℕ} {answer : Answe
 reports over f = let z : _≡_ {A = ℕ} 0 1 = cc (f .answered) in absurd (omega arith)
 reports (goesOn passes e rest) f = inr (reports rest f)
 reports (traced {d = d} {t = t} passes some e) f =
-    let w : trapWord t ≡ state.trap 2 d = rw (ne-eqb d 0 some) at (step-left e) in
+    let w : trapWord t ≡ state.trapOf 2 d = rw (ne-eqb d 0 some) at (step-left e) in
     absurd (omega (arith, f .trap, w))
 reports {p = p} (stops {class = class} {number = number} {s = s} passes e) f =
-    only-vain e (sym (trap-read s p passes (state.trap class number)) ∙ ap trapWord (sym (step-left e)) ∙ f .trap)
+    only-vain e (sym (trap-read s p passes (state.trapOf class number)) ∙ ap trapWord (sym (step-left e)) ∙ f .trap)
 
 reported : {p : Procedures} {budget steps : ℕ} {s t : List ℕ} {answer : Answer} → (r : Runs p budget steps s answer t) → SomeRequestInVain r → ReportsFull answer t
 reported over k = absurd k
 reported (goesOn passes e rest) k = ⊎-elim (λ v. let q = vain-traps e v in let z : _≡_ {A = ℕ} 0 1 = cc in absurd (omega arith)) (λ v. reported rest v) k
 reported (traced passes some e) k = let q = vain-traps e k in let z : _≡_ {A = ℕ} 0 1 = cc in absurd (omega arith)
 reported {p = p} (stops {steps = steps} {s = s} passes e) k =
-    record { steps = steps; answered = refl; trap = ap trapWord (vain-traps e k .1) ∙ trap-read s p passes (state.trap 1 2) }
+    record { steps = steps; answered = refl; trap = ap trapWord (vain-traps e k .1) ∙ trap-read s p passes (state.trapOf 1 2) }
 
 pub run-full : {p : Procedures} {budget steps : ℕ} {s t : List ℕ} {answer : Answer} → (r : Runs p budget steps s answer t) → ReportsFull answer t ↔ SomeRequestInVain r
 run-full r = (reports r, reported r)

@@ -11,10 +11,12 @@ use lib.Seq.{getD-set-same, getD-set-other}
 use borrow.Author.Tests.{eq-eqb, ne-eqb}
 use Rattle.descriptor.specs.declared.Target.{Target}
 use Rattle.procedure.specs.declared.header.Header.{Header}
-use Rattle.segment.specs.State.{sbase, flags, fcnctrc, fcnrtrc, stepFlag, trapWord, trap as trapOf, blockptr, setTrap}
+use Rattle.segment.specs.State.{sbase, flags, fcnctrc, fcnrtrc, stepFlag, trapWord, trapOf, blockptr, setTrap}
 use Rattle.segment.specs.Cells.{Cell, undefined}
 use Rattle.segment.specs.Machine.{Machine}
 use Rattle.segment.specs.View.{view}
+use Rattle.segment.specs.Lent.{Words, Lent}
+use Rattle.segment.proofs.Words.{words-set}
 use Rattle.acceptance.specs.Structure.{Accepted}
 use Rattle.manual.specs.OrTrap.{gives, trap}
 use Rattle.manual.specs.Effects.{NoneStoresTo, Effect, Plan, look, AddressableIn}
@@ -26,9 +28,6 @@ use Rattle.effects_theorems.specs.Theorems.{StateKept, PerformedAll}
 use Rattle.effects_theorems.proofs.State.{trap-view}
 use Rattle.effects_theorems.proofs.Variables.{in-view}
 use Rattle.effects_theorems.proofs.Theorems.{effects-theorems}
-use Rattle.plan_theorems.specs.Fitting.{Words}
-use Rattle.plan_theorems.specs.Lent.{Lent}
-use Rattle.plan_theorems.proofs.BoundedWords.{words-set}
 use Rattle.plan_theorems.proofs.Bounded.{bounded-theorems}
 use Rattle.effects.specs.declared.Outcome.{Outcome as Turn}
 use Rattle.effects.specs.declared.Outcome.the-variants as T

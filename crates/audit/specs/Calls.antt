@@ -12,6 +12,7 @@ use Rattle.procedure.specs.Refusal.{segmentLengthTest, contentsTest}
 use Rattle.segment.specs.Blocks.{need}
 use Rattle.segment.specs.Cells.{Cell, undefined}
 use Rattle.segment.specs.View.{view}
+use Rattle.segment.specs.Lent.{Words, Bytes}
 use Rattle.acceptance_storage.specs.Head.{headTest}
 use Rattle.acceptance_storage.specs.Blocks.{blocksTest}
 use Rattle.acceptance_storage.specs.Ring.{ringTest}
@@ -22,8 +23,6 @@ use Rattle.acceptance.specs.Counts.{countsTest}
 use Rattle.acceptance.specs.Refusal.{lengthTest}
 use Rattle.manual.specs.Effects as manual
 use Rattle.manual.specs.Loads.{isUndefined}
-use Rattle.plan_theorems.specs.Fitting.{Words}
-use Rattle.plan_theorems.specs.Lent.{Bytes}
 use Rattle.fresh_segment.specs.LayOut.{Layout, functionTest, partsTest}
 use Rattle.operations.specs.declared.Answer as operations
 use Rattle.operations.specs.declared.Answer.the-variants as A
@@ -110,8 +109,8 @@ abbrev pub Passes : List ℕ → Procedures → Type 0
 Passes s p = firstFailed (segmentTests s p) ≡ 0
 
 -- The value of a global.
-abbrev pub held : List ℕ → ℕ → Cell
-held s g = manual.look undefined (Global (segment g)) (view s)
+abbrev pub globalValue : List ℕ → ℕ → Cell
+globalValue s g = manual.look undefined (Global (segment g)) (view s)
 
 -- What a load asks for finds a free block: a scalar asks for none.
 abbrev pub hasRoom : List ℕ → List ℕ → List ℕ → Bool
@@ -123,7 +122,7 @@ tests s (layOut p l) =
 tests s (run p budget) = segmentTests s p
 tests s (load p g lengths ravel) =
     segmentTests s p ++ (test 21 (isGlobal s g) ∷ test 23 (isValue lengths ravel) ∷ test 24 (hasRoom s lengths ravel) ∷ [])
-tests s (look p g) = segmentTests s p ++ (test 21 (isGlobal s g) ∷ test 22 (not (isUndefined (held s g))) ∷ [])
+tests s (look p g) = segmentTests s p ++ (test 21 (isGlobal s g) ∷ test 22 (not (isUndefined (globalValue s g))) ∷ [])
 
 -- ---- what a call brings: bytes and 32-bit words, as their types say in code
 

@@ -7,13 +7,13 @@ use mathlib.Core.List.{List, [], _∷_, map}
 use lib.ListN.{set}
 use Rattle.segment.specs.State as state
 use Rattle.segment.specs.View.{view}
+use Rattle.segment.specs.Lent.{Words}
 use Rattle.manual.specs.OrTrap.{gives, trap}
 use Rattle.manual.specs.Effects.{Effect}
 use Rattle.manual.specs.Traps.{listed}
 use Rattle.fresh_segment.specs.LayOut.{Layout}
-use Rattle.plan_theorems.specs.Fitting.{Words}
 use Rattle.step_theorems.specs.Planned.{planned}
-use Rattle.audit.specs.Calls.{Procedures, Call, layOut, run, load, look, Answer, firstFailed, tests, Passes, held, LentProcedures, LentCall}
+use Rattle.audit.specs.Calls.{Procedures, Call, layOut, run, load, look, Answer, firstFailed, tests, Passes, globalValue, LentProcedures, LentCall}
 use Rattle.audit.specs.Steps.{StepOutcome, trapsBy, finishes, Step, EffectsDone, inVain}
 use Rattle.audit.specs.Did.{LaidOut, Ran, Loaded, Tells, Did}
 use Rattle.audit.specs.Lists.{refusalOf, Answers, Kept, FullExactly, Event, Happened, AllLent}
@@ -29,7 +29,7 @@ pub record Demand1 : Type 0 where
   pub instruction : (s : List ℕ) (p : Procedures) → Words s → LentProcedures p → Passes s p
       → (o : StepOutcome) × (t : List ℕ) × Step p s o t × Passes t p
   -- "with everything but the trap word unchanged (step and trace traps alone come after a finished instruction)."
-  pub trapped : {s t : List ℕ} {p : Procedures} {class number : ℕ} → Step p s (trapsBy class number) t → t ≡ set s 3 (state.trap class number)
+  pub trapped : {s t : List ℕ} {p : Procedures} {class number : ℕ} → Step p s (trapsBy class number) t → t ≡ set s 3 (state.trapOf class number)
   pub after : {s t : List ℕ} {p : Procedures} {d : ℕ} → Step p s (finishes d) t → d ≤ 3
   pub alone : {s t : List ℕ} {p : Procedures} {number : ℕ} → Step p s (trapsBy 2 number) t → number ≡ 4
 
@@ -49,7 +49,7 @@ pub record Demand2 : Type 0 where
   pub run : {s t : List ℕ} {p : Procedures} {budget : ℕ} {a : Answer} → Did s (run p budget) a t → refusalOf a ≡ 0 → Ran s p budget a t
   pub load : {s t lengths ravel : List ℕ} {p : Procedures} {g : ℕ} {a : Answer} → Did s (load p g lengths ravel) a t → refusalOf a ≡ 0
       → Loaded s p g lengths ravel t
-  pub look : {s t : List ℕ} {p : Procedures} {g : ℕ} {a : Answer} → Did s (look p g) a t → refusalOf a ≡ 0 → Tells s a (held s g) × (t ≡ s)
+  pub look : {s t : List ℕ} {p : Procedures} {g : ℕ} {a : Answer} → Did s (look p g) a t → refusalOf a ≡ 0 → Tells s a (globalValue s g) × (t ≡ s)
 
 -- "1 and 2 hold for each, and afterwards blocks are disjoint and cover storage, no two free neighbours, the ring holds each free
 -- block once, every count is the number of cells pointing to the array; full is reported exactly when no free block is long enough."

@@ -13,12 +13,12 @@ use Rattle.segment.specs.State.{sbase, flags, trapWord, blockptr}
 use Rattle.segment.specs.Parts.{shapePart, elementsPart}
 use Rattle.segment.specs.Cells.{Cell, undefined, value}
 use Rattle.segment.specs.View.{view}
+use Rattle.segment.specs.Lent.{Words}
 use Rattle.manual.specs.Control.{frameWord}
 use Rattle.manual.specs.Effects as manual
-use Rattle.plan_theorems.specs.Fitting.{Words}
 use Rattle.fresh_segment.specs.LayOut.{Layout, localsOf}
 use Rattle.fresh_segment.specs.FreshWords.{FreshWords}
-use Rattle.audit.specs.Calls.{Procedures, Call, layOut, run, load, look, Answer, refused, done, ran, scalar, array, firstFailed, tests, Passes, held, LentCall}
+use Rattle.audit.specs.Calls.{Procedures, Call, layOut, run, load, look, Answer, refused, done, ran, scalar, array, firstFailed, tests, Passes, globalValue, LentCall}
 use Rattle.audit.specs.Runs.{Runs, SomeRequestInVain, ReportsFull}
 
 -- The fresh segment: every word of it is said.
@@ -59,7 +59,7 @@ pub data Did (s : List ℕ) : Call → Answer → List ℕ → Type 0 where
       → Did s (run p budget) answer t
   isLoaded : {p : Procedures} {g : ℕ} {lengths ravel t : List ℕ} → firstFailed (tests s (load p g lengths ravel)) ≡ 0
       → Loaded s p g lengths ravel t → Did s (load p g lengths ravel) done t
-  hasTold : {p : Procedures} {g : ℕ} {answer : Answer} → firstFailed (tests s (look p g)) ≡ 0 → Tells s answer (held s g) → Did s (look p g) answer s
+  hasTold : {p : Procedures} {g : ℕ} {answer : Answer} → firstFailed (tests s (look p g)) ≡ 0 → Tells s answer (globalValue s g) → Did s (look p g) answer s
 
 -- What a public operation promises, of 32-bit words and bytes, as its types say in code.
 unfoldable pub Promised : List ℕ → Call → Answer → List ℕ → Type 0

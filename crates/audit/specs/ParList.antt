@@ -13,7 +13,7 @@ use Rattle.manual.specs.OrTrap.{gives}
 use Rattle.manual.specs.Effects.{Effect, NoneStoresTo, look, AddressableIn}
 use Rattle.operations.specs.Load.{isGlobal}
 use Rattle.step_theorems.specs.Planned.{planned}
-use Rattle.audit.specs.Calls.{Procedures, Passes, held}
+use Rattle.audit.specs.Calls.{Procedures, Passes, globalValue}
 use Rattle.audit.specs.Steps.{StepOutcome, Step}
 
 pub record ParList : Type 0 where
@@ -25,4 +25,4 @@ pub record ParList : Type 0 where
   -- So a global that no effect of the instruction names keeps its value: what a look told of it before, a look tells after.
   pub global : (s : List ℕ) (p : Procedures) (o : StepOutcome) (t : List ℕ) → Passes s p → Step p s o t
       → (es : List Effect) → planned s (p .regular) (p .alternate) ≡ gives es
-      → (g : ℕ) → isGlobal s g ≡ true → NoneStoresTo es (Global (segment g)) → held t g ≡ held s g
+      → (g : ℕ) → isGlobal s g ≡ true → NoneStoresTo es (Global (segment g)) → globalValue t g ≡ globalValue s g

@@ -11,7 +11,7 @@ use Rattle.acceptance.specs.Refusal.{lengthTest}
 use Rattle.manual.specs.OrTrap.{gives}
 use Rattle.manual.specs.Effects.{Effect, performAll}
 use Rattle.step_theorems.specs.Planned.{planned}
-use Rattle.audit.specs.Calls.{Procedures, Call, run, look, Answer, refused, ran, trapped, held}
+use Rattle.audit.specs.Calls.{Procedures, Call, run, look, Answer, refused, ran, trapped, globalValue}
 use Rattle.audit.specs.Steps.{trapsBy, finishes, Step, inVain}
 use Rattle.audit.specs.Runs.{RequestInVain}
 use Rattle.audit.specs.Did.{Did}
@@ -36,7 +36,7 @@ pub record RuledOut : Type 0 where
   -- nor may STEP be ignored
   pub stepIgnored : {p : Procedures} {s t : List ℕ} → stepFlag (flags s) ≡ 1 → Step p s (finishes 0) t → ⊥
   -- "or returning one look for all": globals of which a look answers the same hold the same value
-  pub oneLook : {p : Procedures} {s t u : List ℕ} {g h : ℕ} {a : Answer} → Did s (look p g) a t → Did s (look p h) a u → refusalOf a ≡ 0 → held s g ≡ held s h
+  pub oneLook : {p : Procedures} {s t u : List ℕ} {g h : ℕ} {a : Answer} → Did s (look p g) a t → Did s (look p h) a u → refusalOf a ≡ 0 → globalValue s g ≡ globalValue s h
   -- "one that moves nothing"; "one that runs the first instruction and then only counts"
   pub onlyCounts : {p : Procedures} {s t : List ℕ} → Did s (run p 2) (ran 2) t → TwoDone p (set s 3 0) t
   -- "made-up steps"; "one saying 2 early"

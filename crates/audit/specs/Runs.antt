@@ -43,4 +43,4 @@ SomeRequestInVain {p = p} (stops {s = s} accepted step) = RequestInVain p s
 pub record ReportsFull (answer : Answer) (t : List ℕ) : Type 0 where
   pub steps : ℕ
   pub answered : answer ≡ trapped steps
-  pub trap : state.trapWord t ≡ state.trap 1 2
+  pub trap : state.trapWord t ≡ state.trapOf 1 2

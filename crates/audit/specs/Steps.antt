@@ -9,7 +9,7 @@ use lib.Dec.{ltb, eqb}
 use lib.ListN.{length, set}
 use Rattle.descriptor.specs.declared.Target.{Target}
 use Rattle.procedure.specs.declared.header.Header.{Header}
-use Rattle.segment.specs.State.{sbase, flags, fcnctrc, fcnrtrc, stepFlag, trapWord, trap as trapOf, blockptr}
+use Rattle.segment.specs.State.{sbase, flags, fcnctrc, fcnrtrc, stepFlag, trapWord, trapOf, blockptr}
 use Rattle.segment.specs.Cells.{undefined}
 use Rattle.segment.specs.View.{view}
 use Rattle.acceptance_storage.specs.Room.{longEnough}

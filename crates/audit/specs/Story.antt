@@ -27,7 +27,7 @@ abbrev pub written : Ended
 written = ran (withCopy .words) (coded storyCode) (coded storyCode) 4
 
 -- A look at a global tells a vector of three.
-pub record Holds (s : List ℕ) (g block a b c : ℕ) : Type 0 where
+pub record TellsVector (s : List ℕ) (g block a b c : ℕ) : Type 0 where
   pub seen : looked s (coded storyCode) (coded storyCode) g ≡ Array (segment block)
   pub shape : shapePart s block ≡ 3 ∷ []
   pub ravel : elementsPart s block ≡ a ∷ b ∷ c ∷ []
@@ -35,10 +35,10 @@ pub record Holds (s : List ℕ) (g block a b c : ℕ) : Type 0 where
 pub record Story : Type 0 where
   pub copies : withCopy .answer ≡ Done 2
   -- one block, which two cells point to
-  pub list : Holds (withCopy .words) 8 27 10 20 30
-  pub copy : Holds (withCopy .words) 9 27 10 20 30
+  pub list : TellsVector (withCopy .words) 8 27 10 20 30
+  pub copy : TellsVector (withCopy .words) 9 27 10 20 30
   pub count : countAt (withCopy .words) 27 ≡ 2
   pub writes : written .answer ≡ Done 4
   -- the copy has a block of its own now, and the list is as it was
-  pub listAfter : Holds (written .words) 8 27 10 20 30
-  pub copyAfter : Holds (written .words) 9 21 10 20 0
+  pub listAfter : TellsVector (written .words) 8 27 10 20 30
+  pub copyAfter : TellsVector (written .words) 9 21 10 20 0

@@ -44,7 +44,7 @@ use Rattle.crms_export.proofs.Numbers.{part-length}
 -- ---- runs
 
 abbrev stepsIn : RunResult → ℕ
-stepsIn o = stepsOf (operations.runAnswer (o .answer))
+stepsIn o = stepsOf (operations.acceptedRun (o .answer))
 
 followed : (steps more : ℕ) (answer : Stepped) (s : List ℕ) (next : List ℕ → RunResult) → ((t : List ℕ) → stepsIn (next t) ≤ steps + suc more)
     → stepsIn (following steps answer s next) ≤ steps + suc more

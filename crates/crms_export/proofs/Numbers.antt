@@ -10,11 +10,11 @@ use borrow.Author.Tests.{ne-eqb}
 use Rattle.segment.specs.Blocks.{part, sizeAt, rankAt}
 use Rattle.segment.specs.Parts.{within, shapePart, elementsPart}
 use Rattle.operations.specs.declared.Run.{Run}
-use Rattle.operations.specs.Answers.{answerOf, statusOf}
+use Rattle.operations.specs.Answers.{doneOrRefused, statusOf}
 use Rattle.operations.specs.Run.{Ended, ended}
 use Rattle.crms_export.specs.Numbers.{runNumber}
 
-pub status-answer : (number : ℕ) → statusOf (answerOf number) ≡ number
+pub status-answer : (number : ℕ) → statusOf (doneOrRefused number) ≡ number
 status-answer zero = refl
 status-answer (suc n) = simp (ne-eqb (suc n) 0 (λ e. omega (arith, e)))
 

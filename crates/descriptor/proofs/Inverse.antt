@@ -13,7 +13,7 @@ use Rattle.descriptor.specs.declared.Kind.{Kind}
 use Rattle.descriptor.specs.declared.Kind.the-variants as K
 use Rattle.descriptor.specs.Fields.{integerLimit, sign, exponent, fraction, typeNumber, rest, floatWord, integerWord, globalWord}
 use Rattle.descriptor.specs.Kinds.{bit, kindOf, integerKind, characterKind, arrayKind, indirectKind, undefinedKind, unsignedKind}
-use Rattle.descriptor.specs.Inverse.{wordOf, Fits, Inverse}
+use Rattle.descriptor.specs.Inverse.{kindWord, KindFits, Inverse}
 
 bit-small : (t : Bool) → bit t ≤ 1
 bit-small true = omega arith
@@ -57,13 +57,13 @@ integer-back t m small plain false e =
     let h = integer-fields (bit t) m (bit-small t) small (eqb-false m 0 e) in
     simp (ne-eqb _ _ (h .0), h .1, h .2, le-ltb integerLimit m small, ne-eqb _ _ (h .4), h .3, bit-back t)
 
-scalar-back : (s : Scalar) → Fits (K.Scalar s) → kindOf (wordOf (K.Scalar s)) ≡ K.Scalar s
+scalar-back : (s : Scalar) → KindFits (K.Scalar s) → kindOf (kindWord (K.Scalar s)) ≡ K.Scalar s
 unfolding unsignedKind characterKind
 scalar-back (Float t e f) h = float-back t e f (h .0) (h .1)
 scalar-back (Integer t m) h = integer-back t m (h .0) (h .1) (eqb m 0) refl
 scalar-back (Character c) h = typed-back 1 c (omega arith) (omega arith) (λ q. omega (arith, q)) ∙ simp (lt-ltb c (2 ^ 8) h)
 
-read-back : (k : Kind) → Fits k → kindOf (wordOf k) ≡ k
+read-back : (k : Kind) → KindFits k → kindOf (kindWord k) ≡ k
 unfolding kindOf integerKind unsignedKind arrayKind indirectKind undefinedKind
 read-back (K.Scalar s) h = scalar-back s h
 read-back (K.Array a) h = typed-back 2 (a .0) (omega arith) (omega arith) (λ q. omega (arith, q)) ∙ simp (lt-ltb (a .0) (2 ^ 16) h)
@@ -95,7 +95,7 @@ typed-parts w fits plain =
 
 module _ (w : ℕ) (fits : w < 2 ^ 32) where
   abbrev Again : Kind → Type 0
-  Again k = (k ≡ K.Invalid) ⊎ (wordOf k ≡ w)
+  Again k = (k ≡ K.Invalid) ⊎ (kindWord k ≡ w)
 
   sign-bit : (t : Bool) → eqb (sign w) 1 ≡ t → bit t ≡ sign w
   sign-bit true e = omega (arith, eqb-true (sign w) 1 e)

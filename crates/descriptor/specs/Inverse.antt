@@ -23,12 +23,12 @@ targetWord (Local a) = localWord (a .0)
 targetWord (Global a) = globalWord (a .0)
 
 -- No maker makes an invalid word; minus zero stands for all of them here.
-abbrev pub wordOf : Kind → ℕ
-wordOf (K.Scalar s) = scalarWord s
-wordOf (K.Array a) = arrayWord (a .0)
-wordOf (K.Indirect t) = targetWord t
-wordOf K.Undefined = undefinedWord
-wordOf K.Invalid = 2 ^ 31
+abbrev pub kindWord : Kind → ℕ
+kindWord (K.Scalar s) = scalarWord s
+kindWord (K.Array a) = arrayWord (a .0)
+kindWord (K.Indirect t) = targetWord t
+kindWord K.Undefined = undefinedWord
+kindWord K.Invalid = 2 ^ 31
 
 -- The parts fit their fields, and zero is not negative.
 abbrev pub ScalarFits : Scalar → Type 0
@@ -40,13 +40,13 @@ abbrev pub TargetFits : Target → Type 0
 TargetFits (Local a) = a .0 < 2 ^ 16
 TargetFits (Global a) = a .0 < 2 ^ 16
 
-abbrev pub Fits : Kind → Type 0
-Fits (K.Scalar s) = ScalarFits s
-Fits (K.Array a) = a .0 < 2 ^ 16
-Fits (K.Indirect t) = TargetFits t
-Fits K.Undefined = Unit {0}
-Fits K.Invalid = Unit {0}
+abbrev pub KindFits : Kind → Type 0
+KindFits (K.Scalar s) = ScalarFits s
+KindFits (K.Array a) = a .0 < 2 ^ 16
+KindFits (K.Indirect t) = TargetFits t
+KindFits K.Undefined = Unit {0}
+KindFits K.Invalid = Unit {0}
 
 pub record Inverse : Type 0 where
-  pub readBack : (k : Kind) → Fits k → kindOf (wordOf k) ≡ k
-  pub madeAgain : (w : ℕ) → w < 2 ^ 32 → (kindOf w ≡ K.Invalid) ⊎ (wordOf (kindOf w) ≡ w)
+  pub readBack : (k : Kind) → KindFits k → kindOf (kindWord k) ≡ k
+  pub madeAgain : (w : ℕ) → w < 2 ^ 32 → (kindOf w ≡ K.Invalid) ⊎ (kindWord (kindOf w) ≡ w)

@@ -21,7 +21,7 @@ use Rattle.effects.specs.Perform.{enter, leaveWithout}
 use Rattle.effects.specs.Seen.{seen}
 use Rattle.effects.specs.declared.Ran.{Ran}
 use Rattle.effects.specs.declared.Ran.the-variants.{Done, Trapped}
-use Rattle.effects.specs.Step.{numberOf, currentHeader, stepIn, stepOf}
+use Rattle.effects.specs.Step.{currentFunction, currentHeader, stepIn, stepOf}
 use Rattle.effects.specs.Run.{stepsFrom, runOf}
 
 -- A procedure segment of two functions without variables, a word of code each, whose headers begin with these bytes. Function 1
@@ -76,7 +76,7 @@ abbrev ends : Ran → ℕ → ℕ → Ended
 ends answer word3 function = record { answer = answer; word3 = word3; function = function }
 
 abbrev ran : List ℕ → List ℕ → ℕ → Ended
-ran p s budget = let o = runOf p p s budget in ends (o .answer) (trapWord (o .words)) (numberOf (o .words))
+ran p s budget = let o = runOf p p s budget in ends (o .answer) (trapWord (o .words)) (currentFunction (o .words))
 
 pub record Due : Type 0 where
   -- STEP alone: (2,1) after NO_OPERATION, after the call and after the return, each counted

@@ -15,7 +15,7 @@ use Rattle.segment.specs.Blocks.{countAt, rankAt, shapeAt, elementsAt, need}
 use Rattle.storage.specs.Request.{requestAt}
 use Rattle.storage.specs.Arrays.{share, dropWord, dropWords}
 use Rattle.manual.specs.Effects.{Source, variable, operand, word, undefinedValue, reference, made, Effect, replaces, discards, swaps, stores, storesElement, enters, leaves, jumps, setsOrigin}
-use Rattle.effects.specs.Sources.{addressOf, heldAt, operandAt, wordOf, placed}
+use Rattle.effects.specs.Sources.{addressOf, heldAt, operandAt, sourceWord, placed}
 
 -- The cell of the n-th operand from the top, from 1: where n operands start.
 abbrev pub bottomOf : List ℕ → ℕ → ℕ
@@ -26,7 +26,7 @@ unfoldable pub finish : List ℕ → ℕ → ℕ → List ℕ
 finish s b w = set (setLtop s (b - sbase s)) b w
 
 unfoldable pub replace : List ℕ → ℕ → Source → List ℕ
-replace s n source = finish (dropWords n (placed s source) (bottomOf s n)) (bottomOf s n) (wordOf s source)
+replace s n source = finish (dropWords n (placed s source) (bottomOf s n)) (bottomOf s n) (sourceWord s source)
 
 unfoldable pub discard : List ℕ → ℕ → List ℕ
 discard s n = setLtop (dropWords n s (bottomOf s n)) (ltop s - n)
@@ -36,7 +36,7 @@ swap s = set (set s (sbase s + ltop s) (operandAt s 1)) (sbase s + ltop s - 1) (
 
 -- A result goes into the cell at `i`: it is placed or its count is raised, it is stored, the old value is released.
 unfoldable pub storeAt : List ℕ → ℕ → Source → List ℕ
-storeAt s i source = dropWord (set (placed s source) i (wordOf s source)) (getD s i 0)
+storeAt s i source = dropWord (set (placed s source) i (sourceWord s source)) (getD s i 0)
 
 unfoldable pub store : List ℕ → Target → Source → List ℕ
 store s t source = storeAt s (addressOf s t) source

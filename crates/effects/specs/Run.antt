@@ -13,17 +13,17 @@ pub record RunResult : Type 0 where
   pub answer : Ran
   pub words : List ℕ
 
-abbrev pub ended : Ran → List ℕ → RunResult
-ended answer s = record { answer = answer; words = s }
+abbrev pub runResult : Ran → List ℕ → RunResult
+runResult answer s = record { answer = answer; words = s }
 
 -- What follows a step that answered so, `steps` instructions having finished before it.
 abbrev pub following : ℕ → Stepped → List ℕ → (List ℕ → RunResult) → RunResult
 following steps Finished s more = more s
-following steps (Traced class number) s more = ended (R.Trapped (steps + 1)) s
-following steps (Trapped class number) s more = ended (R.Trapped steps) s
+following steps (Traced class number) s more = runResult (R.Trapped (steps + 1)) s
+following steps (Trapped class number) s more = runResult (R.Trapped steps) s
 
 unfoldable pub stepsFrom : ℕ → ℕ → List ℕ → List ℕ → List ℕ → RunResult
-stepsFrom zero steps regular alternate s = ended (R.Done steps) s
+stepsFrom zero steps regular alternate s = runResult (R.Done steps) s
 stepsFrom (suc budget) steps regular alternate s =
     let r = stepOf regular alternate s in
     following steps (r .answer) (r .words) (λ t. stepsFrom budget (steps + 1) regular alternate t)

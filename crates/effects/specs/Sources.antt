@@ -28,13 +28,13 @@ referenceWord (Global g) = globalWord (g .0 % 2 ^ 16)
 referenceWord (Local a) = localWord (a .0 % 2 ^ 16)
 
 -- The word that a source gives, and the segment once it is placed, or shared where it was there already.
-abbrev pub wordOf : List ℕ → Source → ℕ
-wordOf s (variable t) = heldAt s t
-wordOf s (operand i) = operandAt s i
-wordOf s (word w) = w
-wordOf s undefinedValue = undefinedWord
-wordOf s (reference t) = referenceWord t
-wordOf s (made shape ravel) = arrayWord (placeAt s shape ravel)
+abbrev pub sourceWord : List ℕ → Source → ℕ
+sourceWord s (variable t) = heldAt s t
+sourceWord s (operand i) = operandAt s i
+sourceWord s (word w) = w
+sourceWord s undefinedValue = undefinedWord
+sourceWord s (reference t) = referenceWord t
+sourceWord s (made shape ravel) = arrayWord (placeAt s shape ravel)
 
 abbrev pub placed : List ℕ → Source → List ℕ
 placed s (variable t) = share s (heldAt s t)

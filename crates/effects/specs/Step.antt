@@ -31,14 +31,14 @@ stepResult answer s = record { answer = answer; words = s }
 -- ---- the current frame
 
 abbrev pub selectorOf : List ℕ → Bool
-selectorOf s = eqb (stack.alternate (codeWordAt s (lbase s))) 1
+selectorOf s = eqb (stack.alternateBit (codeWordAt s (lbase s))) 1
 
-abbrev pub numberOf : List ℕ → ℕ
-numberOf s = functionNumber (codeWordAt s (lbase s))
+abbrev pub currentFunction : List ℕ → ℕ
+currentFunction s = functionNumber (codeWordAt s (lbase s))
 
 -- The header of its function.
 unfoldable pub currentHeader : List ℕ → List ℕ → List ℕ → Header
-currentHeader regular alternate s = headerOfFunction (selected (selectorOf s) regular alternate) (numberOf s)
+currentHeader regular alternate s = headerOfFunction (selected (selectorOf s) regular alternate) (currentFunction s)
 
 -- ---- what is due after a finished instruction
 
@@ -83,4 +83,4 @@ stepFound regular alternate s selector (F.At block) = stepIn (record { regular =
 stepFound regular alternate s selector F.Absent = trapped s 3 1
 
 unfoldable pub stepOf : List ℕ → List ℕ → List ℕ → StepResult
-stepOf regular alternate s = stepFound regular alternate s (selectorOf s) (functionOf (selected (selectorOf s) regular alternate) (numberOf s))
+stepOf regular alternate s = stepFound regular alternate s (selectorOf s) (functionOf (selected (selectorOf s) regular alternate) (currentFunction s))

@@ -13,7 +13,7 @@ use Rattle.effects.specs.Perform.{replace, storeAt, store, perform, performs, n
 use Rattle.effects.specs.declared.Outcome.the-variants.{Trapped}
 use Rattle.effects.specs.Carried.{did, outcomeOf, carry}
 use Rattle.effects_code.specs.declared.Done.the-variants as D
-use Rattle.effects_code.specs.Done.{replaceShared, storeShared, answer, attempt}
+use Rattle.effects_code.specs.Done.{replaceShared, storeShared, fullOrDone, attempt}
 use Rattle.effects_code.proofs.Placing.{full-by-need}
 
 -- ---- effects by their words
@@ -33,8 +33,8 @@ full-made s n shape ravel place = full-by-need s shape ravel (replaces n (made s
 
 -- by the code's answer to the first effect
 module _ (s : List ℕ) (e : Effect) (es : List Effect) where
-  pub carry-refused : D.Full ≡ answer s e → did (Trapped 1 2) (attempt s e) ≡ carry s (gives (e ∷ es))
-  unfolding answer attempt
+  pub carry-refused : D.Full ≡ fullOrDone s e → did (Trapped 1 2) (attempt s e) ≡ carry s (gives (e ∷ es))
+  unfolding fullOrDone attempt
   carry-refused full = by-test (isFull s e) full
     where
       by-test : (b : Bool) → D.Full ≡ cond b D.Full D.Done
@@ -42,8 +42,8 @@ module _ (s : List ℕ) (e : Effect) (es : List Effect) where
       by-test true same = refl
       by-test false same = cc
 
-  pub carry-served : D.Done ≡ answer s e → did (outcomeOf (e ∷ es)) (performs (attempt s e) es) ≡ carry s (gives (e ∷ es))
-  unfolding answer attempt
+  pub carry-served : D.Done ≡ fullOrDone s e → did (outcomeOf (e ∷ es)) (performs (attempt s e) es) ≡ carry s (gives (e ∷ es))
+  unfolding fullOrDone attempt
   carry-served done = by-test (isFull s e) done
     where
       by-test : (b : Bool) → D.Done ≡ cond b D.Full D.Done

@@ -15,7 +15,7 @@ use Rattle.effects.specs.Perform.{blockOf, store, unshare, writeElement, replac
 use Rattle.effects.specs.Seen.{whole}
 use Rattle.operands.proofs.Whole.{whole-facts}
 use Rattle.effects_code.specs.declared.Done.the-variants as D
-use Rattle.effects_code.specs.Done.{answer, attempt, Held, writing, copied}
+use Rattle.effects_code.specs.Done.{fullOrDone, attempt, Held, writing, copied}
 use Rattle.effects_code.proofs.Placing.{full-by-need}
 
 -- the words of a list kept at the start of another
@@ -41,8 +41,8 @@ module _ (s : List ℕ) (t : Target) (a : ℕ) (held : Held s t a) where
   elements-few short = let facts = whole-facts s a held-whole in omega arith
 
   -- held by no other cell
-  pub alone : countAt s a < 2 → (D.Done ≡ answer s (writing t)) × (s ≡ copied s t)
-  unfolding answer copied unshare
+  pub alone : countAt s a < 2 → (D.Done ≡ fullOrDone s (writing t)) × (s ≡ copied s t)
+  unfolding fullOrDone copied unshare
   alone few =
       let one : leb 2 (countAt s (blockOf s (addressOf s t))) ≡ false = rw (← held .there) (lt-leb _ _ few) in
       let room : isFull s (writing t) ≡ false = simp one in
@@ -65,8 +65,8 @@ module _ (s : List ℕ) (t : Target) (a : ℕ) (held : Held s t a) where
     unfolding unshare store
     shared-copy = rw (← held .there) (simp (le-leb _ _ shared))
 
-    same-answer : answer s copying ≡ answer s (writing t)
-    unfolding answer
+    same-answer : fullOrDone s copying ≡ fullOrDone s (writing t)
+    unfolding fullOrDone
     same-answer = ap (λ (full : Bool). cond full D.Full D.Done) shared-full
 
     same-words : attempt s copying ≡ copied s t
@@ -76,7 +76,7 @@ module _ (s : List ℕ) (t : Target) (a : ℕ) (held : Held s t a) where
         ∙ ap (λ (after : List ℕ). cond (isFull s (writing t)) s after) shared-copy
 
     pub copy : (lengths elements : List ℕ) → lengths ≡ shapeAt s a → elements ≡ elementsAt s a
-        → (answer s (stores t (made lengths elements)) ≡ answer s (writing t)) × (attempt s (stores t (made lengths elements)) ≡ copied s t)
+        → (fullOrDone s (stores t (made lengths elements)) ≡ fullOrDone s (writing t)) × (attempt s (stores t (made lengths elements)) ≡ copied s t)
     copy lengths elements shape ravel = rw (shape, ravel) (same-answer, same-words)
 
 -- an element stored: full, or written in an array of its own, which is pushed
@@ -84,16 +84,16 @@ module _ (s : List ℕ) (t : Target) (at w n : ℕ) where
   abbrev storing : Effect
   storing = storesElement t at w n
 
-  pub element-full : D.Full ≡ answer s (writing t) → (D.Full ≡ answer s storing) × (copied s t ≡ attempt s storing)
-  unfolding answer copied attempt
+  pub element-full : D.Full ≡ fullOrDone s (writing t) → (D.Full ≡ fullOrDone s storing) × (copied s t ≡ attempt s storing)
+  unfolding fullOrDone copied attempt
   element-full full = by-test (isFull s (writing t)) full
     where
       by-test : (b : Bool) → D.Full ≡ cond b D.Full D.Done → (D.Full ≡ cond b D.Full D.Done) × (cond b s (unshare s (addressOf s t)) ≡ cond b s (storeElement s t at w n))
       by-test true e = (refl, refl)
       by-test false e = (cc, cc)
 
-  pub element-done : D.Done ≡ answer s (writing t) → (D.Done ≡ answer s storing) × (replace (writeElement (copied s t) (addressOf s t) at w) n (variable t) ≡ attempt s storing)
-  unfolding answer copied attempt storeElement
+  pub element-done : D.Done ≡ fullOrDone s (writing t) → (D.Done ≡ fullOrDone s storing) × (replace (writeElement (copied s t) (addressOf s t) at w) n (variable t) ≡ attempt s storing)
+  unfolding fullOrDone copied attempt storeElement
   element-done done = by-test (isFull s (writing t)) done
     where
       by-test : (b : Bool) → D.Done ≡ cond b D.Full D.Done → (D.Done ≡ cond b D.Full D.Done) × (replace (writeElement (cond b s (unshare s (addressOf s t))) (addressOf s t) at w) n (variable t) ≡ cond b s (replace (writeElement (unshare s (addressOf s t)) (addressOf s t) at w) n (variable t)))

@@ -25,7 +25,7 @@ use Rattle.manual.specs.Effects.{made, Effect}
 use Rattle.effects.specs.Sources.{addressOf, heldAt}
 use Rattle.effects.specs.Perform.{bottomOf, finish, replace, storeAt, store, perform, wanted, noneFor, isFull}
 use Rattle.effects_code.specs.declared.Done.the-variants as D
-use Rattle.effects_code.specs.Done.{answer, attempt}
+use Rattle.effects_code.specs.Done.{fullOrDone, attempt}
 
 full-zero : (a : ℕ) → found a ≡ Full → a ≡ 0
 unfolding found
@@ -37,12 +37,12 @@ full-zero a full = by-test (eqb a 0) refl full
 
 -- an effect by whether there is room
 module _ (s : List ℕ) (e : Effect) where
-  kept : isFull s e ≡ true → (D.Full ≡ answer s e) × (s ≡ attempt s e)
-  unfolding answer attempt
+  kept : isFull s e ≡ true → (D.Full ≡ fullOrDone s e) × (s ≡ attempt s e)
+  unfolding fullOrDone attempt
   kept full = (rw full, rw full)
 
-  done : isFull s e ≡ false → (D.Done ≡ answer s e) × (perform s e ≡ attempt s e)
-  unfolding answer attempt
+  done : isFull s e ≡ false → (D.Done ≡ fullOrDone s e) × (perform s e ≡ attempt s e)
+  unfolding fullOrDone attempt
   done room = (rw room, rw room)
 
 -- the effect asks for a block for this array
@@ -50,10 +50,10 @@ module _ (s shape ravel : List ℕ) (e : Effect) (asks : wanted s e ≡ need sha
   pub full-by-need : isFull s e ≡ noneFor s (need shape ravel)
   full-by-need = rw asks (simp (ne-eqb (need shape ravel) 0 (λ none. omega arith)))
 
-  pub long-kept : 16384 < need shape ravel → (D.Full ≡ answer s e) × (s ≡ attempt s e)
+  pub long-kept : 16384 < need shape ravel → (D.Full ≡ fullOrDone s e) × (s ≡ attempt s e)
   long-kept more = kept s e (full-by-need ∙ simp (lt-ltb _ _ more))
 
-  pub none-kept : found (placeAt s shape ravel) ≡ Full → (D.Full ≡ answer s e) × (place s shape ravel ≡ attempt s e)
+  pub none-kept : found (placeAt s shape ravel) ≡ Full → (D.Full ≡ fullOrDone s e) × (place s shape ravel ≡ attempt s e)
   unfolding place placeAt
   none-kept none =
       let still = kept s e (full-by-need ∙ by-test (ltb 16384 (need shape ravel))) in
@@ -64,7 +64,7 @@ module _ (s shape ravel : List ℕ) (e : Effect) (asks : wanted s e ≡ need sha
       by-test false = eq-eqb _ _ (full-zero _ none)
 
   pub found-done : (block : SegmentAddress) → need shape ravel ≤ 16384 → found (placeAt s shape ravel) ≡ At block
-      → (D.Done ≡ answer s e) × (perform s e ≡ attempt s e)
+      → (D.Done ≡ fullOrDone s e) × (perform s e ≡ attempt s e)
   unfolding placeAt
   found-done block little at = done s e (full-by-need ∙ simp (le-ltb _ _ little, ne-eqb _ _ (at-some _ block at .0)))
 

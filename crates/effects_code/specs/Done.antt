@@ -22,8 +22,8 @@ unfoldable pub storeShared : List ℕ → Target → ℕ → List ℕ
 storeShared s t w = dropWord (set (share s w) (addressOf s t) w) (heldAt s t)
 
 -- An effect that may ask for a block: the answer, and the words after it.
-unfoldable pub answer : List ℕ → Effect → Done
-answer s e = cond (isFull s e) D.Full D.Done
+unfoldable pub fullOrDone : List ℕ → Effect → Done
+fullOrDone s e = cond (isFull s e) D.Full D.Done
 
 unfoldable pub attempt : List ℕ → Effect → List ℕ
 attempt s e = cond (isFull s e) s (perform s e)

@@ -38,7 +38,7 @@ pub fn store_share(seg: &mut [u32], t: Target, w: u32)
 
 // The variable holds a new array from now on.
 pub fn store_array(seg: &mut [u32], t: Target, shape: &[u32], ravel: &[u32]) -> Done
-    ensures { λ r. ⌜ r ≡ answers.answer (now (seg .entry)) (manual.stores t (manual.made (now (shape .entry)) (now (ravel .entry)))) ⌝ }
+    ensures { λ r. ⌜ r ≡ answers.fullOrDone (now (seg .entry)) (manual.stores t (manual.made (now (shape .entry)) (now (ravel .entry)))) ⌝ }
     ensures { λ _. ⌜ now (seg .exit) ≡ answers.attempt (now (seg .entry)) (manual.stores t (manual.made (now (shape .entry)) (now (ravel .entry)))) ⌝ }
 {
     if 16384 < 2 + shape.len() + ravel.len() {
@@ -68,7 +68,7 @@ pub fn store_element(
 ) -> Done
     requires { ⌜ answers.Held (now seg) t (block .0) ⌝ }
     requires { ⌜ (0 < n) × (length (now seg) ≤ 16384) × (length (now scratch) ≡ 16384) ⌝ }
-    ensures { λ r. ⌜ r ≡ answers.answer (now (seg .entry)) (manual.storesElement t at w n) ⌝ }
+    ensures { λ r. ⌜ r ≡ answers.fullOrDone (now (seg .entry)) (manual.storesElement t at w n) ⌝ }
     ensures { λ _. ⌜ now (seg .exit) ≡ answers.attempt (now (seg .entry)) (manual.storesElement t at w n) ⌝ }
 {
     let i = place_of(seg, t);
@@ -86,7 +86,7 @@ pub fn store_element(
 fn unshare(seg: &mut [u32], t: Target, block: SegmentAddress, scratch: &mut [u32]) -> Done
     requires { ⌜ answers.Held (now seg) t (block .0) ⌝ }
     requires { ⌜ (length (now seg) ≤ 16384) × (length (now scratch) ≡ 16384) ⌝ }
-    ensures { λ r. ⌜ r ≡ answers.answer (now (seg .entry)) (answers.writing t) ⌝ }
+    ensures { λ r. ⌜ r ≡ answers.fullOrDone (now (seg .entry)) (answers.writing t) ⌝ }
     ensures { λ _. ⌜ now (seg .exit) ≡ answers.copied (now (seg .entry)) t ⌝ }
 {
     if count(seg, block) < 2 {

@@ -45,7 +45,7 @@ pub fn replace_by_share(seg: &mut [u32], n: u32, w: u32)
 // A new array takes the place of n operands.
 pub fn replace_by_array(seg: &mut [u32], n: u32, shape: &[u32], ravel: &[u32]) -> Done
     requires { ⌜ effect.bottomOf (now seg) n < 2 ^ 17 - 1 ⌝ }
-    ensures { λ r. ⌜ r ≡ answers.answer (now (seg .entry)) (manual.replaces n (manual.made (now (shape .entry)) (now (ravel .entry)))) ⌝ }
+    ensures { λ r. ⌜ r ≡ answers.fullOrDone (now (seg .entry)) (manual.replaces n (manual.made (now (shape .entry)) (now (ravel .entry)))) ⌝ }
     ensures { λ _. ⌜ now (seg .exit) ≡ answers.attempt (now (seg .entry)) (manual.replaces n (manual.made (now (shape .entry)) (now (ravel .entry)))) ⌝ }
 {
     if 16384 < 2 + shape.len() + ravel.len() {

@@ -22,7 +22,7 @@ use Rattle.manual.specs.Effects.{Source, variable, operand, word, undefinedValu
 use Rattle.manual.proofs.Tests.{none-holds}
 use Rattle.storage_theorems.proofs.Counts.{order}
 use Rattle.storage_theorems.proofs.Cells.{array-of, cell-array}
-use Rattle.effects.specs.Sources.{addressOf, heldAt, wordOf, placed}
+use Rattle.effects.specs.Sources.{addressOf, heldAt, sourceWord, placed}
 use Rattle.effects.specs.Perform.{blockOf, replace, storeAt, store, perform, sourceNeed, noneFor, isFull}
 use Rattle.effects.specs.Sound.{Sound}
 use Rattle.effects.specs.Fits.{HasElement, Fits}
@@ -77,11 +77,11 @@ module _ (s : List ℕ) (g : Sound s) (t : Target) (place w n : ℕ) (has : HasE
 effect-done : (s : List ℕ) → Sound s → (e : Effect) → Fits s e → isFull s e ≡ false → Done s (perform s e) (manual.performOn e (view s))
 unfolding replace store storeAt
 effect-done s g (replaces n source) h f =
-    finish-done s g n (wordOf s source) (manual.meant source (view s)) (placed s source) (put-source s g source (h .1) (source-found s source f)) (h .0)
+    finish-done s g n (sourceWord s source) (manual.meant source (view s)) (placed s source) (put-source s g source (h .1) (source-found s source f)) (h .0)
 effect-done s g (discards n) h f = discard-done s g n h
 effect-done s g swaps h f = swap-done s g h
 effect-done s g (stores t source) h f =
-    stored s g t (h .0) (wordOf s source) (manual.meant source (view s)) (placed s source) (put-source s g source (h .1) (source-found s source f)) .done
+    stored s g t (h .0) (sourceWord s source) (manual.meant source (view s)) (placed s source) (put-source s g source (h .1) (source-found s source f)) .done
 effect-done s g (storesElement t place w n) h f =
     let has = h .1 in
     rw (held s g t place w n has)

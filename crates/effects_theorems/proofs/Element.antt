@@ -23,7 +23,7 @@ use Rattle.segment.specs.View.{words, owners, view}
 use Rattle.segment.proofs.Runs.{part-length}
 use Rattle.manual.specs.Effects as manual
 use Rattle.storage_theorems.proofs.Counts.{hit-eq, hit-same, hit-cases}
-use Rattle.storage_theorems.specs.Element.{setElement, Element}
+use Rattle.storage_theorems.specs.Element.{setElement, ElementSet}
 use Rattle.storage_theorems.specs.Place.{NewArray}
 use Rattle.storage_theorems.proofs.Cells.{cell-array, cell-other}
 use Rattle.storage_theorems.specs.Request.{Served}
@@ -72,7 +72,7 @@ module _ (s : List ℕ) (g : Sound s) (t : Target) (at : Addressable s t) (x : �
   abbrev e′ : List ℕ
   e′ = setElement s x k v
 
-  element : Element s (owners s) x k v
+  element : ElementSet s (owners s) x k v
   element = element-theorem (g .own) x (named .0) (named .1) k v in-range ok
 
   low : Bounds s

@@ -18,7 +18,7 @@ use Rattle.manual.specs.Effects.{Source, variable, operand, word, undefinedValu
 use Rattle.storage_theorems.proofs.Counts.{hit-same}
 use Rattle.storage_theorems.proofs.Steps.{step-none, plain, share-own}
 use Rattle.storage_theorems.proofs.Place.{place-theorem}
-use Rattle.effects.specs.Sources.{heldAt, operandAt, referenceWord, wordOf, placed}
+use Rattle.effects.specs.Sources.{heldAt, operandAt, referenceWord, sourceWord, placed}
 use Rattle.effects.specs.Sound.{Sound}
 use Rattle.effects.specs.Fits.{Available}
 use Rattle.effects_theorems.proofs.Cells.{scalar-cell, reference-array, reference-cell}
@@ -47,7 +47,7 @@ Found s (reference t) = Unit {0}
 Found s (made shape ravel) = placeAt s shape ravel ≢ 0
 
 pub put-source : (s : List ℕ) (g : Sound s) (source : Source) → Available s source → Found s source
-    → Put s (owners s) (placed s source) (wordOf s source) (meant source (view s))
+    → Put s (owners s) (placed s source) (sourceWord s source) (meant source (view s))
 put-source s g (variable t) h f = put-shared (heldAt s t) _ (g .own) (owners-few s g) (variable-owner s g t h) (look-view s g t h)
 put-source s g (operand i) h f = put-shared (operandAt s i) _ (g .own) (owners-few s g) (operand-owner s i h) (operand-view s i h)
 put-source s g (word w) h f = put-plain w _ (g .own) (scalar-array w h) (scalar-cell s w h)

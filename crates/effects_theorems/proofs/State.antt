@@ -160,7 +160,7 @@ module _ (s : List ℕ) (g : Sound s) (i v : ℕ) (from : 2 ≤ i) (to : i < 4) 
       ∙ ap (withFlags (flags t)) (machine-agree (cell t) (cell s) (words s) (λ w k. cell-elsewhere settled (g .own) w k))
 
 module _ (s : List ℕ) (g : Sound s) (v : ℕ) where
-  pub origin-done : Done s (setIorg s v) (manual.setOrigin v (view s))
+  pub origin-done : Done s (setIorg s v) (manual.withOrigin v (view s))
   unfolding setIorg view words
   origin-done =
       let l : 2 < length s = omega (arith, bounds g) in

@@ -9,7 +9,7 @@ use mathlib.Core.List.{List, _++_, append-assoc, append-nil}
 use lib.ListN.{length, getD, take, drop, set, replicate, length-replicate, getD-replicate, length-drop, List·getD-append}
 use borrow.Rule.Slice.PartMut.{putMid, post-is}
 use lib.Seq.{ext-getD, take-at, take-add, drop-append-add, drop-drop, getD-drop, set-at, take-suc, drop-cons, append-snoc, length-take-le, take-length, drop-length, getD-take, getD-append-add}
-use Rattle.manual.specs.Values.{cycle, copies, upFrom}
+use Rattle.manual.specs.Values.{cycle, repeated, upFrom}
 use Rattle.manual.proofs.Elements.{length-cycle}
 
 -- the first i words of d are those of goal, and the rest are those of d₀
@@ -59,13 +59,13 @@ filled-part {goal} {d₀} {d} {part} {i} {e} f h g p =
 
 -- ---- copies
 
-getD-copies : (k q j : ℕ) (r : List ℕ) → q < k → j < length r → getD (copies k r) (q * length r + j) 0 ≡ getD r j 0
-getD-copies zero q j r h l = absurd (not-suc-le-zero h)
-getD-copies (suc k) zero j r h l = rw (zero-mul (length r), zero-add j) (List·getD-append r (copies k r) 0 j l)
-getD-copies (suc k) (suc q) j r h l =
-    ap (λ (m : ℕ). getD (r ++ copies k r) m 0) (rw (suc-mul q (length r)) (omega arith))
-    ∙ getD-append-add r (copies k r) (q * length r + j) 0
-    ∙ getD-copies k q j r (le-of-suc-le-suc h) l
+getD-repeated : (k q j : ℕ) (r : List ℕ) → q < k → j < length r → getD (repeated k r) (q * length r + j) 0 ≡ getD r j 0
+getD-repeated zero q j r h l = absurd (not-suc-le-zero h)
+getD-repeated (suc k) zero j r h l = rw (zero-mul (length r), zero-add j) (List·getD-append r (repeated k r) 0 j l)
+getD-repeated (suc k) (suc q) j r h l =
+    ap (λ (m : ℕ). getD (r ++ repeated k r) m 0) (rw (suc-mul q (length r)) (omega arith))
+    ∙ getD-append-add r (repeated k r) (q * length r + j) 0
+    ∙ getD-repeated k q j r (le-of-suc-le-suc h) l
 
 -- i is some rounds and j
 record Round (i j : ℕ) (r : List ℕ) : Type 0 where
@@ -86,7 +86,7 @@ unfolding cycle
 cycle-at {n} {i} {j} {r} h p =
     let b : p .rounds ≤ p .rounds * length r = le-times (p .rounds) (length r) (omega (arith, p .below)) in
     let e = p .is in
-    sym (getD-take n (copies n r) i 0 h ∙ ap (λ (m : ℕ). getD (copies n r) m 0) e ∙ getD-copies n (p .rounds) j r (omega arith) (p .below))
+    sym (getD-take n (repeated n r) i 0 h ∙ ap (λ (m : ℕ). getD (repeated n r) m 0) e ∙ getD-repeated n (p .rounds) j r (omega arith) (p .below))
 
 -- one word, round and round
 pub cycle-single : (n : ℕ) (r : List ℕ) → length r ≡ 1 → replicate n (getD r 0 0) ≡ cycle n r

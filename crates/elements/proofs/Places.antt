@@ -18,10 +18,10 @@ use Rattle.scalar.specs.declared.Whole.the-variants as W
 use Rattle.scalar.specs.Reading.{wholeOf, wholeUnits, wholeNumber}
 use Rattle.segment.specs.Blocks.{product}
 use Rattle.manual.specs.OrTrap.{gives, trap}
-use Rattle.manual.specs.Values.{any, isFraction, inRange, inRanges, offset, placeOf, place}
+use Rattle.manual.specs.Values.{any, isFraction, inRange, inRanges, offset, ravelOffset, ravelPlace}
 use Rattle.manual.proofs.Tests.{both-hold}
 use Rattle.manual.proofs.Elements.{place-below}
-use Rattle.elements.specs.Parts.{faultOf, worstOf}
+use Rattle.elements.specs.Parts.{subscriptFault, worstOf}
 
 -- ---- the worst fault
 
@@ -32,12 +32,12 @@ pub record WorstFrom (o : ℕ) (s l : List ℕ) (so-far i : ℕ) : Type 0 where
 pub worst-start : {o : ℕ} {s l : List ℕ} → WorstFrom o s l 0 0
 worst-start {o} {s} {l} = record { is = omega arith }
 
-pub worst-on : {o : ℕ} {s l : List ℕ} {w i v : ℕ} → WorstFrom o s l w i → i < length s → i < length l → v ≡ max w (faultOf o (wholeOf (getD s i 0)) (getD l i 0)) → WorstFrom o s l v (i + 1)
+pub worst-on : {o : ℕ} {s l : List ℕ} {w i v : ℕ} → WorstFrom o s l w i → i < length s → i < length l → v ≡ max w (subscriptFault o (wholeOf (getD s i 0)) (getD l i 0)) → WorstFrom o s l v (i + 1)
 worst-on {o} {s} {l} {w} {i} {v} f h k e =
     record {
       is =
           rw (add-one i, e)
-          (f .is ∙ rw (drop-cons s i 0 h, drop-cons l i 0 k) (join w (faultOf o (wholeOf (getD s i 0)) (getD l i 0)) (worstOf o (drop (suc i) s) (drop (suc i) l))));
+          (f .is ∙ rw (drop-cons s i 0 h, drop-cons l i 0 k) (join w (subscriptFault o (wholeOf (getD s i 0)) (getD l i 0)) (worstOf o (drop (suc i) s) (drop (suc i) l))));
     }
   where
     join : (x y z : ℕ) → max x (max y z) ≡ max (max x y) z
@@ -71,14 +71,14 @@ ltb-max k a b = elim (decLt k a) [
     neither h g = le-ltb k (max a b) (omega arith) ∙ sym (rw (le-ltb k a (omega arith), le-ltb k b (omega arith)))
 
 -- a test that each subscript passes exactly if its fault is above k
-module _ (o k : ℕ) (test : ℕ → Bool) (each : (w l : ℕ) → test w ≡ ltb k (faultOf o (wholeOf w) l)) where
+module _ (o k : ℕ) (test : ℕ → Bool) (each : (w l : ℕ) → test w ≡ ltb k (subscriptFault o (wholeOf w) l)) where
   any-worst : (s l : List ℕ) → length s ≡ length l → any test s ≡ ltb k (worstOf o s l)
   any-worst [] l n = sym (le-ltb k 0 (omega arith))
   any-worst (w ∷ s) [] n = absurd (omega arith)
   any-worst (w ∷ s) (x ∷ l) n =
-      rw (each w x, any-worst s l (omega arith)) (sym (ltb-max k (faultOf o (wholeOf w) x) (worstOf o s l)))
+      rw (each w x, any-worst s l (omega arith)) (sym (ltb-max k (subscriptFault o (wholeOf w) x) (worstOf o s l)))
 
-in-range-fault : (o : ℕ) (v : Whole) (l : ℕ) → inRange o v l ≡ not (ltb 0 (faultOf o v l))
+in-range-fault : (o : ℕ) (v : Whole) (l : ℕ) → inRange o v l ≡ not (ltb 0 (subscriptFault o v l))
 in-range-fault o (W.Number negative n) l = by (inRange o (W.Number negative n) l)
   where
     by : (t : Bool) → t ≡ not (ltb 0 (cond t 0 1))
@@ -96,7 +96,7 @@ ranges-worst o [] l n = refl
 ranges-worst o (w ∷ s) [] n = absurd (omega arith)
 ranges-worst o (w ∷ s) (x ∷ l) n =
     rw (in-range-fault o (wholeOf w) x, ranges-worst o s l (omega arith))
-    (not-or (ltb 0 (faultOf o (wholeOf w) x)) (ltb 0 (worstOf o s l)) ∙ ap not (sym (ltb-max 0 (faultOf o (wholeOf w) x) (worstOf o s l))))
+    (not-or (ltb 0 (subscriptFault o (wholeOf w) x)) (ltb 0 (worstOf o s l)) ∙ ap not (sym (ltb-max 0 (subscriptFault o (wholeOf w) x) (worstOf o s l))))
 
 -- the faults of what a subscript is read as
 isLetter : Whole → Bool
@@ -104,7 +104,7 @@ isLetter (W.Number negative n) = false
 isLetter W.Fraction = false
 isLetter W.Character = true
 
-fault-letter : (o : ℕ) (v : Whole) (l : ℕ) → isLetter v ≡ ltb 2 (faultOf o v l)
+fault-letter : (o : ℕ) (v : Whole) (l : ℕ) → isLetter v ≡ ltb 2 (subscriptFault o v l)
 unfolding isLetter
 fault-letter o (W.Number negative n) l = by (inRange o (W.Number negative n) l)
   where
@@ -114,7 +114,7 @@ fault-letter o (W.Number negative n) l = by (inRange o (W.Number negative n) l)
 fault-letter o W.Fraction l = refl
 fault-letter o W.Character l = refl
 
-fault-fraction : (o : ℕ) (v : Whole) (l : ℕ) → (isLetter v || isFraction v) ≡ ltb 1 (faultOf o v l)
+fault-fraction : (o : ℕ) (v : Whole) (l : ℕ) → (isLetter v || isFraction v) ≡ ltb 1 (subscriptFault o v l)
 unfolding isLetter
 fault-fraction o (W.Number negative n) l = by (inRange o (W.Number negative n) l)
   where
@@ -159,34 +159,34 @@ module _ (o : ℕ) (s l : List ℕ) (n : length s ≡ length l) where
   fractions : worstOf o s l ≤ 2 → any (λ w. isFraction (wholeOf w)) s ≡ ltb 1 (worstOf o s l)
   fractions h = sym (or-any isCharacter (λ w. isFraction (wholeOf w)) s (no-letter h)) ∙ letters-or-fractions
 
-  pub place-letter : 2 < worstOf o s l → trap 7 0 ≡ place o s l
-  unfolding place
+  pub place-letter : 2 < worstOf o s l → trap 7 0 ≡ ravelPlace o s l
+  unfolding ravelPlace
   place-letter h = rw (letters, lt-ltb 2 (worstOf o s l) h)
 
-  pub place-fraction : worstOf o s l ≡ 2 → trap 8 5 ≡ place o s l
-  unfolding place
+  pub place-fraction : worstOf o s l ≡ 2 → trap 8 5 ≡ ravelPlace o s l
+  unfolding ravelPlace
   place-fraction h = rw (no-letter (omega arith), fractions (omega arith), lt-ltb 1 (worstOf o s l) (omega arith))
 
-  pub place-outside : worstOf o s l ≡ 1 → trap 9 2 ≡ place o s l
-  unfolding place
+  pub place-outside : worstOf o s l ≡ 1 → trap 9 2 ≡ ravelPlace o s l
+  unfolding ravelPlace
   place-outside h =
       rw (no-letter (omega arith), fractions (omega arith), le-ltb 1 (worstOf o s l) (omega arith), ranges-worst o s l n, lt-ltb 0 (worstOf o s l) (omega arith))
 
   pub all-in-range : worstOf o s l ≡ 0 → inRanges o s l ≡ true
   all-in-range h = ranges-worst o s l n ∙ rw (le-ltb 0 (worstOf o s l) (omega arith))
 
-  pub place-within : worstOf o s l ≡ 0 → gives (placeOf o s l) ≡ place o s l
-  unfolding place
+  pub place-within : worstOf o s l ≡ 0 → gives (ravelOffset o s l) ≡ ravelPlace o s l
+  unfolding ravelPlace
   place-within h = rw (no-letter (omega arith), fractions (omega arith), le-ltb 1 (worstOf o s l) (omega arith), all-in-range h)
 
 -- ---- the sum, from the left
 
 pub record Horner (o : ℕ) (s l : List ℕ) (at i : ℕ) : Type 0 where
-  pub so-far : placeOf o s l ≡ at * product (drop i l) + placeOf o (drop i s) (drop i l)
+  pub so-far : ravelOffset o s l ≡ at * product (drop i l) + ravelOffset o (drop i s) (drop i l)
   pub rest : inRanges o (drop i s) (drop i l) ≡ true
 
 pub horner-start : {o : ℕ} {s l : List ℕ} → inRanges o s l ≡ true → Horner o s l 0 0
-horner-start {o} {s} {l} h = record { so-far = rw (zero-mul (product l)) (sym (zero-add (placeOf o s l))); rest = h }
+horner-start {o} {s} {l} h = record { so-far = rw (zero-mul (product l)) (sym (zero-add (ravelOffset o s l))); rest = h }
 
 regroup : (at x p v r : ℕ) → at * (x * p) + (v * p + r) ≡ (at * x + v) * p + r
 regroup at x p v r = rw (← mul-assoc at x p, add-mul (at * x) v p) (sym (add-assoc (at * x * p) (v * p) r))
@@ -195,21 +195,21 @@ horner-on : {o : ℕ} {s l : List ℕ} {at i : ℕ} → Horner o s l at i → i 
 horner-on {o} {s} {l} {at} {i} f h k =
     let v = offset o (wholeOf (getD s i 0)) in
     let e : (inRange o (wholeOf (getD s i 0)) (getD l i 0) && inRanges o (drop (suc i) s) (drop (suc i) l)) ≡ true = rw (drop-cons s i 0 h, drop-cons l i 0 k) at (f .rest) in
-    let g : placeOf o s l ≡ at * (getD l i 0 * product (drop (suc i) l)) + (v * product (drop (suc i) l) + placeOf o (drop (suc i) s) (drop (suc i) l)) = rw (drop-cons s i 0 h, drop-cons l i 0 k) at (f .so-far) in
+    let g : ravelOffset o s l ≡ at * (getD l i 0 * product (drop (suc i) l)) + (v * product (drop (suc i) l) + ravelOffset o (drop (suc i) s) (drop (suc i) l)) = rw (drop-cons s i 0 h, drop-cons l i 0 k) at (f .so-far) in
     record {
-      so-far = rw (add-one i) (g ∙ regroup at (getD l i 0) (product (drop (suc i) l)) v (placeOf o (drop (suc i) s) (drop (suc i) l)));
+      so-far = rw (add-one i) (g ∙ regroup at (getD l i 0) (product (drop (suc i) l)) v (ravelOffset o (drop (suc i) s) (drop (suc i) l)));
       rest = rw (add-one i) (both-hold (inRange o (wholeOf (getD s i 0)) (getD l i 0)) (inRanges o (drop (suc i) s) (drop (suc i) l)) e .1);
     }
 
 horner-below : {o : ℕ} {s l : List ℕ} {at i : ℕ} → Horner o s l at i → length s ≡ length l → inRanges o s l ≡ true → at < product l
 horner-below {o} {s} {l} {at} {i} f n h =
-    bound at (product (drop i l)) (placeOf o (drop i s) (drop i l)) (placeOf o s l) (product l) (f .so-far)
+    bound at (product (drop i l)) (ravelOffset o (drop i s) (drop i l)) (ravelOffset o s l) (product l) (f .so-far)
     (place-below o (drop i s) (drop i l) (length-drop i s ∙ rw n (sym (length-drop i l))) (f .rest)) (place-below o s l n h)
   where
     bound : (at p r x q : ℕ) → x ≡ at * p + r → r < p → x < q → at < q
     bound at p r x q e k h = let m : at * 1 ≤ at * p = mul-le-mul-left at (omega arith) in omega (arith, mul-one at)
 
-pub horner-done : {o : ℕ} {s l : List ℕ} {at i : ℕ} → Horner o s l at i → i ≡ length s → i ≡ length l → at ≡ placeOf o s l
+pub horner-done : {o : ℕ} {s l : List ℕ} {at i : ℕ} → Horner o s l at i → i ≡ length s → i ≡ length l → at ≡ ravelOffset o s l
 horner-done {o} {s} {l} {at} {i} f h k = sym (f .so-far ∙ rw (h, drop-length s) (rw (← h, k, drop-length l) (rw (mul-one at) (add-zero at))))
 
 -- a turn of the loop: the place so far fits

@@ -18,9 +18,9 @@ use Rattle.elements.specs.declared.Found.{Found}
 use Rattle.elements.specs.declared.Found.the-variants as P
 
 -- The words that a loop has written, or the first trap.
-abbrev pub finished : Finished → List ℕ → OrTrap (List ℕ)
-finished F.Done words = gives words
-finished (F.Trap class number) words = trap class number
+abbrev pub results : Finished → List ℕ → OrTrap (List ℕ)
+results F.Done words = gives words
+results (F.Trap class number) words = trap class number
 
 -- The shape that an answer names, of the operands' shapes.
 abbrev pub shapeNamed : Shape → List ℕ → List ℕ → OrTrap (List ℕ)

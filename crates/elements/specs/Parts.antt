@@ -43,15 +43,15 @@ pub record Back (t r : ℕ) : Type 0 where
   pub high : 2 ^ 25 ≤ t → r + 2 ^ 25 ≡ t
 
 -- What is wrong with a subscript: 3 a character, 2 a fraction, 1 out of range, 0 nothing; and the worst of all.
-abbrev pub faultOf : ℕ → Whole → ℕ → ℕ
-faultOf origin W.Character l = 3
-faultOf origin W.Fraction l = 2
-faultOf origin (W.Number negative n) l = cond (inRange origin (W.Number negative n) l) 0 1
+abbrev pub subscriptFault : ℕ → Whole → ℕ → ℕ
+subscriptFault origin W.Character l = 3
+subscriptFault origin W.Fraction l = 2
+subscriptFault origin (W.Number negative n) l = cond (inRange origin (W.Number negative n) l) 0 1
 
 abbrev pub worstOf : ℕ → List ℕ → List ℕ → ℕ
 worstOf origin [] ls = 0
 worstOf origin (w ∷ ws) [] = 0
-worstOf origin (w ∷ ws) (l ∷ ls) = max (faultOf origin (wholeOf w) l) (worstOf origin ws ls)
+worstOf origin (w ∷ ws) (l ∷ ls) = max (subscriptFault origin (wholeOf w) l) (worstOf origin ws ls)
 
 -- Subscripts that lead to a place of an array with these lengths.
 abbrev pub Within : ℕ → List ℕ → List ℕ → Type 0

@@ -3,7 +3,7 @@ ghost use mathlib.Core.Path.{_≡_};
 ghost use Prim.Native.Nat.{_≤_};
 ghost use lib.ListN.{length, take};
 ghost use Rattle.manual.specs.Values as values;
-ghost use Rattle.elements.specs.Answers.{finished, pairwiseBy, Paired};
+ghost use Rattle.elements.specs.Answers.{results, pairwiseBy, Paired};
 ghost use Rattle.elements.specs.Parts.{Operands};
 use crate::Finished;
 use crate::extension::extent;
@@ -15,7 +15,7 @@ use scalar::Answer;
 // The fast loops first, and where they do not serve, the exact one from the start.
 pub fn dyadic(op: Dyadic, a: &[u32], b: &[u32], out: &mut [u32]) -> Finished
     requires { ⌜ Paired (now a) (now b) × (values.extent (now a) (now b) ≤ length (now out)) × (values.extent (now a) (now b) ≤ 65536) ⌝ }
-    ensures { λ r. ⌜ finished r (take (values.extent (now (a .entry)) (now (b .entry))) (now (out .exit))) ≡ pairwiseBy op (now (a .entry)) (now (b .entry)) ⌝ }
+    ensures { λ r. ⌜ results r (take (values.extent (now (a .entry)) (now (b .entry))) (now (out .exit))) ≡ pairwiseBy op (now (a .entry)) (now (b .entry)) ⌝ }
 {
     let n = extent(a, b);
     if integers::all(op, a, b, n, out) {
@@ -27,7 +27,7 @@ pub fn dyadic(op: Dyadic, a: &[u32], b: &[u32], out: &mut [u32]) -> Finished
 // At the first trap the words of `out` so far are left.
 fn exact(op: Dyadic, a: &[u32], b: &[u32], n: usize, out: &mut [u32]) -> Finished
     requires { ⌜ Operands (now a) (now b) n × (n ≤ length (now out)) ⌝ }
-    ensures { λ r. ⌜ finished r (take n (now (out .exit))) ≡ pairwiseBy op (now (a .entry)) (now (b .entry)) ⌝ }
+    ensures { λ r. ⌜ results r (take n (now (out .exit))) ≡ pairwiseBy op (now (a .entry)) (now (b .entry)) ⌝ }
 {
     let mut i = 0;
     while i < n {

@@ -2,7 +2,7 @@
 ghost use mathlib.Core.Path.{_≡_};
 ghost use Prim.Native.Nat.{_≤_};
 ghost use lib.ListN.{length, take};
-ghost use Rattle.elements.specs.Answers.{finished, eachBy};
+ghost use Rattle.elements.specs.Answers.{results, eachBy};
 use crate::Finished;
 use operator::Monadic;
 use scalar::Answer;
@@ -10,7 +10,7 @@ use scalar::Answer;
 // At the first trap the words of `out` so far are left.
 pub fn monadic(operator: Monadic, a: &[u32], out: &mut [u32]) -> Finished
     requires { ⌜ length (now a) ≤ length (now out) ⌝ }
-    ensures { λ r. ⌜ finished r (take (length (now (a .entry))) (now (out .exit))) ≡ eachBy operator (now (a .entry)) ⌝ }
+    ensures { λ r. ⌜ results r (take (length (now (a .entry))) (now (out .exit))) ≡ eachBy operator (now (a .entry)) ⌝ }
 {
     let mut i = 0;
     while i < a.len() {

@@ -5,7 +5,7 @@ ghost use lib.ListN.{length, take};
 ghost use Rattle.scalar.specs.Reading.{wholeOf};
 ghost use Rattle.segment.specs.Blocks as layout;
 ghost use Rattle.manual.specs.Values as values;
-ghost use Rattle.elements.specs.Answers.{finished, shapeNamed, lengthsOf};
+ghost use Rattle.elements.specs.Answers.{results, shapeNamed, lengthsOf};
 use crate::Finished;
 use crate::Shape;
 use crate::kinds;
@@ -55,7 +55,7 @@ fn same(a: &[u32], b: &[u32]) -> bool
 // The lengths that a ravel's numbers are. The characters among them are judged before the other faults.
 pub fn lengths(ravel: &[u32], out: &mut [u32]) -> Finished
     requires { ⌜ length (now ravel) ≤ length (now out) ⌝ }
-    ensures { λ r. ⌜ finished r (take (length (now (ravel .entry))) (now (out .exit))) ≡ lengthsOf (now (ravel .entry)) ⌝ }
+    ensures { λ r. ⌜ results r (take (length (now (ravel .entry))) (now (out .exit))) ≡ lengthsOf (now (ravel .entry)) ⌝ }
 {
     if kinds::any_character(ravel) {
         return Finished::Trap(7, 0);
@@ -65,7 +65,7 @@ pub fn lengths(ravel: &[u32], out: &mut [u32]) -> Finished
 
 fn shorts(ravel: &[u32], out: &mut [u32]) -> Finished
     requires { ⌜ length (now ravel) ≤ length (now out) ⌝ }
-    ensures { λ r. ⌜ finished r (take (length (now (ravel .entry))) (now (out .exit))) ≡ values.shorts (now (ravel .entry)) ⌝ }
+    ensures { λ r. ⌜ results r (take (length (now (ravel .entry))) (now (out .exit))) ≡ values.shorts (now (ravel .entry)) ⌝ }
 {
     let mut i = 0;
     while i < ravel.len() {

@@ -6,7 +6,7 @@ ghost use Rattle.scalar.specs.Reading.{wholeOf};
 ghost use Rattle.segment.specs.Blocks as layout;
 ghost use Rattle.manual.specs.Values as values;
 ghost use Rattle.elements.specs.Answers.{placeNamed};
-ghost use Rattle.elements.specs.Parts.{faultOf, worstOf, Within};
+ghost use Rattle.elements.specs.Parts.{subscriptFault, worstOf, Within};
 use crate::Found;
 use scalar::Whole;
 use scalar::reading;
@@ -15,7 +15,7 @@ use segment::minus;
 // Where the subscripts lead in the ravel of an array with these lengths.
 pub fn place(origin: u32, subscripts: &[u32], lengths: &[u32]) -> Found
     requires { ⌜ (length (now subscripts) ≡ length (now lengths)) × (layout.product (now lengths) ≤ 65536) ⌝ }
-    ensures { λ r. ⌜ placeNamed r ≡ values.place origin (now (subscripts .entry)) (now (lengths .entry)) ⌝ }
+    ensures { λ r. ⌜ placeNamed r ≡ values.ravelPlace origin (now (subscripts .entry)) (now (lengths .entry)) ⌝ }
 {
     match worst(origin, subscripts, lengths) {
         0 => Found::At(place_of(origin, subscripts, lengths)),
@@ -46,7 +46,7 @@ fn greater(x: u32, y: u32) -> u32
 }
 
 fn fault(origin: u32, subscript: u32, length: u32) -> u32
-    ensures { λ r. ⌜ r ≡ faultOf origin (wholeOf subscript) length ⌝ }
+    ensures { λ r. ⌜ r ≡ subscriptFault origin (wholeOf subscript) length ⌝ }
 {
     match reading::whole(subscript) {
         Whole::Number {
@@ -60,7 +60,7 @@ fn fault(origin: u32, subscript: u32, length: u32) -> u32
 
 // 0 where the number is in range, else 1.
 fn outside(origin: u32, negative: bool, magnitude: u32, length: u32) -> u32
-    ensures { λ r. ⌜ r ≡ faultOf origin (Whole.Number negative magnitude) length ⌝ }
+    ensures { λ r. ⌜ r ≡ subscriptFault origin (Whole.Number negative magnitude) length ⌝ }
 {
     if negative {
         return 1;
@@ -77,7 +77,7 @@ fn outside(origin: u32, negative: bool, magnitude: u32, length: u32) -> u32
 // The place, for subscripts in range. All ranges are judged before: a zero length would let the earlier factors overflow.
 fn place_of(origin: u32, subscripts: &[u32], lengths: &[u32]) -> u32
     requires { ⌜ Within origin (now subscripts) (now lengths) ⌝ }
-    ensures { λ r. ⌜ r ≡ values.placeOf origin (now (subscripts .entry)) (now (lengths .entry)) ⌝ }
+    ensures { λ r. ⌜ r ≡ values.ravelOffset origin (now (subscripts .entry)) (now (lengths .entry)) ⌝ }
 {
     let mut at: u32 = 0;
     let mut i = 0;

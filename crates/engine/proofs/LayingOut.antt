@@ -19,7 +19,7 @@ use Rattle.fresh_segment.specs.LayOut.{Layout, chosen, localsOf, functionTest, 
 use Rattle.fresh_segment.proofs.Passed.{passed as passes}
 use Rattle.operations.specs.declared.Answer.{Answer}
 use Rattle.operations.specs.declared.Answer.the-variants.{Done, Refused}
-use Rattle.operations.specs.Answers.{answerOf}
+use Rattle.operations.specs.Answers.{doneOrRefused}
 use Rattle.audit.specs.Calls as call
 use Rattle.audit.specs.Did.{Promised}
 use Rattle.audit.proofs.LayOut.{lay-out-did}
@@ -60,7 +60,7 @@ module _ (regular alternate : List ℕ) (l : Layout) where
 module _ (s regular alternate : List ℕ) (l : Layout) where
   -- what lay out answers, and what it leaves
   abbrev pub Answers : Answer → List ℕ → Type 0
-  Answers answer after = (answer ≡ answerOf (layOutRefusal s regular alternate l)) × (after ≡ laidOut s regular alternate l)
+  Answers answer after = (answer ≡ doneOrRefused (layOutRefusal s regular alternate l)) × (after ≡ laidOut s regular alternate l)
 
   refused : (n : ℕ) → (n ≡ 0 → ⊥) → layOutRefusal s regular alternate l ≡ n → Answers (Refused n) s
   unfolding laidOut
@@ -123,7 +123,7 @@ module _ (s regular alternate : List ℕ) (l : Layout) where
 -- ---- the promise
 
 pub promised : (s regular alternate : List ℕ) (l : Layout) (answer : Answer) (after : List ℕ) → Answers s regular alternate l answer after
-    → (answer ≡ answerOf (layOutRefusal s regular alternate l))
+    → (answer ≡ doneOrRefused (layOutRefusal s regular alternate l))
     × ((after ≡ laidOut s regular alternate l) × Promised s (call.layOut (call.procedures regular alternate) l) (call.answerOf answer) after)
 unfolding Promised
 promised s regular alternate l answer after e = (e .0, (e .1, λ words lent. rw (e .0, e .1) (lay-out-did s (call.procedures regular alternate) l)))

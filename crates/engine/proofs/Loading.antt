@@ -19,11 +19,11 @@ use Rattle.acceptance_storage.proofs.Tests.{both, never}
 use Rattle.acceptance.specs.Refusal.{refusal}
 use Rattle.descriptor.proofs.Arrays.{scalar-array}
 use Rattle.effects_code.specs.declared.Done.the-variants as D
-use Rattle.effects_code.specs.Done.{storeShared, answer, attempt}
+use Rattle.effects_code.specs.Done.{storeShared, fullOrDone, attempt}
 use Rattle.effects_code.proofs.Placing.{full-by-need}
 use Rattle.operations.specs.declared.Answer.{Answer}
 use Rattle.operations.specs.declared.Answer.the-variants.{Done, Refused}
-use Rattle.operations.specs.Answers.{answerOf}
+use Rattle.operations.specs.Answers.{doneOrRefused}
 use Rattle.audit.specs.Calls as call
 use Rattle.audit.specs.Did.{Promised}
 use Rattle.audit.proofs.Load.{load-did}
@@ -61,7 +61,7 @@ told-done false same = refl
 module _ (s regular alternate : List ℕ) (g : ℕ) (lengths ravel : List ℕ) where
   -- what load answers, and what it leaves
   abbrev pub Answers : Answer → List ℕ → Type 0
-  Answers answer after = (answer ≡ answerOf (loadRefusal s regular alternate g lengths ravel)) × (after ≡ loaded s regular alternate g lengths ravel)
+  Answers answer after = (answer ≡ doneOrRefused (loadRefusal s regular alternate g lengths ravel)) × (after ≡ loaded s regular alternate g lengths ravel)
 
   refused : (n : ℕ) → (n ≡ 0 → ⊥) → loadRefusal s regular alternate g lengths ravel ≡ n → Answers (Refused n) s
   unfolding loaded
@@ -105,15 +105,15 @@ module _ (s regular alternate : List ℕ) (g : ℕ) (lengths ravel : List ℕ) w
             unfolding meaning.lacksRoom
             by-need = simp (lt-ltb 0 (length lengths) (omega (arith, rank))) (sym (full-by-need s lengths ravel effect refl))
 
-            pub full : D.Full ≡ answer s effect → Answers (Refused 24) after
-            unfolding answer attempt
+            pub full : D.Full ≡ fullOrDone s effect → Answers (Refused 24) after
+            unfolding fullOrDone attempt
             full told =
                 let e = told-full (isFull s effect) told in
                 let same = refused 24 (λ z. omega (arith, z)) (judged true (by-need ∙ e)) in
                 (same .0, left ∙ rw e (same .1))
 
-            pub array-stored : D.Done ≡ answer s effect → Answers Done after
-            unfolding answer attempt store
+            pub array-stored : D.Done ≡ fullOrDone s effect → Answers Done after
+            unfolding fullOrDone attempt store
             array-stored told =
                 let e = told-done (isFull s effect) told in
                 let same = done (judged false (by-need ∙ e)) in
@@ -123,7 +123,7 @@ module _ (s regular alternate : List ℕ) (g : ℕ) (lengths ravel : List ℕ) w
 
 pub promised : (s regular alternate : List ℕ) (g : ℕ) (lengths ravel : List ℕ) (answer : Answer) (after : List ℕ)
     → Answers s regular alternate g lengths ravel answer after
-    → (answer ≡ answerOf (loadRefusal s regular alternate g lengths ravel))
+    → (answer ≡ doneOrRefused (loadRefusal s regular alternate g lengths ravel))
     × ((after ≡ loaded s regular alternate g lengths ravel) × Promised s (call.load (call.procedures regular alternate) g lengths ravel) (call.answerOf answer) after)
 unfolding Promised
 promised s regular alternate g lengths ravel answer after e =

@@ -9,7 +9,7 @@ use Rattle.effects.specs.declared.Ran.{Ran}
 use Rattle.effects.specs.Run as machine
 use Rattle.operations.specs.declared.Run.{Run}
 use Rattle.operations.specs.declared.Run.the-variants.{Refused}
-use Rattle.operations.specs.Run.{Ended, ended, runAnswer, accepted, ran}
+use Rattle.operations.specs.Run.{Ended, ended, acceptedRun, acceptedEnd, ran}
 use Rattle.audit.specs.Calls as call
 use Rattle.audit.specs.Did.{Did, Promised}
 use Rattle.audit.proofs.Run.{run-did}
@@ -37,11 +37,11 @@ module _ (s regular alternate : List ℕ) (budget : ℕ) where
   unaccepted n same some = promised (Refused n) s (simp (← same, ne-eqb n 0 some))
 
   module _ (passed : 0 ≡ refusal s regular alternate) (after : List ℕ) where
-    has-run : (r : Ran) → machine.ended r after ≡ machine.stepsFrom budget 0 regular alternate (set s 3 0) → ended (runAnswer r) after ≡ ran s regular alternate budget
+    has-run : (r : Ran) → machine.runResult r after ≡ machine.stepsFrom budget 0 regular alternate (set s 3 0) → ended (acceptedRun r) after ≡ ran s regular alternate budget
     unfolding ran machine.runOf
-    has-run r same = simp (← passed) (ap accepted same)
+    has-run r same = simp (← passed) (ap acceptedEnd same)
 
     -- from the words with word 3 zero
-    pub has-ended : (start : List ℕ) → start ≡ set s 3 0 → (told r : Ran) → told ≡ r → machine.ended told after ≡ machine.stepsFrom budget 0 regular alternate start
-        → Answers (runAnswer r) after
-    has-ended start zero told r known same = promised (runAnswer r) after (has-run r (rw (zero, known) at same))
+    pub has-ended : (start : List ℕ) → start ≡ set s 3 0 → (told r : Ran) → told ≡ r → machine.runResult told after ≡ machine.stepsFrom budget 0 regular alternate start
+        → Answers (acceptedRun r) after
+    has-ended start zero told r known same = promised (acceptedRun r) after (has-run r (rw (zero, known) at same))

@@ -1,6 +1,6 @@
 // Lay out: a fresh data segment.
 ghost use mathlib.Core.Path.{_≡_};
-ghost use Rattle.operations.specs.Answers.{answerOf};
+ghost use Rattle.operations.specs.Answers.{doneOrRefused};
 ghost use Rattle.fresh_segment.specs.LayOut as meaning;
 ghost use Rattle.audit.specs.Calls as call;
 ghost use Rattle.audit.specs.Did.{Promised};
@@ -20,7 +20,7 @@ pub fn lay_out(
     globals: u32,
     storage: u32,
 ) -> Answer
-    ensures { λ r. ⌜ r ≡ answerOf (meaning.layOutRefusal (now (seg .entry)) (now (regular .entry)) (now (alternate .entry))
+    ensures { λ r. ⌜ r ≡ doneOrRefused (meaning.layOutRefusal (now (seg .entry)) (now (regular .entry)) (now (alternate .entry))
         (meaning.layout selector function globals storage)) ⌝ }
     ensures { λ _. ⌜ now (seg .exit) ≡ meaning.laidOut (now (seg .entry)) (now (regular .entry)) (now (alternate .entry))
         (meaning.layout selector function globals storage) ⌝ }

@@ -1,6 +1,6 @@
 // Load: a value into a global.
 ghost use mathlib.Core.Path.{_≡_};
-ghost use Rattle.operations.specs.Answers.{answerOf};
+ghost use Rattle.operations.specs.Answers.{doneOrRefused};
 ghost use Rattle.operations.specs.Load as meaning;
 ghost use Rattle.audit.specs.Calls as call;
 ghost use Rattle.audit.specs.Did.{Promised};
@@ -22,7 +22,7 @@ pub fn load(
     lengths: &[u32],
     ravel: &[u32],
 ) -> Answer
-    ensures { λ r. ⌜ r ≡ answerOf (meaning.loadRefusal (now (seg .entry)) (now (regular .entry)) (now (alternate .entry))
+    ensures { λ r. ⌜ r ≡ doneOrRefused (meaning.loadRefusal (now (seg .entry)) (now (regular .entry)) (now (alternate .entry))
         global (now (lengths .entry)) (now (ravel .entry))) ⌝ }
     ensures { λ _. ⌜ now (seg .exit) ≡ meaning.loaded (now (seg .entry)) (now (regular .entry)) (now (alternate .entry))
         global (now (lengths .entry)) (now (ravel .entry)) ⌝ }

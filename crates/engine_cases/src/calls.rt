@@ -21,7 +21,15 @@ fn lay_out(seg: &mut [u32], regular: &[u8], alternate: &[u8], numbers: &[u32]) {
     let function = word(numbers, 1);
     let globals = word(numbers, 2);
     let storage = word(numbers, 3);
-    say_answer(engine::lay_out::lay_out(seg, regular, alternate, selector, function, globals, storage));
+    say_answer(engine::lay_out::lay_out(
+        seg,
+        regular,
+        alternate,
+        selector,
+        function,
+        globals,
+        storage,
+    ));
 }
 
 fn run(seg: &mut [u32], regular: &[u8], alternate: &[u8], budget: u32) {

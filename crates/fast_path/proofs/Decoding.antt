@@ -42,7 +42,7 @@ use Rattle.instruction.specs.declared.cursor.FetchedHalf.the-variants.{Half, Ou
 use Rattle.instruction.specs.declared.cursor.FetchedWord.the-variants.{Word, Outside as NoWord}
 use Rattle.instruction.specs.Reading.{codeAddress, cursorAt, fetchByte, fetchHalf, fetchWord, withByte, withHalf}
 use Rattle.instruction.specs.Variables.{addressIn, addressAt}
-use Rattle.instruction.specs.Decoding.{done, loadAt, shortConstant, shortConstantAt, scalarAt, memoryAt, constantScalarAt, jumpAt, etcAt, familyAt, instructionAt}
+use Rattle.instruction.specs.Decoding.{decodedTo, loadAt, shortConstantOf, shortConstantAt, scalarAt, memoryAt, constantScalarAt, jumpAt, etcAt, familyAt, instructionAt}
 use Rattle.instruction.proofs.Ranges.{is-short-local}
 use Rattle.manual.specs.Seen.{variablesOf}
 use Rattle.manual.specs.Effects.{word, Plan}
@@ -52,7 +52,7 @@ use Rattle.manual.specs.Control as control
 use Rattle.manual.specs.Instructions.{Running, headerOf, resolve, memoryPlan, stackPlan, jumpPlan, planOf, planDecoded}
 use Rattle.effects.specs.Seen.{seen}
 use Rattle.fast_path.specs.Answers.{DoneOrKept}
-use Rattle.fast_path.specs.Naming.{Names, assignment, assigning}
+use Rattle.fast_path.specs.Naming.{Names, assignment, assignEntry}
 use Rattle.fast_path.proofs.Answers.{went-as}
 use Rattle.fast_path.proofs.Standing.{fetched}
 
@@ -102,10 +102,10 @@ module _ (s : List ℕ) (f : Running) (place : ℕ) {r : Bool} {t : List ℕ} wh
         short : half % 2 ^ 12 % 2 ^ 12 ≡ half % 2 ^ 12
         short = omega arith
 
-        stands : withByte (fetchByte code (after place)) (D.Trap 3 1) (λ b c. done (shortConstant (first * 2 ^ 8 + b)) c) ≡ D.Instruction (shortConstant half) (codeAddress next)
+        stands : withByte (fetchByte code (after place)) (D.Trap 3 1) (λ b c. decodedTo (shortConstantOf (first * 2 ^ 8 + b)) c) ≡ D.Instruction (shortConstantOf half) (codeAddress next)
         stands =
             let on : place + 1 + 1 ≡ place + 2 = omega arith in
-            fetched code (place + 1) (D.Trap 3 1) (λ b c. done (shortConstant (first * 2 ^ 8 + b)) c) inside
+            fetched code (place + 1) (D.Trap 3 1) (λ b c. decodedTo (shortConstantOf (first * 2 ^ 8 + b)) c) inside
             ∙ rw (on, behind, whole)
 
     -- An address starts at `at`, after the first byte.
@@ -119,25 +119,25 @@ module _ (s : List ℕ) (f : Running) (place : ℕ) {r : Bool} {t : List ℕ} wh
 
       -- MEMREF: an address of one byte, which is below 64, or of two.
       module _ {first : ℕ} (keep : Bool) (inside : at < length code) (second : first ≡ getD code at 0) {next : ℕ} where
-        assign-by : {a : Address} {end : ℕ} → addressIn code (cursorAt (at + 1)) first (familyOf first) ≡ F.At a (cursorAt end) → next ≡ end % 2 ^ 32 → DoneOrKept s (memoryPlan (seen s) next (assignment keep) (resolve (seen s) (headerOf f) a)) r t → Planned s f r t (memoryAt code (after place) (assigning keep))
+        assign-by : {a : Address} {end : ℕ} → addressIn code (cursorAt (at + 1)) first (familyOf first) ≡ F.At a (cursorAt end) → next ≡ end % 2 ^ 32 → DoneOrKept s (memoryPlan (seen s) next (assignment keep) (resolve (seen s) (headerOf f) a)) r t → Planned s f r t (memoryAt code (after place) (assignEntry keep))
         unfolding memoryAt addressAt planOf
         assign-by {a} {end} fetches behind answer = went-as (rw (← here, stands, behind)) answer
           where
             stands : withByte (fetchByte code (cursorAt at)) (F.Trap 3 1) (λ b c. addressIn code c b (familyOf b)) ≡ F.At a (cursorAt end)
             stands = fetched code at (F.Trap 3 1) (λ b c. addressIn code c b (familyOf b)) inside ∙ rw (← second) fetches
 
-        pub short-assign-by : {variables : ℕ} → next ≡ (place + 2) % 2 ^ 32 → first < 0x40 → variablesOf (headerOf f) ≡ variables → DoneOrKept s (memoryPlan (seen s) next (assignment keep) (seen s .local variables (64 - first))) r t → Planned s f r t (memoryAt code (after place) (assigning keep))
+        pub short-assign-by : {variables : ℕ} → next ≡ (place + 2) % 2 ^ 32 → first < 0x40 → variablesOf (headerOf f) ≡ variables → DoneOrKept s (memoryPlan (seen s) next (assignment keep) (seen s .local variables (64 - first))) r t → Planned s f r t (memoryAt code (after place) (assignEntry keep))
         short-assign-by behind low same answer =
             let on : (place + 2) % 2 ^ 32 ≡ (at + 1) % 2 ^ 32 = ap (λ (n : ℕ). n % 2 ^ 32) (omega (arith, here)) in
             assign-by (short-address code first (cursorAt (at + 1)) low) (behind ∙ on)
             (went-as (ap (λ (n : ℕ). memoryPlan (seen s) next (assignment keep) (seen s .local n (64 - first))) (sym same)) answer)
 
-        pub long-assign-by : (family : Family) {variables i : ℕ} → next ≡ (place + 3) % 2 ^ 32 → family ≡ familyOf first → (named : Names s variables (addressIn code (cursorAt (at + 1)) first family) (at + 1 + 1) i) → DoneOrKept s (memoryPlan (seen s) next (assignment keep) (resolve (seen s) (headerOf f) (named .address))) r t → Planned s f r t (memoryAt code (after place) (assigning keep))
+        pub long-assign-by : (family : Family) {variables i : ℕ} → next ≡ (place + 3) % 2 ^ 32 → family ≡ familyOf first → (named : Names s variables (addressIn code (cursorAt (at + 1)) first family) (at + 1 + 1) i) → DoneOrKept s (memoryPlan (seen s) next (assignment keep) (resolve (seen s) (headerOf f) (named .address))) r t → Planned s f r t (memoryAt code (after place) (assignEntry keep))
         long-assign-by family behind found named answer =
             let on : (place + 3) % 2 ^ 32 ≡ (at + 1 + 1) % 2 ^ 32 = ap (λ (n : ℕ). n % 2 ^ 32) (omega (arith, here)) in
             assign-by (ap (addressIn code (cursorAt (at + 1)) first) (sym found) ∙ named .fetches) (behind ∙ on) answer
 
-    pub memory-by : {sub : MemorySuboperation} {o : MemoryOperation} (keep : Bool) → sub ≡ N.Defined o → o ≡ assignment keep → Planned s f r t (memoryAt code (after place) (assigning keep)) → Planned s f r t (memoryAt code (after place) sub)
+    pub memory-by : {sub : MemorySuboperation} {o : MemoryOperation} (keep : Bool) → sub ≡ N.Defined o → o ≡ assignment keep → Planned s f r t (memoryAt code (after place) (assignEntry keep)) → Planned s f r t (memoryAt code (after place) sub)
     memory-by keep defined assign answer = rw (defined, assign) answer
 
     -- ETC
@@ -173,10 +173,10 @@ module _ (s : List ℕ) (f : Running) (place : ℕ) {r : Bool} {t : List ℕ} wh
       unfolding jumpAt planOf
       planned jump told same answer = went-as (rw (told, same) (sym (ap (planDecoded f (seen s)) stands))) answer
         where
-          stands : withHalf (fetchHalf code (after place)) (D.Trap 3 1) (λ b c. done (I.Jump jump (codeAddress b)) c) ≡ D.Instruction (I.Jump jump (codeAddress to)) (codeAddress next)
+          stands : withHalf (fetchHalf code (after place)) (D.Trap 3 1) (λ b c. decodedTo (I.Jump jump (codeAddress b)) c) ≡ D.Instruction (I.Jump jump (codeAddress to)) (codeAddress next)
           stands =
               let on : place + 1 + 1 + 1 ≡ place + 3 = omega arith in
-              half-fetched code (place + 1) (D.Trap 3 1) (λ b c. done (I.Jump jump (codeAddress b)) c) inside
+              half-fetched code (place + 1) (D.Trap 3 1) (λ b c. decodedTo (I.Jump jump (codeAddress b)) c) inside
               ∙ rw (on, behind, is)
 
       pub go-by : kind ≡ J.Go → DoneOrKept s (control.go h to) r t → Planned s f r t (jumpAt code (after place) kind)

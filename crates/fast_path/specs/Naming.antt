@@ -54,5 +54,5 @@ abbrev pub assignment : Bool → MemoryOperation
 assignment true = Assign
 assignment false = AssignNoResult
 
-abbrev pub assigning : Bool → MemorySuboperation
-assigning keep = Defined (assignment keep)
+abbrev pub assignEntry : Bool → MemorySuboperation
+assignEntry keep = Defined (assignment keep)

@@ -7,7 +7,7 @@ ghost use Rattle.instruction.specs.Decoding as decoding;
 ghost use Rattle.manual.specs.Loads as loads;
 ghost use Rattle.manual.specs.Instructions as plan;
 ghost use Rattle.fast_path.specs.Answers.{CarriesOutIf, CarriesOutIn, Any, WithHeader, WithVariables, past};
-ghost use Rattle.fast_path.specs.Naming.{assigning};
+ghost use Rattle.fast_path.specs.Naming.{assignEntry};
 
 mod doing;
 mod naming;
@@ -161,7 +161,7 @@ fn memory(
 // ASSIGN keeps the value on the stack, ASSIGN_NORESULT does not.
 fn assign(seg: &mut [u32], variables: u32, code: &[u8], keep: bool, place: CodeAddress) -> bool
     ensures { λ r. ⌜ CarriesOutIn (now (seg .entry)) r (now (seg .exit)) (WithVariables variables)
-        (decoding.memoryAt (now (code .entry)) (past place) (assigning keep)) ⌝ }
+        (decoding.memoryAt (now (code .entry)) (past place) (assignEntry keep)) ⌝ }
 {
     let at = place.number() as usize + 1;
     if code.len() <= at {

@@ -10,7 +10,7 @@ use Rattle.segment.specs.Stack.{codeWordAt}
 use Rattle.storage.specs.Owned.{ArrayIn}
 use Rattle.segment.specs.View.{view}
 use Rattle.acceptance.specs.Frames.{arguments, variables}
-use Rattle.acceptance.specs.Structure.{Bottom, Chain, Direct, FrameCells, StackCells, Accepted}
+use Rattle.acceptance.specs.Structure.{Bottom, FrameChain, Direct, FrameCells, StackCells, Accepted}
 use Rattle.acceptance.proofs.Owners.{owners-name}
 use Rattle.fresh_segment.specs.LayOut.{Layout, baseOf, localsOf, fresh}
 use Rattle.fresh_segment.specs.Fresh.{freshView, FreshTheorem}
@@ -68,7 +68,7 @@ module _ (s regular alternate : List ℕ) (l : Layout) (h : Passed s regular alt
   abbrev Arrays : ℕ → Type 0
   Arrays a = (size : ℕ) × ArrayIn (blockptr after) (blocksOf l) a size
 
-  chain : Chain after regular alternate (lbase after) []
+  chain : FrameChain after regular alternate (lbase after) []
   chain = rw lbase-is bottom
 
   cells : StackCells Arrays after regular alternate (lbase after) (ltop after + 1) []

@@ -90,7 +90,7 @@ module _ {regular alternate : List ℕ} {l : Layout} (h : BottomFunction regular
   made : wordOf l ≡ l .selector * 2 ^ 27 + l .function * 2 ^ 16 + 8
   made = word-made l (h .selector)
 
-  word-alternate : stack.alternate (wordOf l) ≡ l .selector
+  word-alternate : stack.alternateBit (wordOf l) ≡ l .selector
   word-alternate = rw made (omega (arith, h .selector, h .number))
 
   word-function : stack.functionNumber (wordOf l) ≡ l .function

@@ -28,34 +28,34 @@ use Rattle.instruction.specs.Variables.{addressIn, addressAt, withAddres
 use Rattle.instruction.specs.Tables.{memoryOf, etcOf}
 
 -- An instruction, and the place where the cursor stands after it.
-abbrev pub done : Instruction → Cursor → Decoded
-done i c = Done i (placeOf c)
+abbrev pub decodedTo : Instruction → Cursor → Decoded
+decodedTo i c = Done i (placeOf c)
 
 -- SHORTLOCAL, LONGLOCAL and LONGGLOBAL.
 unfoldable pub loadAt : List ℕ → Cursor → ℕ → Family → Decoded
-loadAt code c first family = withAddress (addressIn code c first family) Trap (λ a next. done (I.Load a) next)
+loadAt code c first family = withAddress (addressIn code c first family) Trap (λ a next. decodedTo (I.Load a) next)
 
 -- SHORTCONST: sign bit 12, magnitude 11–0 of two bytes.
-abbrev pub shortConstant : ℕ → Instruction
-shortConstant half = I.ShortConstant (bitOf 12 half) (half % 2 ^ 12)
+abbrev pub shortConstantOf : ℕ → Instruction
+shortConstantOf half = I.ShortConstant (bitOf 12 half) (half % 2 ^ 12)
 
 unfoldable pub shortConstantAt : List ℕ → Cursor → ℕ → Decoded
 shortConstantAt code c first =
-    withByte (fetchByte code c) (Trap 3 1) (λ second next. done (shortConstant (first * 2 ^ 8 + second)) next)
+    withByte (fetchByte code c) (Trap 3 1) (λ second next. decodedTo (shortConstantOf (first * 2 ^ 8 + second)) next)
 
 -- GENSCALAR: an undefined suboperation is (3,9).
 abbrev pub scalarAt : Suboperation → Cursor → Decoded
-scalarAt (O.Defined o) c = done (I.Scalar o) c
+scalarAt (O.Defined o) c = decodedTo (I.Scalar o) c
 scalarAt O.Undefined c = Trap 3 9
 
 -- MEMREF: an undefined suboperation is (3,8), whatever the address is.
 unfoldable pub memoryAt : List ℕ → Cursor → MemorySuboperation → Decoded
-memoryAt code c (M.Defined o) = withAddress (addressAt code c) Trap (λ a next. done (I.Memory o a) next)
+memoryAt code c (M.Defined o) = withAddress (addressAt code c) Trap (λ a next. decodedTo (I.Memory o a) next)
 memoryAt code c M.Undefined = Trap 3 8
 
 -- CONSTANT_SCALAR: four bytes.
 unfoldable pub constantScalarAt : List ℕ → Cursor → Decoded
-constantScalarAt code c = withWord (fetchWord code c) (Trap 3 1) (λ w next. done (I.ConstantScalar w) next)
+constantScalarAt code c = withWord (fetchWord code c) (Trap 3 1) (λ w next. decodedTo (I.ConstantScalar w) next)
 
 -- CONSTANT_VECTOR: a count, and that many words from the next word boundary on.
 unfoldable pub constantVectorAt : List ℕ → Cursor → Decoded
@@ -63,24 +63,24 @@ constantVectorAt code c =
     withByte (fetchByte code c) (Trap 3 1)
     (λ count next.
     withWords (fetchWords code next count) (Trap 3 1)
-    (λ first after. done (I.ConstantVector count (placeOf first)) after))
+    (λ first after. decodedTo (I.ConstantVector count (placeOf first)) after))
 
 -- GO, GO_TRUE and GO_FALSE: two bytes, a code address.
 unfoldable pub jumpAt : List ℕ → Cursor → Jump → Decoded
-jumpAt code c jump = withHalf (fetchHalf code c) (Trap 3 1) (λ v next. done (I.Jump jump (codeAddress v)) next)
+jumpAt code c jump = withHalf (fetchHalf code c) (Trap 3 1) (λ v next. decodedTo (I.Jump jump (codeAddress v)) next)
 
 -- CALL: two bytes, NARGS 4 bits, P, function 11 bits.
-abbrev pub call : ℕ → Instruction
-call half = I.Call (half / 2 ^ 12) (bitOf 11 half) (half % 2 ^ 11)
+abbrev pub callOf : ℕ → Instruction
+callOf half = I.Call (half / 2 ^ 12) (bitOf 11 half) (half % 2 ^ 11)
 
 unfoldable pub callAt : List ℕ → Cursor → Decoded
-callAt code c = withHalf (fetchHalf code c) (Trap 3 1) (λ v next. done (call v) next)
+callAt code c = withHalf (fetchHalf code c) (Trap 3 1) (λ v next. decodedTo (callOf v) next)
 
 -- ETC: an undefined suboperation is (3,11).
 unfoldable pub etcAt : List ℕ → Cursor → EtcSuboperation → Decoded
-etcAt code c (E.Stack o) = done (I.Stack o) c
-etcAt code c (E.Array o) = done (I.Array o) c
-etcAt code c (E.Control o) = done (I.Control o) c
+etcAt code c (E.Stack o) = decodedTo (I.Stack o) c
+etcAt code c (E.Array o) = decodedTo (I.Array o) c
+etcAt code c (E.Control o) = decodedTo (I.Control o) c
 etcAt code c (E.Jump jump) = jumpAt code c jump
 etcAt code c E.ConstantScalar = constantScalarAt code c
 etcAt code c E.ConstantVector = constantVectorAt code c
@@ -96,7 +96,7 @@ familyAt code c first MemRef = memoryAt code c (memoryOf (first % 2 ^ 5))
 familyAt code c first Etc = etcAt code c (etcOf (first % 2 ^ 5))
 familyAt code c first LongLocal = loadAt code c first LongLocal
 familyAt code c first LongGlobal = loadAt code c first LongGlobal
-familyAt code c first Index = done (I.Index (first % 2 ^ 4)) c
+familyAt code c first Index = decodedTo (I.Index (first % 2 ^ 4)) c
 familyAt code c first Unassigned = Trap 3 11
 
 -- The instruction at a place of a function's code, which starts at byte 8. Whether CALL's function is there is judged by its plan.

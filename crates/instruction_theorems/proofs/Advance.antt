@@ -32,37 +32,37 @@ use Rattle.instruction.specs.Families.{familyOf}
 use Rattle.instruction.specs.Reading.{boundary, codeAddress, cursorAt, placeOf, fetchByte, fetchHalf, fetchWord, fetchWords, withByte, withHalf, withWord, withWords}
 use Rattle.instruction.specs.Variables.{longLocal, longGlobal, addressIn, addressAt, withAddress}
 use Rattle.instruction.specs.Tables.{memoryOf, etcOf}
-use Rattle.instruction.specs.Decoding.{done, shortConstant, call, loadAt, shortConstantAt, scalarAt, memoryAt, constantScalarAt, constantVectorAt, jumpAt, callAt, etcAt, familyAt, instructionAt}
+use Rattle.instruction.specs.Decoding.{decodedTo, shortConstantOf, callOf, loadAt, shortConstantAt, scalarAt, memoryAt, constantScalarAt, constantVectorAt, jumpAt, callAt, etcAt, familyAt, instructionAt}
 use Rattle.instruction_theorems.specs.Theorems.{Next}
 use Rattle.instruction_theorems.proofs.Cases.{byte-cases, half-cases, word-cases, words-cases}
 
 module _ (code : List ℕ) (short : length code < 2 ^ 32) (place : ℕ) (low : 8 ≤ place) where
-  next : (i : Instruction) (c : Cursor) → place < c .at → c .at ≤ length code → Next place code (done i c)
+  next : (i : Instruction) (c : Cursor) → place < c .at → c .at ≤ length code → Next place code (decodedTo i c)
   next i c l h =
       let e : c .at % 2 ^ 32 ≡ c .at = omega arith in
       (low, omega arith, omega arith)
 
   next-byte : (c : Cursor) → place < c .at → (f : ℕ → Instruction)
-      → Next place code (withByte (fetchByte code c) (Trap 3 1) (λ v after. done (f v) after))
+      → Next place code (withByte (fetchByte code c) (Trap 3 1) (λ v after. decodedTo (f v) after))
   next-byte c l f =
       byte-cases code c
-      (λ (x : FetchedByte). Next place code (withByte x (Trap 3 1) (λ v after. done (f v) after)))
+      (λ (x : FetchedByte). Next place code (withByte x (Trap 3 1) (λ v after. decodedTo (f v) after)))
       tt
       (λ h. next (f (getD code (c .at) 0)) (cursorAt (c .at + 1)) (omega arith) (omega arith))
 
   next-half : (c : Cursor) → place < c .at → (f : ℕ → Instruction)
-      → Next place code (withHalf (fetchHalf code c) (Trap 3 1) (λ v after. done (f v) after))
+      → Next place code (withHalf (fetchHalf code c) (Trap 3 1) (λ v after. decodedTo (f v) after))
   next-half c l f =
       half-cases code c
-      (λ (x : FetchedHalf). Next place code (withHalf x (Trap 3 1) (λ v after. done (f v) after)))
+      (λ (x : FetchedHalf). Next place code (withHalf x (Trap 3 1) (λ v after. decodedTo (f v) after)))
       tt
       (λ v h. next (f v) (cursorAt (c .at + 1 + 1)) (omega arith) (omega arith))
 
   next-word : (c : Cursor) → place < c .at → (f : ℕ → Instruction)
-      → Next place code (withWord (fetchWord code c) (Trap 3 1) (λ v after. done (f v) after))
+      → Next place code (withWord (fetchWord code c) (Trap 3 1) (λ v after. decodedTo (f v) after))
   next-word c l f =
       word-cases code c
-      (λ (x : FetchedWord). Next place code (withWord x (Trap 3 1) (λ v after. done (f v) after)))
+      (λ (x : FetchedWord). Next place code (withWord x (Trap 3 1) (λ v after. decodedTo (f v) after)))
       tt
       (λ w h. next (f w) (cursorAt (c .at + 1 + 1 + 1 + 1)) (omega arith) (omega arith))
 
@@ -81,7 +81,7 @@ module _ (code : List ℕ) (short : length code < 2 ^ 32) (place : ℕ) (low : 8
       (cursorAt (boundary (c .at + 1) + 4 * getD code (c .at) 0)) (omega arith) h₂))
     where
       taken : ℕ → Cursor → Cursor → Decoded
-      taken count first after = done (I.ConstantVector count (placeOf first)) after
+      taken count first after = decodedTo (I.ConstantVector count (placeOf first)) after
 
       counted : ℕ → Cursor → Decoded
       counted count after = withWords (fetchWords code after count) (Trap 3 1) (taken count)
@@ -114,7 +114,7 @@ module _ (code : List ℕ) (short : length code < 2 ^ 32) (place : ℕ) (low : 8
   unfolding loadAt
   next-load c l h first family =
       address-in-cases c l h first family
-      (λ (x : FetchedAddress). Next place code (withAddress x Trap (λ a after. done (I.Load a) after)))
+      (λ (x : FetchedAddress). Next place code (withAddress x Trap (λ a after. decodedTo (I.Load a) after)))
       (λ class number. tt)
       (λ a d l₂ h₂. next (I.Load a) d l₂ h₂)
 
@@ -123,11 +123,11 @@ module _ (code : List ℕ) (short : length code < 2 ^ 32) (place : ℕ) (low : 8
   next-memory c l M.Undefined = tt
   next-memory c l (M.Defined o) =
       byte-cases code c
-      (λ (x : FetchedByte). Next place code (withAddress (withByte x (NoAddress 3 1) (λ first after. addressIn code after first (familyOf first))) Trap (λ a after. done (I.Memory o a) after)))
+      (λ (x : FetchedByte). Next place code (withAddress (withByte x (NoAddress 3 1) (λ first after. addressIn code after first (familyOf first))) Trap (λ a after. decodedTo (I.Memory o a) after)))
       tt
       (λ h.
       address-in-cases (cursorAt (c .at + 1)) (omega arith) (omega arith) (getD code (c .at) 0) (familyOf (getD code (c .at) 0))
-      (λ (x : FetchedAddress). Next place code (withAddress x Trap (λ a after. done (I.Memory o a) after)))
+      (λ (x : FetchedAddress). Next place code (withAddress x Trap (λ a after. decodedTo (I.Memory o a) after)))
       (λ class number. tt)
       (λ a d l₂ h₂. next (I.Memory o a) d l₂ h₂))
 
@@ -143,14 +143,14 @@ module _ (code : List ℕ) (short : length code < 2 ^ 32) (place : ℕ) (low : 8
   next-etc c l h (E.Jump jump) = next-half c l (λ v. I.Jump jump (codeAddress v))
   next-etc c l h E.ConstantScalar = next-word c l (λ w. I.ConstantScalar w)
   next-etc c l h E.ConstantVector = next-vector c l
-  next-etc c l h E.Call = next-half c l call
+  next-etc c l h E.Call = next-half c l callOf
   next-etc c l h E.Undefined = tt
 
   next-family : (c : Cursor) → place < c .at → c .at ≤ length code → (first : ℕ) (family : Family)
       → Next place code (familyAt code c first family)
   unfolding familyAt shortConstantAt
   next-family c l h first ShortLocal = next-load c l h first ShortLocal
-  next-family c l h first ShortConst = next-byte c l (λ second. shortConstant (first * 2 ^ 8 + second))
+  next-family c l h first ShortConst = next-byte c l (λ second. shortConstantOf (first * 2 ^ 8 + second))
   next-family c l h first GenScalar = next-scalar c l h (operatorOf (first % 2 ^ 5))
   next-family c l h first MemRef = next-memory c l (memoryOf (first % 2 ^ 5))
   next-family c l h first Etc = next-etc c l h (etcOf (first % 2 ^ 5))

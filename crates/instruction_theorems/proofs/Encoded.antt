@@ -22,15 +22,15 @@ use Rattle.instruction.specs.declared.variable.FetchedAddress.the-variants.{At}
 use Rattle.instruction.specs.Families.{familyOf}
 use Rattle.instruction.specs.Reading.{boundary, codeAddress, cursorAt, fetchWords}
 use Rattle.instruction.specs.Variables.{addressIn, addressAt}
-use Rattle.instruction.specs.Decoding.{done, loadAt, shortConstantAt, memoryAt, constantScalarAt, constantVectorAt, jumpAt, callAt, familyAt, instructionAt}
-use Rattle.instruction_theorems.specs.Encoder.{operatorNumber, memoryNumber, stackNumber, arrayNumber, controlNumber, jumpNumber, halfBytes, wordBytes, wordsBytes, localBytes, addressBytes, fill, encode, AddressFits, MemoryFits, Encodable}
+use Rattle.instruction.specs.Decoding.{decodedTo, loadAt, shortConstantAt, memoryAt, constantScalarAt, constantVectorAt, jumpAt, callAt, familyAt, instructionAt}
+use Rattle.instruction_theorems.specs.Encoder.{operatorNumber, memoryNumber, stackNumber, arrayNumber, controlNumber, jumpNumber, halfBytes, wordBytes, wordsBytes, localBytes, addressBytes, padding, encode, AddressFits, MemoryFits, Encodable}
 use Rattle.instruction_theorems.specs.Theorems.{Stand}
 use Rattle.instruction_theorems.proofs.Stands.{stand-length, byte-here, first-here, half-here, word-here}
 use Rattle.instruction.proofs.Ranges.{is-short-local, is-short-const, is-long-local, is-long-global}
 use Rattle.instruction_theorems.proofs.Forms.{scalar-form, stack-form, array-form, control-form, jump-form, word-form, vector-form, call-form, memory-form, index-form, joined, joined-word, bit-back}
 
 -- The place of an instruction's end, as a code address.
-ended : (i : Instruction) (m n : ℕ) → m ≡ n → n < 2 ^ 32 → done i (cursorAt m) ≡ Done i (codeAddress n)
+ended : (i : Instruction) (m n : ℕ) → m ≡ n → n < 2 ^ 32 → decodedTo i (cursorAt m) ≡ Done i (codeAddress n)
 ended i m n e h = let f : m % 2 ^ 32 ≡ n = omega arith in rw f
 
 -- An address that stands in the code: its first byte, the family of that byte, and what is read.
@@ -116,11 +116,11 @@ words-length : (words : List ℕ) → length (wordsBytes words) ≡ 4 * length w
 words-length [] = refl
 words-length (w ∷ words) = let e : length (wordsBytes words) ≡ 4 * length words = words-length words in omega arith
 
-vector-length : (at : ℕ) (words : List ℕ) → length (fill at ++ wordsBytes words) ≡ boundary at - at + 4 * length words
-vector-length at words = rw (length-append (fill at) (wordsBytes words), length-replicate {A = ℕ} (boundary at - at) 0, words-length words)
+vector-length : (at : ℕ) (words : List ℕ) → length (padding at ++ wordsBytes words) ≡ boundary at - at + 4 * length words
+vector-length at words = rw (length-append (padding at) (wordsBytes words), length-replicate {A = ℕ} (boundary at - at) 0, words-length words)
 
 module _ (code : List ℕ) (short : length code < 2 ^ 32) (at : ℕ) (low : 8 ≤ at) where
-  one-byte : (i : Instruction) (b : ℕ) → familyAt code (cursorAt (at + 1)) b (familyOf b) ≡ done i (cursorAt (at + 1))
+  one-byte : (i : Instruction) (b : ℕ) → familyAt code (cursorAt (at + 1)) b (familyOf b) ≡ decodedTo i (cursorAt (at + 1))
       → Stand code at (b ∷ []) → instructionAt code at ≡ Done i (codeAddress (at + 1))
   one-byte i b form s = first-here code at low b [] s ∙ (form ∙ ended i (at + 1) (at + 1) refl (omega (arith, s .0)))
 
@@ -183,21 +183,21 @@ module _ (code : List ℕ) (short : length code < 2 ^ 32) (at : ℕ) (low : 8 �
       (omega (arith, stand-length code (at + 1) (addressBytes a) (s .2)))))
 
   vector-back : (count : ℕ) (words : List ℕ) → count ≡ length words
-      → Stand code at (0xAB ∷ count ∷ (fill (at + 2) ++ wordsBytes words))
+      → Stand code at (0xAB ∷ count ∷ (padding (at + 2) ++ wordsBytes words))
       → instructionAt code at
-      ≡ Done (I.ConstantVector count (codeAddress (boundary (at + 2)))) (codeAddress (at + suc (suc (length (fill (at + 2) ++ wordsBytes words)))))
+      ≡ Done (I.ConstantVector count (codeAddress (boundary (at + 2)))) (codeAddress (at + suc (suc (length (padding (at + 2) ++ wordsBytes words)))))
   unfolding constantVectorAt fetchWords
   vector-back count words e s =
-      let all : at + 1 + 1 + length (fill (at + 2) ++ wordsBytes words) ≤ length code =
-      stand-length code (at + 1 + 1) (fill (at + 2) ++ wordsBytes words) (s .2 .2) in
-      let size : length (fill (at + 2) ++ wordsBytes words) ≡ boundary (at + 2) - (at + 2) + 4 * length words = vector-length (at + 2) words in
+      let all : at + 1 + 1 + length (padding (at + 2) ++ wordsBytes words) ≤ length code =
+      stand-length code (at + 1 + 1) (padding (at + 2) ++ wordsBytes words) (s .2 .2) in
+      let size : length (padding (at + 2) ++ wordsBytes words) ≡ boundary (at + 2) - (at + 2) + 4 * length words = vector-length (at + 2) words in
       let two : at + 1 + 1 ≡ at + 2 = omega arith in
       let first : boundary (at + 2) % 2 ^ 32 ≡ boundary (at + 2) = omega arith in
-      first-here code at low 0xAB (count ∷ (fill (at + 2) ++ wordsBytes words)) s
+      first-here code at low 0xAB (count ∷ (padding (at + 2) ++ wordsBytes words)) s
       ∙ (vector-form code (cursorAt (at + 1))
-      ∙ simp (byte-here code (at + 1) count (fill (at + 2) ++ wordsBytes words) (s .2), two, le-ltb (length code) (boundary (at + 2) + 4 * count) (omega arith), first)
+      ∙ simp (byte-here code (at + 1) count (padding (at + 2) ++ wordsBytes words) (s .2), two, le-ltb (length code) (boundary (at + 2) + 4 * count) (omega arith), first)
       (ended (I.ConstantVector count (codeAddress (boundary (at + 2)))) (boundary (at + 2) + 4 * count)
-      (at + suc (suc (length (fill (at + 2) ++ wordsBytes words)))) (omega arith) (omega arith)))
+      (at + suc (suc (length (padding (at + 2) ++ wordsBytes words)))) (omega arith) (omega arith)))
 
 bit-small : (t : Bool) → bit t ≤ 1
 bit-small true = omega arith

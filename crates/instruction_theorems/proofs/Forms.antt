@@ -28,13 +28,13 @@ use Rattle.instruction.specs.declared.table.MemorySuboperation.the-variants.{De
 use Rattle.instruction.specs.declared.cursor.Cursor.{Cursor}
 use Rattle.instruction.specs.Families.{familyIn, familyOf}
 use Rattle.instruction.specs.Tables.{memoryOf, etcOf}
-use Rattle.instruction.specs.Decoding.{done, memoryAt, constantScalarAt, constantVectorAt, jumpAt, callAt, etcAt, familyAt}
+use Rattle.instruction.specs.Decoding.{decodedTo, memoryAt, constantScalarAt, constantVectorAt, jumpAt, callAt, etcAt, familyAt}
 use Rattle.instruction_theorems.specs.Encoder.{operatorNumber, memoryNumber, stackNumber, arrayNumber, controlNumber, jumpNumber, MemoryFits}
 use Rattle.instruction.proofs.Ranges.{is-mem-ref, is-index}
 
 module _ (code : List ℕ) (c : Cursor) where
   pub scalar-form : (o : Operator)
-      → familyAt code c (0x60 + operatorNumber o) (familyOf (0x60 + operatorNumber o)) ≡ done (I.Scalar o) c
+      → familyAt code c (0x60 + operatorNumber o) (familyOf (0x60 + operatorNumber o)) ≡ decodedTo (I.Scalar o) c
   unfolding familyAt familyOf familyIn operatorOf
   scalar-form (O.Monadic M.Identity) = refl
   scalar-form (O.Monadic M.Negative) = refl
@@ -54,7 +54,7 @@ module _ (code : List ℕ) (c : Cursor) where
   scalar-form (O.Dyadic D.Equal) = refl
 
   pub stack-form : (o : StackOperation)
-      → familyAt code c (0xA0 + stackNumber o) (familyOf (0xA0 + stackNumber o)) ≡ done (I.Stack o) c
+      → familyAt code c (0xA0 + stackNumber o) (familyOf (0xA0 + stackNumber o)) ≡ decodedTo (I.Stack o) c
   unfolding familyAt familyOf familyIn etcOf etcAt
   stack-form Undefined = refl
   stack-form Eat1 = refl
@@ -63,7 +63,7 @@ module _ (code : List ℕ) (c : Cursor) where
   stack-form GetOrigin = refl
 
   pub array-form : (o : ArrayOperation)
-      → familyAt code c (0xA0 + arrayNumber o) (familyOf (0xA0 + arrayNumber o)) ≡ done (I.Array o) c
+      → familyAt code c (0xA0 + arrayNumber o) (familyOf (0xA0 + arrayNumber o)) ≡ decodedTo (I.Array o) c
   unfolding familyAt familyOf familyIn etcOf etcAt
   array-form Shape = refl
   array-form Reshape = refl
@@ -72,7 +72,7 @@ module _ (code : List ℕ) (c : Cursor) where
   array-form IndexGenerator = refl
 
   pub control-form : (o : ControlOperation)
-      → familyAt code c (0xA0 + controlNumber o) (familyOf (0xA0 + controlNumber o)) ≡ done (I.Control o) c
+      → familyAt code c (0xA0 + controlNumber o) (familyOf (0xA0 + controlNumber o)) ≡ decodedTo (I.Control o) c
   unfolding familyAt familyOf familyIn etcOf etcAt
   control-form Branch = refl
   control-form Return = refl
@@ -117,7 +117,7 @@ module _ (code : List ℕ) (c : Cursor) where
   memory-form TestDefined fits = refl
 
   pub index-form : (rank : ℕ) → rank < 16
-      → familyAt code c (0xE0 + rank) (familyOf (0xE0 + rank)) ≡ done (I.Index rank) c
+      → familyAt code c (0xE0 + rank) (familyOf (0xE0 + rank)) ≡ decodedTo (I.Index rank) c
   unfolding familyAt
   index-form rank h =
       let e : (0xE0 + rank) % 2 ^ 4 ≡ rank = omega arith in

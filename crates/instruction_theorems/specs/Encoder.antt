@@ -108,8 +108,8 @@ addressBytes (Local below) = localBytes below (leb below 64)
 addressBytes (Global a) = halfBytes (0xD000 + a .0)
 
 -- The zero bytes that fill up to the next word boundary of the function.
-abbrev pub fill : ℕ → List ℕ
-fill at = replicate (boundary at - at) 0
+abbrev pub padding : ℕ → List ℕ
+padding at = replicate (boundary at - at) 0
 
 -- The bytes of an instruction at a place; `words` are those of a CONSTANT_VECTOR.
 unfoldable pub encode : ℕ → List ℕ → Instruction → List ℕ
@@ -122,7 +122,7 @@ encode place words (I.Array o) = (0xA0 + arrayNumber o) ∷ []
 encode place words (I.Control o) = (0xA0 + controlNumber o) ∷ []
 encode place words (I.Jump jump to) = (0xA0 + jumpNumber jump) ∷ halfBytes (to .0)
 encode place words (I.ConstantScalar w) = 0xAA ∷ wordBytes w
-encode place words (I.ConstantVector count first) = 0xAB ∷ count ∷ (fill (place + 2) ++ wordsBytes words)
+encode place words (I.ConstantVector count first) = 0xAB ∷ count ∷ (padding (place + 2) ++ wordsBytes words)
 encode place words (I.Call arguments P fn) = 0xB1 ∷ halfBytes (arguments * 2 ^ 12 + bit P * 2 ^ 11 + fn)
 encode place words (I.Index rank) = (0xE0 + rank) ∷ []
 

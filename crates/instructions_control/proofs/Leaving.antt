@@ -15,7 +15,7 @@ use Rattle.manual.specs.Loads as loads
 use Rattle.manual.specs.Control.{leaving, return}
 use Rattle.effects.specs.Perform.{perform, performs}
 use Rattle.effects.specs.Seen.{seen}
-use Rattle.operands.specs.Operands.{isUndefined}
+use Rattle.operands.specs.Operands.{isUndefinedWord}
 use Rattle.operands.proofs.ValuesSeen.{undefined-seen}
 use Rattle.effects.specs.declared.Outcome.the-variants.{Left, Trapped}
 use Rattle.effects.specs.Carried.{did, carry}
@@ -28,7 +28,7 @@ module _ (s : List ℕ) where
   unfolding seen
   bottom-seen = refl
 
-  pub lacks-seen : (result : Bool) → result ≡ true → isUndefined (getD s (sbase s + lbase s - 1) 0) ≡ (result && loads.isUndefined ((seen s) .result result))
+  pub lacks-seen : (result : Bool) → result ≡ true → isUndefinedWord (getD s (sbase s + lbase s - 1) 0) ≡ (result && loads.isUndefined ((seen s) .result result))
   unfolding seen
   lacks-seen result has = simp has (sym (undefined-seen s _))
 

@@ -15,7 +15,7 @@ use Rattle.manual.specs.OrTrap.{OrTrap, gives, trap, andThen, stopIf}
 use Rattle.manual.specs.Effects.{storesElement, jumps, Plan}
 use Rattle.manual.specs.Seen.{at}
 use Rattle.manual.specs.Values as values
-use Rattle.manual.specs.Scalars.{operands, isScalarCell, anyCell, scalarWord, scalarWords}
+use Rattle.manual.specs.Scalars.{operands, isScalarCell, anyCell, cellWord, scalarWords}
 use Rattle.manual.specs.Memory as plan
 use Rattle.effects.specs.Sources.{heldAt}
 use Rattle.effects.specs.Seen.{read, temporaries, seen}
@@ -40,7 +40,7 @@ module _ (s : List ℕ) (next rank : ℕ) (t : Target) where
 
   -- With the subscripts and the value, for an array of these lengths: the element's place, or a trap; and the element stored.
   abbrev pub sought : ℕ → List ℕ → List ℕ → OrTrap ℕ
-  sought origin subscripts lengths = stopIf (not (eqb rank (length lengths))) 9 1 (values.place origin subscripts lengths)
+  sought origin subscripts lengths = stopIf (not (eqb rank (length lengths))) 9 1 (values.ravelPlace origin subscripts lengths)
 
   abbrev pub stored : ℕ → ℕ → Plan
   stored x k = gives (storesElement t k x (rank + 1) ∷ jumps next ∷ [])
@@ -48,11 +48,11 @@ module _ (s : List ℕ) (next rank : ℕ) (t : Target) where
   abbrev pub elementIn : List ℕ → List ℕ → Plan
   elementIn lengths words = andThen (sought (iorg (flags s)) (take rank words) lengths) (stored (getD words rank 0))
 
-  same-element : (lengths : List ℕ) → elementIn lengths (scalarWords cells) ≡ andThen (sought (seen s .origin) (scalarWords (operands (seen s) 0 rank)) lengths) (stored (scalarWord (seen s .operand rank)))
+  same-element : (lengths : List ℕ) → elementIn lengths (scalarWords cells) ≡ andThen (sought (seen s .origin) (scalarWords (operands (seen s) 0 rank)) lengths) (stored (cellWord (seen s .operand rank)))
   same-element lengths =
       ap (λ (words : List ℕ). andThen (sought (iorg (flags s)) words lengths) (stored (getD (scalarWords cells) rank 0))) (words-before (seen s) 0 rank)
-      ∙ ap (λ (x : ℕ). andThen (sought (iorg (flags s)) (scalarWords (operands (seen s) 0 rank)) lengths) (stored x)) (word-last (seen s) 0 rank ∙ ap (λ (i : ℕ). scalarWord (seen s .operand i)) (zero-add rank))
-      ∙ ap (λ (origin : ℕ). andThen (sought origin (scalarWords (operands (seen s) 0 rank)) lengths) (stored (scalarWord (seen s .operand rank)))) (sym (origin-seen s))
+      ∙ ap (λ (x : ℕ). andThen (sought (iorg (flags s)) (scalarWords (operands (seen s) 0 rank)) lengths) (stored x)) (word-last (seen s) 0 rank ∙ ap (λ (i : ℕ). cellWord (seen s .operand i)) (zero-add rank))
+      ∙ ap (λ (origin : ℕ). andThen (sought origin (scalarWords (operands (seen s) 0 rank)) lengths) (stored (cellWord (seen s .operand rank)))) (sym (origin-seen s))
 
   module _ (w : ℕ) where
     abbrev pub indexed : Plan

@@ -20,13 +20,13 @@ use Rattle.effects.specs.Seen.{read, seen}
 use Rattle.effects.specs.Perform.{replace, perform}
 use Rattle.operands.specs.declared.variables.Resolved.{Resolved}
 use Rattle.operands.specs.declared.variables.Resolved.the-variants.{At}
-use Rattle.operands.specs.Operands.{isUndefined}
+use Rattle.operands.specs.Operands.{isUndefinedWord}
 use Rattle.operands.specs.Variables.{variableSeen}
 use Rattle.operands.proofs.Seen.{origin-seen, room-seen}
 use Rattle.operands.proofs.ValuesSeen.{undefined-seen}
 use Rattle.effects.specs.declared.Outcome.the-variants.{Finished, Trapped}
 use Rattle.effects_code.specs.declared.Done.the-variants.{Done, Full}
-use Rattle.effects_code.specs.Done.{replaceShared, answer, attempt}
+use Rattle.effects_code.specs.Done.{replaceShared, fullOrDone, attempt}
 use Rattle.effects.specs.Carried.{did, carry}
 use Rattle.effects_code.proofs.Carrying.{carry-refused, carry-served}
 
@@ -67,7 +67,7 @@ module _ (s : List ℕ) (next : ℕ) where
   unfolding plan.getOrigin
   origin-pushed = rw (origin-seen s)
 
-  pub tested : (v : Resolved) (t : Target) (w : ℕ) → v ≡ At t w → carry s (pushed (word (cond (isUndefined w) 0 1))) ≡ carry s (plan.testDefined (seen s) next (variableSeen s v))
+  pub tested : (v : Resolved) (t : Target) (w : ℕ) → v ≡ At t w → carry s (pushed (word (cond (isUndefinedWord w) 0 1))) ≡ carry s (plan.testDefined (seen s) next (variableSeen s v))
   unfolding plan.testDefined
   tested v t w e = rw (e, undefined-seen s w)
 
@@ -84,15 +84,15 @@ module _ (s : List ℕ) (next : ℕ) where
     abbrev loaded : Plan
     loaded = plan.load (seen s) next (gives (at t (read s w)))
 
-    pub load-undefined : isUndefined w ≡ true → did (Trapped 10 0) s ≡ carry s loaded
+    pub load-undefined : isUndefinedWord w ≡ true → did (Trapped 10 0) s ≡ carry s loaded
     unfolding plan.load
     load-undefined none = rw (undefined-seen s w, none)
 
-    pub load-full : isUndefined w ≡ false → room s < 1 → did (Trapped 1 1) s ≡ carry s loaded
+    pub load-full : isUndefinedWord w ≡ false → room s < 1 → did (Trapped 1 1) s ≡ carry s loaded
     unfolding plan.load
     load-full some full = rw (undefined-seen s w, some) (push-full (variable t) full)
 
-    pub variable-loaded : w ≡ heldAt s t → isUndefined w ≡ false → 1 ≤ room s → did Finished (perform (replaceShared s 0 w) (jumps next)) ≡ carry s loaded
+    pub variable-loaded : w ≡ heldAt s t → isUndefinedWord w ≡ false → 1 ≤ room s → did Finished (perform (replaceShared s 0 w) (jumps next)) ≡ carry s loaded
     unfolding plan.load replaceShared replace
     variable-loaded held some enough = rw (undefined-seen s w, some, held, room-seen s, le-ltb (room s) 1 enough)
 
@@ -118,8 +118,8 @@ module _ (s : List ℕ) (next : ℕ) where
         unfolding plan.constantVector
         planned = rw (scalars, room-seen s, le-ltb (room s) 1 some)
 
-        pub vector-refused : Full ≡ answer s vector → did (Trapped 1 2) (attempt s vector) ≡ carry s constant
+        pub vector-refused : Full ≡ fullOrDone s vector → did (Trapped 1 2) (attempt s vector) ≡ carry s constant
         vector-refused full = carry-refused s vector (jumps next ∷ []) full ∙ ap (carry s) planned
 
-        pub vector-pushed : Done ≡ answer s vector → did Finished (perform (attempt s vector) (jumps next)) ≡ carry s constant
+        pub vector-pushed : Done ≡ fullOrDone s vector → did Finished (perform (attempt s vector) (jumps next)) ≡ carry s constant
         vector-pushed done = carry-served s vector (jumps next ∷ []) done ∙ ap (carry s) planned

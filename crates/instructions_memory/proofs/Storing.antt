@@ -94,11 +94,11 @@ module _ (s : List ℕ) (rank : ℕ) (t : Target) (block : SegmentAddress) (word
     other-rank differs = ap (carry s) (rw (ne-eqb rank (length lengths) differs) at planned)
 
     module _ (same : rank ≡ length lengths) where
-      placed : (f : Found) → placeNamed f ≡ values.place (iorg (flags s)) (take rank words) lengths → andThen (placeNamed f) (stored s next rank t (getD words rank 0)) ≡ assigned
+      placed : (f : Found) → placeNamed f ≡ values.ravelPlace (iorg (flags s)) (take rank words) lengths → andThen (placeNamed f) (stored s next rank t (getD words rank 0)) ≡ assigned
       placed f e = rw e (rw (eq-eqb rank (length lengths) same) at planned)
 
-      pub outside : (f : Found) (class number : ℕ) → f ≡ found.Trap class number → placeNamed f ≡ values.place (iorg (flags s)) (take rank words) lengths → did (Trapped class number) s ≡ carry s assigned
+      pub outside : (f : Found) (class number : ℕ) → f ≡ found.Trap class number → placeNamed f ≡ values.ravelPlace (iorg (flags s)) (take rank words) lengths → did (Trapped class number) s ≡ carry s assigned
       outside f class number is e = ap (carry s) (rw is at (placed f e))
 
-      pub element-found : (f : Found) (k : ℕ) → f ≡ found.At k → placeNamed f ≡ values.place (iorg (flags s)) (take rank words) lengths → carry s (stored s next rank t (getD words rank 0) k) ≡ carry s assigned
+      pub element-found : (f : Found) (k : ℕ) → f ≡ found.At k → placeNamed f ≡ values.ravelPlace (iorg (flags s)) (take rank words) lengths → carry s (stored s next rank t (getD words rank 0) k) ≡ carry s assigned
       element-found f k is e = ap (carry s) (rw is at (placed f e))

@@ -7,7 +7,7 @@ ghost use Rattle.descriptor.specs.Fields.{integerWord};
 ghost use Rattle.descriptor.specs.Kinds.{bit};
 ghost use Rattle.manual.specs.Effects as effect;
 ghost use Rattle.manual.specs.Loads as plan;
-ghost use Rattle.operands.specs.Operands.{isUndefined};
+ghost use Rattle.operands.specs.Operands.{isUndefinedWord};
 ghost use Rattle.operands.specs.Variables.{variableSeen, Sure};
 ghost use Rattle.effects.specs.Carried.{CarriesOut};
 ghost use Rattle.instructions_memory.specs.Pushed.{LoadsHeld, wordsAt};
@@ -87,7 +87,7 @@ pub fn test_defined(seg: &mut [u32], variable: Resolved, next: CodeAddress) -> O
 }
 
 fn defined(w: u32) -> u32
-    ensures { λ r. ⌜ r ≡ cond (isUndefined w) 0 1 ⌝ }
+    ensures { λ r. ⌜ r ≡ cond (isUndefinedWord w) 0 1 ⌝ }
 {
     if is_undefined(w) {
         return 0;

@@ -22,19 +22,19 @@ use Rattle.elements.specs.Answers.{shapeNamed, Paired}
 use Rattle.elements.proofs.Conformity as conformity
 use Rattle.effects.specs.Seen.{whole}
 use Rattle.operands.proofs.Whole.{whole-facts}
-use Rattle.instructions_values.specs.Parts.{wordOf, madeOf}
+use Rattle.instructions_values.specs.Parts.{scalarOf, madeOf}
 
 module _ (next n : ℕ) where
   like-array : (shape : List ℕ) → 1 ≤ length shape → (result : OrTrap (List ℕ)) → replaceBy next n (andThen result (λ ravel. gives (value shape ravel))) ≡ madeOf next n shape result
   like-array shape some (gives words) = simp (ne-eqb (length shape) 0 (λ e. omega arith))
   like-array shape some (trap class number) = refl
 
-  like-scalar : (answer : Answer) → replaceBy next n (andThen (collect (answered answer ∷ [])) (λ ravel. gives (value [] ravel))) ≡ wordOf next n (answered answer)
+  like-scalar : (answer : Answer) → replaceBy next n (andThen (collect (answered answer ∷ [])) (λ ravel. gives (value [] ravel))) ≡ scalarOf next n (answered answer)
   like-scalar (Word w) = refl
   like-scalar (Trap class number) = refl
 
 module _ (next : ℕ) (op : Monadic) where
-  pub monadic-scalar : (w : ℕ) → replaceBy next 1 (values.monadic op (scalar w)) ≡ wordOf next 1 (answered (monadicOf op w))
+  pub monadic-scalar : (w : ℕ) → replaceBy next 1 (values.monadic op (scalar w)) ≡ scalarOf next 1 (answered (monadicOf op w))
   unfolding values.monadic each
   monadic-scalar w = like-scalar next 1 (monadicOf op w)
 
@@ -46,7 +46,7 @@ module _ (next : ℕ) (op : Dyadic) where
   abbrev answers : ℕ → ℕ → OrTrap ℕ
   answers x y = answered (dyadicOf op x y)
 
-  pub dyadic-scalars : (x y : ℕ) → replaceBy next 2 (values.dyadic op (scalar x) (scalar y)) ≡ wordOf next 2 (answered (dyadicOf op x y))
+  pub dyadic-scalars : (x y : ℕ) → replaceBy next 2 (values.dyadic op (scalar x) (scalar y)) ≡ scalarOf next 2 (answered (dyadicOf op x y))
   unfolding values.dyadic conform pairwise
   dyadic-scalars x y = like-scalar next 2 (dyadicOf op x y)
 

@@ -10,7 +10,7 @@ use borrow.Author.Tests.{eq-eqb, ne-eqb}
 use Rattle.segment.specs.State.{flags, iorg}
 use Rattle.manual.specs.OrTrap.{gives, trap, andThen, stopIf}
 use Rattle.manual.specs.Effects.{word, replaces, jumps, Plan}
-use Rattle.manual.specs.Values.{Value, rank, place}
+use Rattle.manual.specs.Values.{Value, rank, ravelPlace}
 use Rattle.manual.specs.Scalars.{valueOf, isForeign, isScalarCell, anyCell, operands, scalarWords, subscripted, index}
 use Rattle.effects.specs.Seen.{seen}
 use Rattle.operands.specs.declared.reading.Value.{Value as Operand}
@@ -29,11 +29,11 @@ module _ (origin next : ℕ) (subscripts : List ℕ) (a : Value) where
   indexed-unlike unlike = simp (ne-eqb (length subscripts) (length (a .shape)) unlike)
 
   module _ (alike : length subscripts ≡ length (a .shape)) where
-    pub indexed-trap : (class number : ℕ) → trap class number ≡ place origin subscripts (a .shape) → trap class number ≡ indexed origin next subscripts a
+    pub indexed-trap : (class number : ℕ) → trap class number ≡ ravelPlace origin subscripts (a .shape) → trap class number ≡ indexed origin next subscripts a
     unfolding indexed
     indexed-trap class number e = simp (eq-eqb (length subscripts) (length (a .shape)) alike, ← e)
 
-    pub indexed-at : (k : ℕ) → gives k ≡ place origin subscripts (a .shape) → gives (replaces (length subscripts + 1) (word (getD (a .ravel) k 0)) ∷ jumps next ∷ []) ≡ indexed origin next subscripts a
+    pub indexed-at : (k : ℕ) → gives k ≡ ravelPlace origin subscripts (a .shape) → gives (replaces (length subscripts + 1) (word (getD (a .ravel) k 0)) ∷ jumps next ∷ []) ≡ indexed origin next subscripts a
     unfolding indexed
     indexed-at k e = simp (eq-eqb (length subscripts) (length (a .shape)) alike, ← e)
 
@@ -41,7 +41,7 @@ module _ (origin next : ℕ) (subscripts : List ℕ) (a : Value) where
 module _ (s : List ℕ) (next n : ℕ) {r : First} (f : FirstFound s (n + 1) r) {v : Operand} (found : r ≡ F.Value v) where
   abbrev subscriptsWith : ℕ → ℕ → Value → List ℕ → Plan
   subscriptsWith origin n a words =
-      andThen (stopIf (not (eqb n (length (a .shape)))) 9 1 (place origin words (a .shape))) (λ k.
+      andThen (stopIf (not (eqb n (length (a .shape)))) 9 1 (ravelPlace origin words (a .shape))) (λ k.
       gives (replaces (n + 1) (word (getD (a .ravel) k 0)) ∷ jumps next ∷ []))
 
   abbrev cells : Value → Plan

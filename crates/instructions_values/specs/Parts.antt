@@ -30,8 +30,8 @@ use Rattle.instructions_values.specs.declared.operand_values.Both.the-va
 -- ---- what the words hold
 
 -- The array in a block, which is whole.
-abbrev pub Whole : List ℕ → SegmentAddress → Type 0
-Whole s block = whole s (block .0) ≡ true
+abbrev pub WholeAt : List ℕ → SegmentAddress → Type 0
+WholeAt s block = whole s (block .0) ≡ true
 
 abbrev pub arrayAt : List ℕ → SegmentAddress → values.Value
 arrayAt s block = held s (Array block)
@@ -80,8 +80,8 @@ abbrev pub ReplacesBy : List ℕ → Outcome → List ℕ → ℕ → ℕ → (L
 ReplacesBy s outcome after next n result = Carries s outcome after (λ words. replaceBy next n (result words))
 
 -- It is a scalar, or a new array of a shape; or the trap of its elements.
-abbrev pub wordOf : ℕ → ℕ → OrTrap ℕ → Plan
-wordOf next n result = andThen result (λ w. gives (replaces n (word w) ∷ jumps next ∷ []))
+abbrev pub scalarOf : ℕ → ℕ → OrTrap ℕ → Plan
+scalarOf next n result = andThen result (λ w. gives (replaces n (word w) ∷ jumps next ∷ []))
 
 abbrev pub madeOf : ℕ → ℕ → List ℕ → OrTrap (List ℕ) → Plan
 madeOf next n shape result = andThen result (λ words. gives (replaces n (made shape words) ∷ jumps next ∷ []))
@@ -119,5 +119,5 @@ shaped lengths b =
 -- INDEX, once its subscripts are taken.
 unfoldable pub indexed : ℕ → ℕ → List ℕ → values.Value → Plan
 indexed origin next subscripts a =
-    andThen (stopIf (not (eqb (length subscripts) (length (a .shape)))) 9 1 (values.place origin subscripts (a .shape))) (λ k.
+    andThen (stopIf (not (eqb (length subscripts) (length (a .shape)))) 9 1 (values.ravelPlace origin subscripts (a .shape))) (λ k.
     gives (replaces (length subscripts + 1) (word (getD (a .ravel) k 0)) ∷ jumps next ∷ []))

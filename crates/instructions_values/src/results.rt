@@ -7,8 +7,8 @@ ghost use Rattle.segment.specs.Blocks.{shapeAt};
 ghost use Rattle.manual.specs.OrTrap.{gives};
 ghost use Rattle.manual.specs.Values as values;
 ghost use Rattle.effects.specs.Seen.{whole};
-ghost use Rattle.elements.specs.Answers.{finished};
-ghost use Rattle.instructions_values.specs.Parts.{Carries, ReplacesBy, wordOf, madeOf};
+ghost use Rattle.elements.specs.Answers.{results};
+ghost use Rattle.instructions_values.specs.Parts.{Carries, ReplacesBy, scalarOf, madeOf};
 use descriptor::address::CodeAddress;
 use descriptor::address::SegmentAddress;
 use effects::Outcome;
@@ -24,7 +24,7 @@ use scalar::Answer;
 // A scalar, or its trap.
 pub fn replace_by_answer(seg: &mut [u32], n: u32, answer: Answer, next: CodeAddress) -> Outcome
     requires { ⌜ 1 ≤ n ⌝ }
-    ensures { λ r. ⌜ Carries (now (seg .entry)) r (now (seg .exit)) (λ _. wordOf (next .0) n (values.answered answer)) ⌝ }
+    ensures { λ r. ⌜ Carries (now (seg .entry)) r (now (seg .exit)) (λ _. scalarOf (next .0) n (values.answered answer)) ⌝ }
 {
     match answer {
         Answer::Trap(class, number) => Outcome::Trapped(class, number),
@@ -82,7 +82,7 @@ pub fn replace_by_elements(
     next: CodeAddress,
 ) -> Outcome
     requires { ⌜ (1 ≤ n) × (whole (now seg) (block .0) ≡ true) ⌝ }
-    ensures { λ r. ⌜ Carries (now (seg .entry)) r (now (seg .exit)) (λ s. madeOf (next .0) n (shapeAt s (block .0)) (finished done (now (ravel .entry)))) ⌝ }
+    ensures { λ r. ⌜ Carries (now (seg .entry)) r (now (seg .exit)) (λ s. madeOf (next .0) n (shapeAt s (block .0)) (results done (now (ravel .entry)))) ⌝ }
 {
     match done {
         Finished::Trap(class, number) => Outcome::Trapped(class, number),

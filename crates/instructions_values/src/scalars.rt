@@ -7,7 +7,7 @@ ghost use Rattle.manual.specs.Values as values;
 ghost use Rattle.manual.specs.Scalars as plan;
 ghost use Rattle.operands.specs.Operands.{held};
 ghost use Rattle.effects.specs.Carried.{CarriesOut};
-ghost use Rattle.instructions_values.specs.Parts.{Whole, Readable, Carries, ReplacesBy, arrayAt, Pairable, pairsMade, originSet};
+ghost use Rattle.instructions_values.specs.Parts.{WholeAt, Readable, Carries, ReplacesBy, arrayAt, Pairable, pairsMade, originSet};
 use super::operand_values::Both;
 use super::operand_values::First;
 use super::operand_values::both_values;
@@ -53,7 +53,7 @@ fn monadic_array(
     next: CodeAddress,
     scratch: &mut [u32],
 ) -> Outcome
-    requires { ⌜ Whole (now seg) block × (length (now seg) ≤ 16384) × (length (now scratch) ≡ 16384) ⌝ }
+    requires { ⌜ WholeAt (now seg) block × (length (now seg) ≤ 16384) × (length (now scratch) ≡ 16384) ⌝ }
     ensures { λ r. ⌜ ReplacesBy (now (seg .entry)) r (now (seg .exit)) (next .0) 1 (λ s. values.monadic op (arrayAt s block)) ⌝ }
 {
     let a = elements_of(seg, block);
@@ -103,7 +103,7 @@ fn scalar_array(
     next: CodeAddress,
     scratch: &mut [u32],
 ) -> Outcome
-    requires { ⌜ Whole (now seg) second × (length (now seg) ≤ 16384) × (length (now scratch) ≡ 16384) ⌝ }
+    requires { ⌜ WholeAt (now seg) second × (length (now seg) ≤ 16384) × (length (now scratch) ≡ 16384) ⌝ }
     ensures { λ r. ⌜ ReplacesBy (now (seg .entry)) r (now (seg .exit)) (next .0) 2 (λ s. values.dyadic op (values.scalar x) (arrayAt s second)) ⌝ }
 {
     let one = [x];
@@ -121,7 +121,7 @@ fn array_scalar(
     next: CodeAddress,
     scratch: &mut [u32],
 ) -> Outcome
-    requires { ⌜ Whole (now seg) first × (length (now seg) ≤ 16384) × (length (now scratch) ≡ 16384) ⌝ }
+    requires { ⌜ WholeAt (now seg) first × (length (now seg) ≤ 16384) × (length (now scratch) ≡ 16384) ⌝ }
     ensures { λ r. ⌜ ReplacesBy (now (seg .entry)) r (now (seg .exit)) (next .0) 2 (λ s. values.dyadic op (arrayAt s first) (values.scalar y)) ⌝ }
 {
     let one = [y];
@@ -139,7 +139,7 @@ fn array_array(
     next: CodeAddress,
     scratch: &mut [u32],
 ) -> Outcome
-    requires { ⌜ Whole (now seg) first × Whole (now seg) second × (length (now seg) ≤ 16384) × (length (now scratch) ≡ 16384) ⌝ }
+    requires { ⌜ WholeAt (now seg) first × WholeAt (now seg) second × (length (now seg) ≤ 16384) × (length (now scratch) ≡ 16384) ⌝ }
     ensures { λ r. ⌜ ReplacesBy (now (seg .entry)) r (now (seg .exit)) (next .0) 2 (λ s. values.dyadic op (arrayAt s first) (arrayAt s second)) ⌝ }
 {
     let m = elements_of(seg, first).len();
@@ -161,7 +161,7 @@ fn paired(
     next: CodeAddress,
     scratch: &mut [u32],
 ) -> Outcome
-    requires { ⌜ Whole (now seg) first × Whole (now seg) second × Whole (now seg) like × (length (now seg) ≤ 16384) × (length (now scratch) ≡ 16384) ⌝ }
+    requires { ⌜ WholeAt (now seg) first × WholeAt (now seg) second × WholeAt (now seg) like × (length (now seg) ≤ 16384) × (length (now scratch) ≡ 16384) ⌝ }
     requires { ⌜ Pairable (now seg) first second like ⌝ }
     ensures { λ r. ⌜ Carries (now (seg .entry)) r (now (seg .exit)) (pairsMade (next .0) op first second like) ⌝ }
 {

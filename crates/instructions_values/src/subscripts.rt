@@ -4,7 +4,7 @@ ghost use Prim.Native.Nat.{_≤_, _<_, _%_, _^_};
 ghost use lib.ListN.{length};
 ghost use Rattle.manual.specs.Scalars as plan;
 ghost use Rattle.effects.specs.Carried.{CarriesOut};
-ghost use Rattle.instructions_values.specs.Parts.{Whole, Carries, arrayAt, originOf, indexed};
+ghost use Rattle.instructions_values.specs.Parts.{WholeAt, Carries, arrayAt, originOf, indexed};
 use super::operand_values::First;
 use super::operand_values::first_value;
 use descriptor::address::CodeAddress;
@@ -44,7 +44,7 @@ pub fn index(seg: &mut [u32], rank: u8, next: CodeAddress) -> Outcome
 }
 
 fn element(seg: &mut [u32], block: SegmentAddress, subscripts: &[u32], next: CodeAddress) -> Outcome
-    requires { ⌜ Whole (now seg) block × (length (now subscripts) < 16) ⌝ }
+    requires { ⌜ WholeAt (now seg) block × (length (now subscripts) < 16) ⌝ }
     ensures { λ r. ⌜ Carries (now (seg .entry)) r (now (seg .exit)) (λ s. indexed (originOf s) (next .0) (now (subscripts .entry)) (arrayAt s block)) ⌝ }
 {
     let lengths = lengths_of(seg, block);

@@ -28,9 +28,9 @@ module _ (number : ℕ) (small : number < 2 ^ 11) where
   word-number true = omega arith
   word-number false = omega arith
 
-  word-alternate : (P : Bool) → eqb (stack.alternate (wordOf P number)) 1 ≡ P
-  word-alternate true = eq-eqb (stack.alternate (wordOf true number)) 1 (omega arith)
-  word-alternate false = ne-eqb (stack.alternate (wordOf false number)) 1 (omega arith)
+  word-alternate : (P : Bool) → eqb (stack.alternateBit (wordOf P number)) 1 ≡ P
+  word-alternate true = eq-eqb (stack.alternateBit (wordOf true number)) 1 (omega arith)
+  word-alternate false = ne-eqb (stack.alternateBit (wordOf false number)) 1 (omega arith)
 
   module _ (regular alternate : List ℕ) (P : Bool) where
     word-segment : frameSegment regular alternate (wordOf P number) ≡ selected P regular alternate

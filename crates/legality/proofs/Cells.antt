@@ -62,7 +62,7 @@ module _ (s : List ℕ) where
       rw e at (temporary-at (ltop s - i) (omega arith))
 
 -- All frames of the segment.
-module _ (s regular alternate older : List ℕ) (chain : onWords.Chain s regular alternate (lbase s) older) where
+module _ (s regular alternate older : List ℕ) (chain : onWords.FrameChain s regular alternate (lbase s) older) where
   pub whole : Stacked s regular alternate (lbase s + 2) (lbase s ∷ older) (view s .frames)
   unfolding view words
   whole = stacked s regular alternate older (suc (lbase s)) (lbase s) (omega arith) chain

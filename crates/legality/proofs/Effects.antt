@@ -10,7 +10,7 @@ use Rattle.descriptor.specs.declared.Target.{Target}
 use Rattle.descriptor.specs.declared.Target.the-variants.{Local, Global}
 use Rattle.segment.specs.Cells.{Cell, undefined}
 use Rattle.segment.specs.Machine.{Frame, Machine}
-use Rattle.manual.specs.Effects.{put, withTemporaries, replace, discard, swapped, swap, enter, currentCells, older, pushIf, leave, jumpFrames, jump, setOrigin}
+use Rattle.manual.specs.Effects.{put, withTemporaries, replace, discard, swapped, swap, enter, currentCells, older, pushIf, leave, jumpFrames, jump, withOrigin}
 use Rattle.manual.specs.Seen.{noOlder}
 use Rattle.acceptance.specs.Frames.{known, arguments, variables}
 use Rattle.legality.specs.Legal.{DirectCell, Allowed, LegalFrame, LegalFrames, bottom, upon, Legal}
@@ -56,7 +56,7 @@ jump-like place m = record { frames = jumped (m .frames); globals = same-cells (
     jumped [] = tt
     jumped (r ∷ l) = (record { function = refl; cells = same-cells (r .cells) }, same-frames l)
 
-origin-like : (v : ℕ) (m : Machine Cell) → Like m (setOrigin v m)
+origin-like : (v : ℕ) (m : Machine Cell) → Like m (withOrigin v m)
 origin-like v m = record { frames = same-frames (m .frames); globals = same-cells (m .globals) }
 
 with-like : (ts : List Cell) (m : Machine Cell) → Like m (withTemporaries ts m)
@@ -99,7 +99,7 @@ module _ {regular alternate : List ℕ} {m : Machine Cell} (g : Legal regular al
   pub jump-kept : (place : ℕ) → Legal regular alternate (jump place m)
   jump-kept place = like-legal g (jump-like place m) (g .temporaries)
 
-  pub origin-kept : (v : ℕ) → Legal regular alternate (setOrigin v m)
+  pub origin-kept : (v : ℕ) → Legal regular alternate (withOrigin v m)
   origin-kept v = like-legal g (origin-like v m) (g .temporaries)
 
   -- The operands become arguments, and what is left of them the older frame's temporaries.

@@ -13,7 +13,7 @@ module _ (w : ℕ) where
   abbrev bare : ℕ
   bare = w / 2 ^ 16 * 2 ^ 16
 
-  pub same-alternate : stack.alternate bare ≡ stack.alternate w
+  pub same-alternate : stack.alternateBit bare ≡ stack.alternateBit w
   same-alternate = omega arith
 
   pub same-number : stack.functionNumber bare ≡ stack.functionNumber w

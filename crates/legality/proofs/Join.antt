@@ -20,7 +20,7 @@ use Rattle.acceptance.specs.Structure as onWords
 use Rattle.effects.specs.Sound.{Chain}
 use Rattle.effects.specs.Sound as sound
 use Rattle.legality.specs.Legal.{functionWord, DirectCell, Allowed, LegalFrame, LegalFrames, bottom, upon}
-use Rattle.legality.specs.Accepted.{Whole}
+use Rattle.legality.specs.Accepted.{LegalSegment}
 use Rattle.legality.proofs.Legal.{first}
 use Rattle.legality.proofs.FunctionWord.{same-known, same-arguments, same-variables, most-arguments}
 use Rattle.legality.proofs.CellKinds.{direct-word}
@@ -48,7 +48,7 @@ module _ (s regular alternate : List ℕ) (m : Machine Cell) where
   deep {base} (sound.upon q c) (suc n) l = rw (seen-upon n s base (lastLbaseAt s base) refl (omega arith)) (omega arith)
 
   full-chain : {base : ℕ} → Chain s base → (n : ℕ) → base < n → LegalFrames regular alternate m (seenFrames n s base)
-      → (older : List ℕ) × onWords.Chain s regular alternate base older
+      → (older : List ℕ) × onWords.FrameChain s regular alternate base older
   full-chain {base} c zero l h = absurd (omega arith)
   full-chain {base} (sound.bottom q) (suc n) l h =
       let k = rw (seen-bottom n s base q) at h in (
@@ -98,17 +98,17 @@ module _ (A : ℕ → Type 0) (s regular alternate : List ℕ) (m : Machine Cell
             (subst DirectCell (frame-word s base start i (omega (arith, room, k)) u) (f .locals (base - 1 - i) (omega (arith, room, k, u, v, a))));
       }
 
-module _ (s regular alternate : List ℕ) (h : Whole s regular alternate) where
+module _ (s regular alternate : List ℕ) (h : LegalSegment s regular alternate) where
   abbrev A : ℕ → Type 0
   A a = (size : ℕ) × ArrayIn (blockptr s) (h .sound .own .blocks) a size
 
-  module _ (all : List ℕ) (chain : onWords.Chain s regular alternate (lbase s) all) where
+  module _ (all : List ℕ) (chain : onWords.FrameChain s regular alternate (lbase s) all) where
     allowed : {d : ℕ} {frames : List ℕ} {l : List (Frame Cell)} → Stacked s regular alternate d frames l
         → ((a : ℕ) → VariableOf s regular alternate frames a → VariableOf s regular alternate (lbase s ∷ all) a)
         → (w : ℕ) → (isArray w ≡ true → A (address w)) → Allowed regular alternate (view s) l (cell s w) → DirectOrIndirect A s regular alternate frames w
     allowed t within = allowed-word s regular alternate all chain A t within
 
-    stack-cells : (older : List ℕ) (n base top : ℕ) → base < n → onWords.Chain s regular alternate base older → LegalFrames regular alternate (view s) (seenFrames n s base)
+    stack-cells : (older : List ℕ) (n base top : ℕ) → base < n → onWords.FrameChain s regular alternate base older → LegalFrames regular alternate (view s) (seenFrames n s base)
         → ((a : ℕ) → VariableOf s regular alternate (base ∷ older) a → VariableOf s regular alternate (lbase s ∷ all) a)
         → ((w : ℕ) → 0 < count w (cellsOfFrames (framesFrom n s base)) → 0 < count w (owners s))
         → ((i : ℕ) → base + 2 ≤ i → i < top → DirectOrIndirect A s regular alternate (base ∷ older) (stackAt s i))

@@ -15,7 +15,7 @@ use Rattle.manual.specs.Values as values
 use Rattle.manual.specs.Values.{Value}
 use Rattle.manual.specs.Effects.{Source, word, made, Effect, look, meant, jump}
 use Rattle.manual.specs.Seen.{Seen, Variable, seenOf}
-use Rattle.manual.specs.Scalars.{valueOf, resultOf}
+use Rattle.manual.specs.Scalars.{valueOf, resultSource}
 use Rattle.manual.specs.Control.{frameWord}
 use Rattle.manual.specs.Instructions.{Running, planOf}
 use Rattle.manual.specs.Cases.{OfPlan, Reaches, calledBy, Calling, Pushed, ofLoad, ofReference, ofTestDefined, ofUndefined, ofGetOrigin, ofShortConstant, ofConstantScalar, ofConstantVector}
@@ -55,7 +55,7 @@ module _ {regular alternate : List ℕ} {m : Machine Cell} (g : Legal regular al
   pushed-allowed (ofConstantScalar h) = tt
   pushed-allowed (ofConstantVector h) = tt
 
-  result-allowed : (v : Value) → Pushable (resultOf v)
+  result-allowed : (v : Value) → Pushable (resultSource v)
   result-allowed v = by (eqb (values.rank v) 0)
     where
       by : (b : Bool) → Pushable (cond b (word (values.first (v .ravel))) (made (v .shape) (v .ravel)))

@@ -23,7 +23,7 @@ use Rattle.effects.specs.Fits.{Addressable}
 use Rattle.effects.specs.Alike.{HasFrame}
 use Rattle.acceptance_storage.proofs.Tests.{never, both}
 use Rattle.acceptance.specs.Frames.{frameSegment, known, variables}
-use Rattle.acceptance.specs.Structure.{Chain, Accepted}
+use Rattle.acceptance.specs.Structure.{FrameChain, Accepted}
 use Rattle.legality.specs.Accepted.{currentVariables, currentResult}
 use Rattle.legality.proofs.Stacked.{current-room}
 use Rattle.legality.proofs.Cells.{globals-length, look-global, whole, look-local}
@@ -41,7 +41,7 @@ in-directory p k h = go (eqb k 0) refl
     go true e = absurd (never (simp e at h))
     go false e = (omega (arith, eqb-false k 0 e), ltb-true k (entries p) (simp e at h))
 
-segment-accepted : (P : Bool) (regular alternate : List ℕ) → table.Accepted regular × table.Accepted alternate → table.Accepted (selected P regular alternate)
+segment-accepted : (P : Bool) (regular alternate : List ℕ) → table.ProcedureSegment regular × table.ProcedureSegment alternate → table.ProcedureSegment (selected P regular alternate)
 segment-accepted true regular alternate h = h .1
 segment-accepted false regular alternate h = h .0
 
@@ -49,11 +49,11 @@ result-local : (regular alternate : List ℕ) (w : ℕ) → procedureRefusal reg
     → resultOf (frameSegment regular alternate w) (functionNumber w) ≡ true → 1 ≤ variables regular alternate w
 unfolding known variables
 result-local regular alternate w h k e =
-    let p = segment-accepted (eqb (stack.alternate w) 1) regular alternate (acceptance regular alternate .sound h) in
+    let p = segment-accepted (eqb (stack.alternateBit w) 1) regular alternate (acceptance regular alternate .sound h) in
     let n = in-directory (frameSegment regular alternate w) (functionNumber w) (both (ltb w (2 ^ 28)) (hasFunction (frameSegment regular alternate w) (functionNumber w)) k .1) in
     omega (arith, p .functions (functionNumber w) (n .0) (n .1) .result-local e)
 
-pub function-known : (s regular alternate older : List ℕ) (base : ℕ) → Chain s regular alternate base older → known regular alternate (codeWordAt s base) ≡ true
+pub function-known : (s regular alternate older : List ℕ) (base : ℕ) → FrameChain s regular alternate base older → known regular alternate (codeWordAt s base) ≡ true
 function-known s regular alternate [] base h = h .function
 function-known s regular alternate (next ∷ older) base h = h .0 .function
 

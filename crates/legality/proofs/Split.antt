@@ -16,12 +16,12 @@ use Rattle.segment.specs.View.{words, view}
 use Rattle.acceptance_storage.proofs.Tests.{never, by-le}
 use Rattle.acceptance.specs.Frames.{known, variables}
 use Rattle.acceptance.specs.Cells.{isIndirect}
-use Rattle.acceptance.specs.Structure.{frameStart, localsOf, VariableOf, DirectOrIndirect, FrameCells, StackCells, Accepted}
+use Rattle.acceptance.specs.Structure.{frameStart, localsStart, VariableOf, DirectOrIndirect, FrameCells, StackCells, Accepted}
 use Rattle.acceptance.specs.Structure as onWords
 use Rattle.acceptance.proofs.Owners.{first-frame}
 use Rattle.effects.specs.Sound as sound
 use Rattle.legality.specs.Legal.{DirectCell, Allowed, LegalFrame, LegalFrames, bottom, Legal}
-use Rattle.legality.specs.Accepted.{Whole}
+use Rattle.legality.specs.Accepted.{LegalSegment}
 use Rattle.legality.proofs.Legal.{upon-on}
 use Rattle.legality.proofs.FunctionWord.{same-known, same-arguments, same-variables}
 use Rattle.legality.proofs.CellKinds.{direct-cell}
@@ -41,7 +41,7 @@ module _ (A : ℕ → Type 0) (s regular alternate : List ℕ) (near : blockptr 
   own-valid : (base top : ℕ) (older : List ℕ) → ((a : ℕ) → VariableOf s regular alternate older a → a < 2 ^ 16) → FrameCells A s regular alternate base top older
       → (a : ℕ) → frameStart s regular alternate base ≤ a → a < base → isIndirect (stackAt s a) ≡ false → onWords.Direct A (stackAt s a)
   own-valid base top older fits c a l u n =
-      by-le (localsOf s regular alternate base) a (λ m. c .locals a m u) (λ m. no-pointer older fits (stackAt s a) (c .arguments a l m) n)
+      by-le (localsStart s regular alternate base) a (λ m. c .locals a m u) (λ m. no-pointer older fits (stackAt s a) (c .arguments a l m) n)
 
   variables-valid : (older : List ℕ) (base top : ℕ) → ((a : ℕ) → VariableOf s regular alternate (base ∷ older) a → a < 2 ^ 16) → StackCells A s regular alternate base top older
       → (a : ℕ) → VariableOf s regular alternate (base ∷ older) a → isIndirect (stackAt s a) ≡ false → onWords.Direct A (stackAt s a)
@@ -61,7 +61,7 @@ module _ (A : ℕ → Type 0) (s regular alternate : List ℕ) (m : Machine Cell
   each : (i : ℕ) → start ≤ i → i < base → DirectOrIndirect A s regular alternate frames (stackAt s i)
   each i k u =
       by-le (frameStart s regular alternate base) i
-      (λ d. by-le (localsOf s regular alternate base) i (λ e. inl (c .locals i e u)) (λ e. c .arguments i d e)) (rest i k)
+      (λ d. by-le (localsStart s regular alternate base) i (λ e. inl (c .locals i e u)) (λ e. c .arguments i d e)) (rest i k)
 
   legal-frame : LegalFrame regular alternate m (seenFrame s base start) l
   legal-frame =
@@ -97,7 +97,7 @@ module _ (s regular alternate : List ℕ) (h : Accepted s regular alternate) whe
       word-allowed s regular alternate (h .older) (h .chain) A t within near short (h .globals)
       (variables-valid A s regular alternate near (h .older) (lbase s) (ltop s + 1) (λ a v. omega (arith, short, variable-low s regular alternate frames a v)) (h .cells))
 
-  legal-frames : (older : List ℕ) (n base top : ℕ) → base < n → onWords.Chain s regular alternate base older → StackCells A s regular alternate base top older
+  legal-frames : (older : List ℕ) (n base top : ℕ) → base < n → onWords.FrameChain s regular alternate base older → StackCells A s regular alternate base top older
       → ((a : ℕ) → VariableOf s regular alternate (base ∷ older) a → VariableOf s regular alternate (lbase s ∷ h .older) a)
       → LegalFrames regular alternate (view s) (seenFrames n s base)
   legal-frames older zero base top l k c within = absurd (omega arith)
@@ -127,12 +127,12 @@ module _ (s regular alternate : List ℕ) (h : Accepted s regular alternate) whe
 
 -- ---- the whole segment
 
-bare-chain : (s regular alternate older : List ℕ) (base : ℕ) → onWords.Chain s regular alternate base older → sound.Chain s base
+bare-chain : (s regular alternate older : List ℕ) (base : ℕ) → onWords.FrameChain s regular alternate base older → sound.Chain s base
 bare-chain s regular alternate [] base k = sound.bottom {base = base} (k .itself)
 bare-chain s regular alternate (next ∷ older) base k =
     sound.upon {base = base} (omega (arith, k .0 .last, k .0 .start)) (subst (sound.Chain s) (sym (k .0 .last)) (bare-chain s regular alternate older next (k .1)))
 
-pub split : (s regular alternate : List ℕ) → Accepted s regular alternate → Whole s regular alternate
+pub split : (s regular alternate : List ℕ) → Accepted s regular alternate → LegalSegment s regular alternate
 split s regular alternate h = record {
   shortest = h .shortest;
   longest = h .longest;

@@ -23,7 +23,7 @@ pub data Stacked (s regular alternate : List ℕ) : ℕ → List ℕ → List (F
       → Stacked s regular alternate start frames l → Stacked s regular alternate (base + 2) (base ∷ frames) (seenFrame s base start ∷ l)
 
 module _ (s regular alternate : List ℕ) where
-  pub stacked : (older : List ℕ) (n base : ℕ) → base < n → onWords.Chain s regular alternate base older
+  pub stacked : (older : List ℕ) (n base : ℕ) → base < n → onWords.FrameChain s regular alternate base older
       → Stacked s regular alternate (base + 2) (base ∷ older) (seenFrames n s base)
   stacked older zero base l h = absurd (omega arith)
   stacked [] (suc n) base l h = rw (seen-bottom n s base (h .itself)) (frame {start = 0} base (omega (arith, h .start)) none)

@@ -19,7 +19,7 @@ use Rattle.effects.specs.Alike.{HasFrame}
 use Rattle.legality.specs.Legal.{Legal}
 
 -- A segment as the machine's theorems have it: lengths, procedure segments, state words, storage and frames, and every cell.
-pub record Whole (s regular alternate : List ℕ) : Type 0 where
+pub record LegalSegment (s regular alternate : List ℕ) : Type 0 where
   pub shortest : 32 ≤ length s
   pub longest : length s ≤ 16384
   pub procedures : procedureRefusal regular alternate ≡ 0
@@ -35,7 +35,7 @@ abbrev pub currentResult : List ℕ → List ℕ → List ℕ → Bool
 currentResult s regular alternate = resultOf (frameSegment regular alternate (codeWordAt s (lbase s))) (functionNumber (codeWordAt s (lbase s)))
 
 pub record LegalTheorems : Type 0 where
-  pub split : (s regular alternate : List ℕ) → Accepted s regular alternate → Whole s regular alternate
-  pub join : (s regular alternate : List ℕ) → Whole s regular alternate → Accepted s regular alternate
+  pub split : (s regular alternate : List ℕ) → Accepted s regular alternate → LegalSegment s regular alternate
+  pub join : (s regular alternate : List ℕ) → LegalSegment s regular alternate → Accepted s regular alternate
   -- what an instruction of the current function may rely on
   pub runs : (s regular alternate : List ℕ) → Accepted s regular alternate → HasFrame s (currentVariables s regular alternate) (currentResult s regular alternate)

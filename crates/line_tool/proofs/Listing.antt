@@ -9,7 +9,7 @@ use lib.Dec.{eqb, leb}
 use lib.ListN.{length, set}
 use Rattle.line_tool.specs.Tokens.{tokenAt, textOf}
 use Rattle.line_tool.specs.Numbers.{numberIn}
-use Rattle.line_tool.specs.Lists.{Listing, listed, withNumber, turn, numbersAt}
+use Rattle.line_tool.specs.Lists.{Listing, listing, withNumber, turn, numbersAt}
 use Rattle.line_tool.specs.declared.tokens.Token.{Token}
 use Rattle.line_tool.specs.declared.fault.Fault.{Fault}
 use Rattle.line_tool.specs.declared.fault.Fault.the-variants.{PastEnd}
@@ -32,7 +32,7 @@ turn-is base line zero at n out h = absurd (not-suc-le-zero h)
 turn-is base line (suc left) at n out h = let e : suc left - 1 ≡ left = omega arith in rw e
 
 module _ {goal : Listing} {base : Base} {line : List ℕ} {left at n : ℕ} {out : List ℕ} (f : ListFrom goal base line left at n out) where
-  pub list-most : left ≡ 0 → listed (Numbers n at) out ≡ goal
+  pub list-most : left ≡ 0 → listing (Numbers n at) out ≡ goal
   unfolding numbersAt
   list-most e = rw e at (f .so-far)
 
@@ -40,15 +40,15 @@ module _ {goal : Listing} {base : Base} {line : List ℕ} {left at n : ℕ} {out
     here : turn-at base line (left - 1) at n out t ≡ goal
     here = rw e (turn-is base line left at n out l ∙ f .so-far)
 
-    pub list-end : eqb (t .start) (t .end) ≡ true → listed (Numbers n at) out ≡ goal
+    pub list-end : eqb (t .start) (t .end) ≡ true → listing (Numbers n at) out ≡ goal
     unfolding turn-at turn
     list-end p = rw p at here
 
-    pub list-wrong : {fault : Fault} → eqb (t .start) (t .end) ≡ false → numberIn base (textOf line t) ≡ number.Wrong fault → listed (Wrong fault t) out ≡ goal
+    pub list-wrong : {fault : Fault} → eqb (t .start) (t .end) ≡ false → numberIn base (textOf line t) ≡ number.Wrong fault → listing (Wrong fault t) out ≡ goal
     unfolding turn-at turn withNumber
     list-wrong p q = rw (p, q) at here
 
-    pub list-full : {v : ℕ} → eqb (t .start) (t .end) ≡ false → numberIn base (textOf line t) ≡ number.Value v → leb (length out) n ≡ true → listed (Wrong PastEnd t) out ≡ goal
+    pub list-full : {v : ℕ} → eqb (t .start) (t .end) ≡ false → numberIn base (textOf line t) ≡ number.Value v → leb (length out) n ≡ true → listing (Wrong PastEnd t) out ≡ goal
     unfolding turn-at turn withNumber
     list-full p q r = rw (p, q, r) at here
 

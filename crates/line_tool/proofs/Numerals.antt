@@ -11,7 +11,7 @@ use borrow.Author.Tests.{lt-ltb, le-ltb, le-leb, lt-leb, leb-false, ne-eqb}
 use lib.Dec.{leb, lit<}
 use lib.ListN.{length, getD, drop}
 use lib.Seq.{drop-cons, drop-length}
-use Rattle.line_tool.specs.Numbers.{digitOf, isNumeral, numberFrom, numberOf, decimal, hex}
+use Rattle.line_tool.specs.Numbers.{digitOf, isNumeral, numberFrom, numberOf, decimalNumber, hexNumber}
 use Rattle.line_tool.specs.declared.fault.Fault.the-variants.{TooLarge}
 use Rattle.line_tool.specs.declared.number.Number.the-variants.{Value, Wrong}
 
@@ -105,21 +105,21 @@ pub hex-fits : (w : List ℕ) {n : ℕ} → isNumeral 16 w ≡ true → length w
 hex-fits w d h e = omega (arith, hex-bound w d h)
 
 module _ (w : List ℕ) {n : ℕ} (some : length w ≡ 0 → ⊥) where
-  pub decimal-large : isNumeral 10 w ≡ true → n ≡ min (numberOf 10 w) (2 ^ 32) → 0xffff_ffff < n → Wrong TooLarge ≡ decimal w
-  unfolding decimal
+  pub decimal-large : isNumeral 10 w ≡ true → n ≡ min (numberOf 10 w) (2 ^ 32) → 0xffff_ffff < n → Wrong TooLarge ≡ decimalNumber w
+  unfolding decimalNumber
   decimal-large d e h =
       let l : 0xffff_ffff < numberOf 10 w = omega arith in
       simp (ne-eqb _ _ some, d, lt-ltb _ _ l)
 
-  pub decimal-value : isNumeral 10 w ≡ true → n ≡ min (numberOf 10 w) (2 ^ 32) → n ≤ 0xffff_ffff → Value n ≡ decimal w
-  unfolding decimal
+  pub decimal-value : isNumeral 10 w ≡ true → n ≡ min (numberOf 10 w) (2 ^ 32) → n ≤ 0xffff_ffff → Value n ≡ decimalNumber w
+  unfolding decimalNumber
   decimal-value d e h =
       let l : numberOf 10 w ≤ 0xffff_ffff = omega arith in
       let v : n ≡ numberOf 10 w = omega arith in
       simp (ne-eqb _ _ some, d, le-ltb _ _ l, v)
 
-  pub hex-value : isNumeral 16 w ≡ true → length w ≤ 8 → n ≡ min (numberOf 16 w) (2 ^ 32) → Value n ≡ hex w
-  unfolding hex
+  pub hex-value : isNumeral 16 w ≡ true → length w ≤ 8 → n ≡ min (numberOf 16 w) (2 ^ 32) → Value n ≡ hexNumber w
+  unfolding hexNumber
   hex-value d h e =
       let v : n ≡ numberOf 16 w = omega (arith, hex-bound w d h) in
       simp (ne-eqb _ _ some, d, le-ltb _ _ h, v)

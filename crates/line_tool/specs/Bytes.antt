@@ -16,8 +16,8 @@ abbrev pub isDash : List ℕ → Bool
 isDash word = cond (eqb (length word) 1) (eqb (getD word 0 0) 45) false
 
 -- How many bytes a word writes, of which there is room for so many.
-unfoldable pub counted : List ℕ → ℕ → Counted
-counted word room =
+unfoldable pub byteCount : List ℕ → ℕ → Counted
+byteCount word room =
     cond (eqb (length word) 0) (Wrong Missing)
     (cond (isDash word) (Bytes 0)
     (cond (isNumeral 16 word)
@@ -49,18 +49,18 @@ header : pairs (bytes "00012e0F") ≡ 0 ∷ 1 ∷ 46 ∷ 15 ∷ []
 unfolding digitOf
 header = refl
 
-none : counted (bytes "-") 40000 ≡ Bytes 0
-unfolding counted digitOf
+none : byteCount (bytes "-") 40000 ≡ Bytes 0
+unfolding byteCount digitOf
 none = refl
 
-some : counted (bytes "00012e0F") 4 ≡ Bytes 4
-unfolding counted digitOf
+some : byteCount (bytes "00012e0F") 4 ≡ Bytes 4
+unfolding byteCount digitOf
 some = refl
 
-odd : counted (bytes "000") 40000 ≡ Wrong Odd
-unfolding counted digitOf
+odd : byteCount (bytes "000") 40000 ≡ Wrong Odd
+unfolding byteCount digitOf
 odd = refl
 
-too-many : counted (bytes "0001") 1 ≡ Wrong TooManyBytes
-unfolding counted digitOf
+too-many : byteCount (bytes "0001") 1 ≡ Wrong TooManyBytes
+unfolding byteCount digitOf
 too-many = refl

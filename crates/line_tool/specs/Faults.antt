@@ -10,43 +10,43 @@ use Rattle.line_tool.specs.Text.{bytes}
 use Rattle.line_tool.specs.declared.fault.Fault.{Fault}
 use Rattle.line_tool.specs.declared.fault.Fault.the-variants as F
 
-unfoldable pub words : Fault → String
-words F.NoCommand = "no such command"
-words F.Missing = "something is missing after"
-words F.Extra = "more than the command takes"
-words F.NotDecimal = "not a decimal number"
-words F.TooLarge = "a number above 4294967295"
-words F.NotHex = "not only digits 0 to 9 and a to f"
-words F.TooLong = "a word of more than 8 digits"
-words F.Odd = "an odd number of digits, two are a byte"
-words F.TooManyBytes = "more than 40000 bytes"
-words F.TooManyWords = "more than 40000 words"
-words F.PastEnd = "past the end of the segment"
-words F.NoBar = "no bar | where the lengths end"
-words F.LongLine = "the line is too long, it begins with"
+unfoldable pub faultText : Fault → String
+faultText F.NoCommand = "no such command"
+faultText F.Missing = "something is missing after"
+faultText F.Extra = "more than the command takes"
+faultText F.NotDecimal = "not a decimal number"
+faultText F.TooLarge = "a number above 4294967295"
+faultText F.NotHex = "not only digits 0 to 9 and a to f"
+faultText F.TooLong = "a word of more than 8 digits"
+faultText F.Odd = "an odd number of digits, two are a byte"
+faultText F.TooManyBytes = "more than 40000 bytes"
+faultText F.TooManyWords = "more than 40000 words"
+faultText F.PastEnd = "past the end of the segment"
+faultText F.NoBar = "no bar | where the lengths end"
+faultText F.LongLine = "the line is too long, it begins with"
 
 -- The place of a fault among the others.
-unfoldable pub lineOf : Fault → ℕ
-lineOf F.NoCommand = 0
-lineOf F.Missing = 1
-lineOf F.Extra = 2
-lineOf F.NotDecimal = 3
-lineOf F.TooLarge = 4
-lineOf F.NotHex = 5
-lineOf F.TooLong = 6
-lineOf F.Odd = 7
-lineOf F.TooManyBytes = 8
-lineOf F.TooManyWords = 9
-lineOf F.PastEnd = 10
-lineOf F.NoBar = 11
-lineOf F.LongLine = 12
+unfoldable pub faultLine : Fault → ℕ
+faultLine F.NoCommand = 0
+faultLine F.Missing = 1
+faultLine F.Extra = 2
+faultLine F.NotDecimal = 3
+faultLine F.TooLarge = 4
+faultLine F.NotHex = 5
+faultLine F.TooLong = 6
+faultLine F.Odd = 7
+faultLine F.TooManyBytes = 8
+faultLine F.TooManyWords = 9
+faultLine F.PastEnd = 10
+faultLine F.NoBar = 11
+faultLine F.LongLine = 12
 
 -- A token of an error: its first 40 bytes.
 unfoldable pub shown : List ℕ → List ℕ
 shown token = cond (leb (length token) 40) token (take 40 token ++ bytes "..")
 
-missing : words F.Missing ≡ "something is missing after"
-unfolding words
+missing : faultText F.Missing ≡ "something is missing after"
+unfolding faultText
 missing = refl
 
 whole : shown (bytes "0x12") ≡ bytes "0x12"

@@ -8,7 +8,7 @@ use lib.Dec.{eqb, leb}
 use lib.ListN.{length, set}
 use Rattle.line_tool.specs.Text.{bytes}
 use Rattle.line_tool.specs.Tokens.{tokenAt, textOf, afterAll}
-use Rattle.line_tool.specs.Numbers.{numberIn, decimal, hex, digitOf}
+use Rattle.line_tool.specs.Numbers.{numberIn, decimalNumber, hexNumber, digitOf}
 use Rattle.line_tool.specs.declared.tokens.Token.{Token}
 use Rattle.line_tool.specs.declared.fault.Fault.{Fault}
 use Rattle.line_tool.specs.declared.fault.Fault.the-variants.{PastEnd, NotHex}
@@ -25,8 +25,8 @@ pub record Listing : Type 0 where
   pub answer : Listed
   pub numbers : List ℕ
 
-abbrev pub listed : Listed → List ℕ → Listing
-listed answer out = record { answer = answer; numbers = out }
+abbrev pub listing : Listed → List ℕ → Listing
+listing answer out = record { answer = answer; numbers = out }
 
 unfoldable pub withNumber : Number → (ℕ → Listing) → (Fault → Listing) → Listing
 withNumber (Value v) value wrong = value v
@@ -35,34 +35,34 @@ withNumber (number.Wrong fault) value wrong = wrong fault
 -- What a token gives at a place: the end of the list where it is empty, a fault, or a number, with which the rest goes on.
 unfoldable pub turn : Base → List ℕ → ℕ → ℕ → List ℕ → Token → (ℕ → Listing) → Listing
 turn base line at n out token rest =
-    cond (eqb (token .start) (token .end)) (listed (Numbers n at) out)
+    cond (eqb (token .start) (token .end)) (listing (Numbers n at) out)
     (withNumber (numberIn base (textOf line token))
-    (λ value. cond (leb (length out) n) (listed (Wrong PastEnd token) out) (rest value))
-    (λ fault. listed (Wrong fault token) out))
+    (λ value. cond (leb (length out) n) (listing (Wrong PastEnd token) out) (rest value))
+    (λ fault. listing (Wrong fault token) out))
 
 -- The numbers from a place on, at most so many, into a buffer that has n of them already.
 unfoldable pub numbersAt : Base → List ℕ → ℕ → ℕ → ℕ → List ℕ → Listing
-numbersAt base line zero at n out = listed (Numbers n at) out
+numbersAt base line zero at n out = listing (Numbers n at) out
 numbersAt base line (suc left) at n out =
     let token = tokenAt line at in
     turn base line at n out token (λ value. numbersAt base line left (token .end) (n + 1) (set out n value))
 
-value-goes-on : withNumber (Value 5) (λ v. listed (Numbers v 0) []) (λ fault. listed (Numbers 0 0) []) ≡ listed (Numbers 5 0) []
+value-goes-on : withNumber (Value 5) (λ v. listing (Numbers v 0) []) (λ fault. listing (Numbers 0 0) []) ≡ listing (Numbers 5 0) []
 unfolding withNumber
 value-goes-on = refl
 
-shape : numbersAt Decimal (bytes "load 8 2 3 4 | 1") 2 8 0 (0 ∷ 0 ∷ 0 ∷ []) ≡ listed (Numbers 2 12) (3 ∷ 4 ∷ 0 ∷ [])
-unfolding numbersAt turn withNumber tokenAt textOf afterAll numberIn decimal digitOf
+shape : numbersAt Decimal (bytes "load 8 2 3 4 | 1") 2 8 0 (0 ∷ 0 ∷ 0 ∷ []) ≡ listing (Numbers 2 12) (3 ∷ 4 ∷ 0 ∷ [])
+unfolding numbersAt turn withNumber tokenAt textOf afterAll numberIn decimalNumber digitOf
 shape = refl
 
-line-ends : numbersAt Decimal (bytes "7 ") 3 0 0 (0 ∷ []) ≡ listed (Numbers 1 1) (7 ∷ [])
-unfolding numbersAt turn withNumber tokenAt textOf afterAll numberIn decimal digitOf
+line-ends : numbersAt Decimal (bytes "7 ") 3 0 0 (0 ∷ []) ≡ listing (Numbers 1 1) (7 ∷ [])
+unfolding numbersAt turn withNumber tokenAt textOf afterAll numberIn decimalNumber digitOf
 line-ends = refl
 
-bad : numbersAt Hex (bytes "1f g") 4 0 0 (0 ∷ 0 ∷ []) ≡ listed (Wrong NotHex (record { start = 3; end = 4 })) (31 ∷ 0 ∷ [])
-unfolding numbersAt turn withNumber tokenAt textOf afterAll numberIn hex digitOf
+bad : numbersAt Hex (bytes "1f g") 4 0 0 (0 ∷ 0 ∷ []) ≡ listing (Wrong NotHex (record { start = 3; end = 4 })) (31 ∷ 0 ∷ [])
+unfolding numbersAt turn withNumber tokenAt textOf afterAll numberIn hexNumber digitOf
 bad = refl
 
-no-room : numbersAt Hex (bytes "1 2") 3 0 0 (0 ∷ []) ≡ listed (Wrong PastEnd (record { start = 2; end = 3 })) (1 ∷ [])
-unfolding numbersAt turn withNumber tokenAt textOf afterAll numberIn hex digitOf
+no-room : numbersAt Hex (bytes "1 2") 3 0 0 (0 ∷ []) ≡ listing (Wrong PastEnd (record { start = 2; end = 3 })) (1 ∷ [])
+unfolding numbersAt turn withNumber tokenAt textOf afterAll numberIn hexNumber digitOf
 no-room = refl

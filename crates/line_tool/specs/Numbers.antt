@@ -37,23 +37,23 @@ numberFrom base n (b ∷ bs) = numberFrom base (n * base + digitOf b) bs
 abbrev pub numberOf : ℕ → List ℕ → ℕ
 numberOf base word = numberFrom base 0 word
 
-unfoldable pub decimal : List ℕ → Number
-decimal word =
+unfoldable pub decimalNumber : List ℕ → Number
+decimalNumber word =
     cond (eqb (length word) 0) (Wrong Missing)
     (cond (isNumeral 10 word)
     (cond (ltb 0xffff_ffff (numberOf 10 word)) (Wrong TooLarge) (Value (numberOf 10 word)))
     (Wrong NotDecimal))
 
-unfoldable pub hex : List ℕ → Number
-hex word =
+unfoldable pub hexNumber : List ℕ → Number
+hexNumber word =
     cond (eqb (length word) 0) (Wrong Missing)
     (cond (isNumeral 16 word)
     (cond (ltb 8 (length word)) (Wrong TooLong) (Value (numberOf 16 word)))
     (Wrong NotHex))
 
 unfoldable pub numberIn : Base → List ℕ → Number
-numberIn Decimal word = decimal word
-numberIn Hex word = hex word
+numberIn Decimal word = decimalNumber word
+numberIn Hex word = hexNumber word
 
 upper-case : digitOf 70 ≡ 15
 unfolding digitOf
@@ -79,30 +79,30 @@ sixteens : numberOf 16 (bytes "1f") ≡ 31
 unfolding digitOf
 sixteens = refl
 
-greatest : decimal (bytes "4294967295") ≡ Value 0xffff_ffff
-unfolding decimal digitOf
+greatest : decimalNumber (bytes "4294967295") ≡ Value 0xffff_ffff
+unfolding decimalNumber digitOf
 greatest = refl
 
-too-large : decimal (bytes "4294967296") ≡ Wrong TooLarge
-unfolding decimal digitOf
+too-large : decimalNumber (bytes "4294967296") ≡ Wrong TooLarge
+unfolding decimalNumber digitOf
 too-large = refl
 
-not-decimal : decimal (bytes "12a") ≡ Wrong NotDecimal
-unfolding decimal digitOf
+not-decimal : decimalNumber (bytes "12a") ≡ Wrong NotDecimal
+unfolding decimalNumber digitOf
 not-decimal = refl
 
-either-case : hex (bytes "0200aBcD") ≡ Value 0x0200_abcd
-unfolding hex digitOf
+either-case : hexNumber (bytes "0200aBcD") ≡ Value 0x0200_abcd
+unfolding hexNumber digitOf
 either-case = refl
 
-nine-digits : hex (bytes "000000001") ≡ Wrong TooLong
-unfolding hex digitOf
+nine-digits : hexNumber (bytes "000000001") ≡ Wrong TooLong
+unfolding hexNumber digitOf
 nine-digits = refl
 
-no-digits : hex [] ≡ Wrong Missing
-unfolding hex
+no-digits : hexNumber [] ≡ Wrong Missing
+unfolding hexNumber
 no-digits = refl
 
 by-base : numberIn Hex (bytes "10") ≡ Value 16
-unfolding numberIn hex digitOf
+unfolding numberIn hexNumber digitOf
 by-base = refl

@@ -11,21 +11,21 @@ use Rattle.line_tool.specs.Tokens.{leading, isOf}
 use Rattle.line_tool.specs.declared.tokens.Kind.the-variants.{InLine}
 
 -- The line of a number, the first being 0; past the last line there is none.
-abbrev pub lineOf : ℕ → List ℕ → List ℕ
-lineOf zero text = take (leading (isOf InLine) text) text
-lineOf (suc k) [] = []
-lineOf (suc k) (b ∷ text) = cond (isOf InLine b) (lineOf (suc k) text) (lineOf k text)
+abbrev pub textLine : ℕ → List ℕ → List ℕ
+textLine zero text = take (leading (isOf InLine) text) text
+textLine (suc k) [] = []
+textLine (suc k) (b ∷ text) = cond (isOf InLine b) (textLine (suc k) text) (textLine k text)
 
 -- The place of a key among others; their number where it is none of them.
-abbrev pub placeOf : ℕ → List ℕ → ℕ
-placeOf key [] = 0
-placeOf key (k ∷ keys) = cond (eqb key k) 0 (suc (placeOf key keys))
+abbrev pub keyPlace : ℕ → List ℕ → ℕ
+keyPlace key [] = 0
+keyPlace key (k ∷ keys) = cond (eqb key k) 0 (suc (keyPlace key keys))
 
-second-line : lineOf 1 (97 ∷ 10 ∷ 98 ∷ 99 ∷ 10 ∷ []) ≡ bytes "bc"
+second-line : textLine 1 (97 ∷ 10 ∷ 98 ∷ 99 ∷ 10 ∷ []) ≡ bytes "bc"
 second-line = refl
 
-no-line : lineOf 2 (97 ∷ 10 ∷ 98 ∷ []) ≡ []
+no-line : textLine 2 (97 ∷ 10 ∷ 98 ∷ []) ≡ []
 no-line = refl
 
-third-key : placeOf 7 (3 ∷ 5 ∷ 7 ∷ 9 ∷ []) ≡ 2
+third-key : keyPlace 7 (3 ∷ 5 ∷ 7 ∷ 9 ∷ []) ≡ 2
 third-key = refl

@@ -13,7 +13,7 @@ pub enum Counted {
 
 // How many bytes a word writes, of which there is room for so many.
 pub fn count(word: &[u8], room: usize) -> Counted
-    ensures { λ r. ⌜ r ≡ meaning.counted (now (word .entry)) room ⌝ }
+    ensures { λ r. ⌜ r ≡ meaning.byteCount (now (word .entry)) room ⌝ }
 {
     if word.len() == 0 {
         return Counted::Wrong(Fault::Missing);

@@ -23,7 +23,7 @@ pub enum Fault {
 }
 
 pub fn put_fault(out: &mut [u8], at: usize, fault: Fault) -> usize
-    ensures { λ r. ⌜ wrote r (now (out .exit)) ≡ writes (now (out .entry)) at (bytes (meaning.words fault)) ⌝ }
+    ensures { λ r. ⌜ wrote r (now (out .exit)) ≡ writes (now (out .entry)) at (bytes (meaning.faultText fault)) ⌝ }
 {
     let texts = b"no such command
 something is missing after
@@ -44,7 +44,7 @@ the line is too long, it begins with
 
 // The line that says a fault.
 fn line_of(fault: Fault) -> usize
-    ensures { λ r. ⌜ r ≡ meaning.lineOf fault ⌝ }
+    ensures { λ r. ⌜ r ≡ meaning.faultLine fault ⌝ }
 {
     match fault {
         Fault::NoCommand => 0,

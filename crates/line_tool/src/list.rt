@@ -17,7 +17,7 @@ pub enum Listed {
 
 // The numbers from a place on, at most so many, put into out in order.
 pub fn numbers_at(base: Base, line: &[u8], from: usize, most: usize, out: &mut [u32]) -> Listed
-    ensures { λ r. ⌜ meaning.listed r (now (out .exit)) ≡ meaning.numbersAt base (now (line .entry)) most from 0 (now (out .entry)) ⌝ }
+    ensures { λ r. ⌜ meaning.listing r (now (out .exit)) ≡ meaning.numbersAt base (now (line .entry)) most from 0 (now (out .entry)) ⌝ }
 {
     let mut left = most;
     let mut at = from;

@@ -24,7 +24,7 @@ pub fn number_in(base: Base, word: &[u8]) -> Number
 }
 
 pub fn decimal(word: &[u8]) -> Number
-    ensures { λ r. ⌜ r ≡ meaning.decimal (now (word .entry)) ⌝ }
+    ensures { λ r. ⌜ r ≡ meaning.decimalNumber (now (word .entry)) ⌝ }
 {
     if word.len() == 0 {
         return Number::Wrong(Fault::Missing);
@@ -40,7 +40,7 @@ pub fn decimal(word: &[u8]) -> Number
 }
 
 pub fn hex(word: &[u8]) -> Number
-    ensures { λ r. ⌜ r ≡ meaning.hex (now (word .entry)) ⌝ }
+    ensures { λ r. ⌜ r ≡ meaning.hexNumber (now (word .entry)) ⌝ }
 {
     if word.len() == 0 {
         return Number::Wrong(Fault::Missing);

@@ -11,7 +11,7 @@ use crate::writing::put;
 
 // The place of a key; past the last where it is none of them.
 pub fn place_of(key: u16, keys: &[u16]) -> usize
-    ensures { λ r. ⌜ r ≡ meaning.placeOf key (now (keys .entry)) ⌝ }
+    ensures { λ r. ⌜ r ≡ meaning.keyPlace key (now (keys .entry)) ⌝ }
 {
     let mut i = 0;
     while i < keys.len() {
@@ -25,7 +25,7 @@ pub fn place_of(key: u16, keys: &[u16]) -> usize
 
 // Line k of a text is written.
 pub fn put_line(out: &mut [u8], at: usize, text: &[u8], k: usize) -> usize
-    ensures { λ r. ⌜ wrote r (now (out .exit)) ≡ writes (now (out .entry)) at (meaning.lineOf k (now (text .entry))) ⌝ }
+    ensures { λ r. ⌜ wrote r (now (out .exit)) ≡ writes (now (out .entry)) at (meaning.textLine k (now (text .entry))) ⌝ }
 {
     let start = line_start(text, k);
     let end = line_end(text, start);
@@ -34,7 +34,7 @@ pub fn put_line(out: &mut [u8], at: usize, text: &[u8], k: usize) -> usize
 
 // Where line k begins.
 fn line_start(text: &[u8], k: usize) -> usize
-    ensures { λ r. ⌜ (r ≤ length (now (text .entry))) × (meaning.lineOf 0 (drop r (now (text .entry))) ≡ meaning.lineOf k (now (text .entry))) ⌝ }
+    ensures { λ r. ⌜ (r ≤ length (now (text .entry))) × (meaning.textLine 0 (drop r (now (text .entry))) ≡ meaning.textLine k (now (text .entry))) ⌝ }
 {
     let mut left = k;
     let mut i = 0;

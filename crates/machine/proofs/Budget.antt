@@ -9,7 +9,7 @@ use Rattle.effects.specs.declared.Stepped.the-variants as answers
 use Rattle.effects.specs.declared.Ran.{Ran}
 use Rattle.effects.specs.declared.Ran.the-variants.{Done, Trapped}
 use Rattle.effects.specs.Step.{stepResult, trapped, stepOf}
-use Rattle.effects.specs.Run.{RunResult, ended, stepsFrom}
+use Rattle.effects.specs.Run.{RunResult, runResult, stepsFrom}
 use Rattle.machine.specs.Resuming.{resumed, Advanced}
 
 -- a part of a run by what it answers
@@ -17,7 +17,7 @@ module _ (regular alternate : List ℕ) (budget n : ℕ) (t : List ℕ) {r : Ran
   pub goes-on : r ≡ Done n → resumed r budget regular alternate t ≡ o → stepsFrom (budget - n) n regular alternate t ≡ o
   goes-on is told = rw is at told
 
-  pub stops : r ≡ Trapped n → resumed r budget regular alternate t ≡ o → ended (Trapped n) t ≡ o
+  pub stops : r ≡ Trapped n → resumed r budget regular alternate t ≡ o → runResult (Trapped n) t ≡ o
   stops is told = rw is at told
 
 pub advances : (start budget n : ℕ) {r : Ran} → r ≡ Done n → Advanced start budget r → (start < n) × (n ≤ budget)
@@ -30,7 +30,7 @@ left-later {start} {n} from same is differs =
     omega arith
 
 module _ (regular alternate : List ℕ) (budget n : ℕ) (s : List ℕ) where
-  pub run-ends : budget ≤ n → ended (Done n) s ≡ stepsFrom (budget - n) n regular alternate s
+  pub run-ends : budget ≤ n → runResult (Done n) s ≡ stepsFrom (budget - n) n regular alternate s
   unfolding stepsFrom
   run-ends done =
       let none : budget - n ≡ 0 = omega arith in
@@ -45,11 +45,11 @@ module _ (regular alternate : List ℕ) (budget n : ℕ) (s : List ℕ) where
     unfolding stepsFrom
     run-goes done = rw (one, ← is, done)
 
-    pub run-traced : (class number : ℕ) → r ≡ answers.Traced class number → ended (Trapped (n + 1)) t ≡ stepsFrom (budget - n) n regular alternate s
+    pub run-traced : (class number : ℕ) → r ≡ answers.Traced class number → runResult (Trapped (n + 1)) t ≡ stepsFrom (budget - n) n regular alternate s
     unfolding stepsFrom
     run-traced class number traced = rw (one, ← is, traced)
 
-    pub run-trapped : (class number : ℕ) → r ≡ answers.Trapped class number → ended (Trapped n) t ≡ stepsFrom (budget - n) n regular alternate s
+    pub run-trapped : (class number : ℕ) → r ≡ answers.Trapped class number → runResult (Trapped n) t ≡ stepsFrom (budget - n) n regular alternate s
     unfolding stepsFrom
     run-trapped class number trapped = rw (one, ← is, trapped)
 

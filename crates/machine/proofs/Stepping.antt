@@ -11,13 +11,13 @@ use Rattle.procedure.specs.declared.header.Block.{Block}
 use Rattle.procedure.specs.declared.directory.Function.the-variants as F
 use Rattle.procedure.specs.Directory.{selected, functionOf}
 use Rattle.segment.specs.State.{lbase, flags, stepFlag, setTrap}
-use Rattle.segment.specs.Stack.{codeWordAt, alternate as bitP, functionNumber, pctr}
+use Rattle.segment.specs.Stack.{codeWordAt, alternateBit as bitP, functionNumber, pctr}
 use Rattle.manual.specs.Instructions.{Running, running, headerOf, planAt}
 use Rattle.effects.specs.declared.Outcome.{Outcome}
 use Rattle.effects.specs.Carried.{CarriesOut}
 use Rattle.effects.specs.declared.Stepped.the-variants.{Finished, Traced, Trapped}
 use Rattle.machine.specs.Resuming.{stepAt}
-use Rattle.effects.specs.Step.{stepResult, selectorOf, numberOf, trapped, finished, settled, settle, stepIn, stepFound, stepOf}
+use Rattle.effects.specs.Step.{stepResult, selectorOf, currentFunction, trapped, finished, settled, settle, stepIn, stepFound, stepOf}
 
 -- a class and a number of eight bits are themselves
 eight-bits : (n : ℕ) → n < 256 → n % 2 ^ 8 ≡ n
@@ -30,7 +30,7 @@ pub bit-small : (P : Bool) → boolByte P ≤ 1
 bit-small true = omega arith
 bit-small false = omega arith
 
-pub number-small : (s : List ℕ) {number : ℕ} → numberOf s ≡ number → number < 2 ^ 11
+pub number-small : (s : List ℕ) {number : ℕ} → currentFunction s ≡ number → number < 2 ^ 11
 number-small s is = omega arith
 
 -- P and the function's number in a frame's word, apart and at once
@@ -73,7 +73,7 @@ module _ (s : List ℕ) where
     step-kept u kept = ap (stepAt f place) kept ∙ ap (λ (n : ℕ). stepAt f n s) counted
 
   -- the function of the current frame
-  module _ (regular alternate : List ℕ) {selector : Bool} {number : ℕ} (P : selectorOf s ≡ selector) (n : numberOf s ≡ number) where
+  module _ (regular alternate : List ℕ) {selector : Bool} {number : ℕ} (P : selectorOf s ≡ selector) (n : currentFunction s ≡ number) where
     found : stepFound regular alternate s selector (functionOf (selected selector regular alternate) number) ≡ stepOf regular alternate s
     unfolding stepOf
     found = rw (← P, ← n)

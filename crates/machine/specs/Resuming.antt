@@ -10,8 +10,8 @@ use Rattle.effects.specs.declared.Ran.{Ran}
 use Rattle.effects.specs.declared.Ran.the-variants.{Done, Trapped}
 use Rattle.effects.specs.Seen.{seen}
 use Rattle.effects.specs.Carried.{carry}
-use Rattle.effects.specs.Step.{StepResult, selectorOf, numberOf, settle}
-use Rattle.effects.specs.Run.{RunResult, ended, stepsFrom}
+use Rattle.effects.specs.Step.{StepResult, selectorOf, currentFunction, settle}
+use Rattle.effects.specs.Run.{RunResult, runResult, stepsFrom}
 
 -- A step of the instruction at that place of the function `f`, wherever PCTR is.
 abbrev pub stepAt : Running → ℕ → List ℕ → StepResult
@@ -21,12 +21,12 @@ stepAt f place s = settle (f .regular) (f .alternate) (headerOf f .rtntrace) (ca
 pub record Current (f : Running) (number : ℕ) (s : List ℕ) : Type 0 where
   pub found : functionOf (segmentOf f) number ≡ At (f .block)
   pub selects : selectorOf s ≡ f .selector
-  pub numbers : numberOf s ≡ number
+  pub numbers : currentFunction s ≡ number
 
 -- What the whole run comes to, of `budget` instructions, when a part of it has answered so.
 abbrev pub resumed : Ran → ℕ → List ℕ → List ℕ → List ℕ → RunResult
 resumed (Done n) budget regular alternate s = stepsFrom (budget - n) n regular alternate s
-resumed (Trapped n) budget regular alternate s = ended (Trapped n) s
+resumed (Trapped n) budget regular alternate s = runResult (Trapped n) s
 
 -- A part that begins after `start` instructions and has not trapped has done at least one more.
 abbrev pub Advanced : ℕ → ℕ → Ran → Type 0

@@ -6,8 +6,8 @@ ghost use Rattle.procedure.specs.Directory.{selected};
 ghost use Rattle.segment.specs.State as state;
 ghost use Rattle.segment.specs.Stack as frames;
 ghost use Rattle.manual.specs.Instructions as plan;
-ghost use Rattle.effects.specs.Step.{selectorOf, numberOf};
-ghost use Rattle.effects.specs.Run.{ended, stepsFrom};
+ghost use Rattle.effects.specs.Step.{selectorOf, currentFunction};
+ghost use Rattle.effects.specs.Run.{runResult, stepsFrom};
 ghost use Rattle.effects.specs.declared.Ran.the-variants as R;
 ghost use Rattle.machine.specs.Resuming.{Resumes, Current};
 use super::step::step_in;
@@ -25,7 +25,7 @@ use segment::word;
 // At most `budget` instructions.
 pub fn run(seg: &mut [u32], regular: &[u8], alternate: &[u8], budget: u32) -> Ran
     requires { ⌜ length (now seg) ≤ 16384 ⌝ }
-    ensures { λ r. ⌜ ended r (now (seg .exit)) ≡ stepsFrom budget 0 (now (regular .entry)) (now (alternate .entry)) (now (seg .entry)) ⌝ }
+    ensures { λ r. ⌜ runResult r (now (seg .exit)) ≡ stepsFrom budget 0 (now (regular .entry)) (now (alternate .entry)) (now (seg .entry)) ⌝ }
 {
     let mut scratch = [0u32; 16384];
     steps_up_to(seg, regular, alternate, budget, &mut scratch)
@@ -39,7 +39,7 @@ fn steps_up_to(
     scratch: &mut [u32],
 ) -> Ran
     requires { ⌜ (length (now seg) ≤ 16384) × (length (now scratch) ≡ 16384) ⌝ }
-    ensures { λ r. ⌜ ended r (now (seg .exit)) ≡ stepsFrom budget 0 (now (regular .entry)) (now (alternate .entry)) (now (seg .entry)) ⌝ }
+    ensures { λ r. ⌜ runResult r (now (seg .exit)) ≡ stepsFrom budget 0 (now (regular .entry)) (now (alternate .entry)) (now (seg .entry)) ⌝ }
 {
     let mut steps = 0;
     while steps < budget {
@@ -109,7 +109,7 @@ fn run_function(
 ) -> Ran
     requires { ⌜ (length (now seg) ≤ 16384) × (length (now scratch) ≡ 16384) × (start < budget) ⌝ }
     requires { ⌜ now p ≡ selected selector (now regular) (now alternate) ⌝ }
-    requires { ⌜ (selectorOf (now seg) ≡ selector) × (numberOf (now seg) ≡ number) ⌝ }
+    requires { ⌜ (selectorOf (now seg) ≡ selector) × (currentFunction (now seg) ≡ number) ⌝ }
     ensures { λ r. ⌜ Resumes (now (regular .entry)) (now (alternate .entry)) start budget (now (seg .entry)) r (now (seg .exit)) ⌝ }
 {
     match find(p, number as u16) {

@@ -12,7 +12,7 @@ use Rattle.scalar.specs.declared.Whole.{Whole}
 use Rattle.scalar.specs.declared.Whole.the-variants as W
 use Rattle.scalar.specs.Reading.{wholeOf}
 use Rattle.segment.specs.Blocks.{product}
-use Rattle.manual.specs.Values.{same, copies, cycle, inRange, offset, inRanges, placeOf}
+use Rattle.manual.specs.Values.{same, repeated, cycle, inRange, offset, inRanges, ravelOffset}
 use Rattle.manual.specs.Instructions.{wordsFrom}
 use Rattle.manual.proofs.Tests.{both-hold}
 
@@ -31,15 +31,15 @@ pub no-lengths : (l : List ℕ) → length l ≡ 0 → product l ≡ 1
 no-lengths [] h = refl
 no-lengths (x ∷ l) h = absurd (omega arith)
 
-copies-long : (n : ℕ) (l : List ℕ) → 0 < length l → n ≤ length (copies n l)
-copies-long zero l h = omega arith
-copies-long (suc n) l h = omega (arith, copies-long n l h, length-append l (copies n l))
+repeated-long : (n : ℕ) (l : List ℕ) → 0 < length l → n ≤ length (repeated n l)
+repeated-long zero l h = omega arith
+repeated-long (suc n) l h = omega (arith, repeated-long n l h, length-append l (repeated n l))
 
 -- Of nothing there is no cycle.
 pub length-cycle : (n : ℕ) (l : List ℕ) → (length l ≡ 0 → n ≡ 0) → length (cycle n l) ≡ n
 unfolding cycle
 length-cycle n [] h = rw (h refl)
-length-cycle n (x ∷ l) h = omega (arith, length-take n (copies n (x ∷ l)), copies-long n (x ∷ l) (omega arith))
+length-cycle n (x ∷ l) h = omega (arith, length-take n (repeated n (x ∷ l)), repeated-long n (x ∷ l) (omega arith))
 
 pub words-length : (n : ℕ) (code : List ℕ) (place : ℕ) → length (wordsFrom n code place) ≡ n
 words-length zero code place = refl
@@ -58,11 +58,11 @@ offset-below origin W.Character l h = absurd (false≢true h)
 row-below : (i l p r : ℕ) → i < l → r < p → i * p + r < l * p
 row-below i l p r h k = omega (arith, mul-le-mul-right {m = suc i} {n = l} p h, suc-mul i p)
 
-pub place-below : (origin : ℕ) (ws ls : List ℕ) → length ws ≡ length ls → inRanges origin ws ls ≡ true → placeOf origin ws ls < product ls
+pub place-below : (origin : ℕ) (ws ls : List ℕ) → length ws ≡ length ls → inRanges origin ws ls ≡ true → ravelOffset origin ws ls < product ls
 place-below origin [] [] e h = omega arith
 place-below origin [] (l ∷ ls) e h = absurd (omega arith)
 place-below origin (w ∷ ws) [] e h = absurd (omega arith)
 place-below origin (w ∷ ws) (l ∷ ls) e h =
     let k = both-hold (inRange origin (wholeOf w) l) (inRanges origin ws ls) h in
-    row-below (offset origin (wholeOf w)) l (product ls) (placeOf origin ws ls) (offset-below origin (wholeOf w) l (k .0))
+    row-below (offset origin (wholeOf w)) l (product ls) (ravelOffset origin ws ls) (offset-below origin (wholeOf w) l (k .0))
     (place-below origin ws ls (omega arith) (k .1))

@@ -8,7 +8,7 @@ use Rattle.descriptor.specs.declared.Target.{Target}
 use Rattle.descriptor.specs.declared.Target.the-variants.{Local, Global}
 use Rattle.segment.specs.Cells.{Cell, undefined}
 use Rattle.segment.specs.Machine.{Frame, Machine}
-use Rattle.manual.specs.Effects.{Effect, replaces, discards, swaps, stores, storesElement, enters, leaves, jumps, setsOrigin, StoresTo, lookFrames, look, put, InFrames, AddressableIn, withTemporaries, enter, older, leave, jumpFrames, jump, setOrigin, performOn}
+use Rattle.manual.specs.Effects.{Effect, replaces, discards, swaps, stores, storesElement, enters, leaves, jumps, setsOrigin, StoresTo, lookFrames, look, put, InFrames, AddressableIn, withTemporaries, enter, older, leave, jumpFrames, jump, withOrigin, performOn}
 use Rattle.manual.proofs.Cellwise.{look-below, in-depth, look-other}
 
 module _ {A : Type 0} (none : A) where
@@ -40,7 +40,7 @@ module _ {A : Type 0} (none : A) where
   jump-look place (Global g) m = refl
   jump-look place (Local a) m = jumped-look place (a .0) (m .frames)
 
-  origin-look : (v : ℕ) (t : Target) (m : Machine A) → look none t (setOrigin v m) ≡ look none t m
+  origin-look : (v : ℕ) (t : Target) (m : Machine A) → look none t (withOrigin v m) ≡ look none t m
   origin-look v (Global g) m = refl
   origin-look v (Local a) m = refl
 

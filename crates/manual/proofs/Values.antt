@@ -17,7 +17,7 @@ use Rattle.scalar.specs.declared.Truth.the-variants as T
 use Rattle.scalar.specs.Reading.{wholeOf, truthOf}
 use Rattle.scalar.specs.Operators.{monadicOf, dyadicOf}
 use Rattle.manual.specs.OrTrap.{OrTrap}
-use Rattle.manual.specs.Values.{Value, rank, size, isSingle, same, any, answered, collect, each, monadic, conform, zip, spread, extent, pairwise, dyadic, shortOf, shorts, truth, single, truthOfValue, catenate, indexGenerator, reshape, isFraction, inRanges, place}
+use Rattle.manual.specs.Values.{Value, rank, size, isSingle, same, any, answered, collect, each, monadic, conform, zip, spread, extent, pairwise, dyadic, shortOf, shorts, truth, single, truthOfValue, catenate, indexGenerator, reshape, isFraction, inRanges, ravelPlace}
 use Rattle.manual.specs.Scalars.{valueOf, scalarWords, subscripted}
 use Rattle.manual.specs.Traps.{listed}
 use Rattle.manual.proofs.Lists.{Listed, stops-listed, goes-listed}
@@ -112,8 +112,8 @@ reshape-listed a b =
 
 -- ---- subscripts
 
-place-listed : (origin : ℕ) (subscripts lengths : List ℕ) → Listed (place origin subscripts lengths)
-unfolding place listed
+place-listed : (origin : ℕ) (subscripts lengths : List ℕ) → Listed (ravelPlace origin subscripts lengths)
+unfolding ravelPlace listed
 place-listed origin subscripts lengths =
     stops-listed (any isCharacter subscripts) _ _ _ refl
     (stops-listed (any (λ w. isFraction (wholeOf w)) subscripts) _ _ _ refl

@@ -28,7 +28,7 @@ use Rattle.manual.specs.Values.{Value, any}
 use Rattle.manual.specs.Effects.{Source, variable, operand, word, undefinedValue, reference, made, Effect, replaces, discards, swaps, stores, storesElement, enters, leaves, jumps, setsOrigin}
 use Rattle.manual.specs.Seen.{Seen, Variable, variablesOf}
 use Rattle.manual.specs.Loads.{isUndefined}
-use Rattle.manual.specs.Scalars.{valueOf, resultOf, operands, isScalarCell, anyCell, scalarWord, subscripted}
+use Rattle.manual.specs.Scalars.{valueOf, resultSource, operands, isScalarCell, anyCell, cellWord, subscripted}
 use Rattle.manual.specs.Memory.{hasNoValue}
 use Rattle.manual.specs.Control.{frameWord}
 use Rattle.manual.specs.Instructions.{Running, segmentOf, headerOf, wordsFrom, resolve}
@@ -123,7 +123,7 @@ pub record Cases (f : Running) (seen : Seen) (i : Instruction) (next : ℕ) (P :
   pub stopped : (class number : ℕ) → listed class number ≡ true → T class number
   -- a result is pushed, or takes the place of operands
   pub pushed : {source : Source} → Pushed f seen i source → 1 ≤ seen .room → P (replaces 0 source ∷ jumps next ∷ [])
-  pub result : {n : ℕ} {v : Value} → Result f seen i n v → 1 ≤ n → n ≤ seen .count → P (replaces n (resultOf v) ∷ jumps next ∷ [])
+  pub result : {n : ℕ} {v : Value} → Result f seen i n v → 1 ≤ n → n ≤ seen .count → P (replaces n (resultSource v) ∷ jumps next ∷ [])
   -- SETORIGIN
   pub origin : (a : Value) (b : Bool) → i ≡ I.Stack S.SetOrigin → 1 ≤ seen .count → Operand seen 0 a → values.truthOfValue a ≡ gives b
       → P (setsOrigin (bit b) ∷ replaces 1 (word (seen .origin)) ∷ jumps next ∷ [])
@@ -134,7 +134,7 @@ pub record Cases (f : Running) (seen : Seen) (i : Instruction) (next : ℕ) (P :
       → Operand seen 0 v → P (stores (x .place) (operand 0) ∷ discards 1 ∷ jumps next ∷ [])
   pub assignedElement : (rank : ℕ) (a : Address) (x : Variable) (k : ℕ) → i ≡ I.Memory (M.AssignIndexed rank) a → rank % 2 ^ 4 + 1 ≤ seen .count
       → Element f seen a (rank % 2 ^ 4) x k
-      → P (storesElement (x .place) k (scalarWord (seen .operand (rank % 2 ^ 4))) (rank % 2 ^ 4 + 1) ∷ jumps next ∷ [])
+      → P (storesElement (x .place) k (cellWord (seen .operand (rank % 2 ^ 4))) (rank % 2 ^ 4 + 1) ∷ jumps next ∷ [])
   -- INTERCHANGE
   pub interchanged : i ≡ I.Stack S.Interchange → 2 ≤ seen .count → P (swaps ∷ jumps next ∷ [])
   -- NO_OPERATION, GO; with an operand dropped EAT1, GO_TRUE, GO_FALSE, BRANCH

@@ -158,8 +158,8 @@ jumpFrames place (r ∷ rs) = record { function = r .function; pctr = place; cel
 abbrev pub jump : {A : Type 0} → ℕ → Machine A → Machine A
 jump place m = record { flags = m .flags; temporaries = m .temporaries; frames = jumpFrames place (m .frames); globals = m .globals }
 
-abbrev pub setOrigin : {A : Type 0} → ℕ → Machine A → Machine A
-setOrigin v m = record { flags = m .flags / 2 * 2 + v; temporaries = m .temporaries; frames = m .frames; globals = m .globals }
+abbrev pub withOrigin : {A : Type 0} → ℕ → Machine A → Machine A
+withOrigin v m = record { flags = m .flags / 2 * 2 + v; temporaries = m .temporaries; frames = m .frames; globals = m .globals }
 
 -- The cell that a source is seen as.
 abbrev pub meant : Source → Machine Cell → Cell
@@ -186,7 +186,7 @@ performOn (storesElement t place w n) m = replace n (withElement place w (look u
 performOn (enters n f) m = enter undefined n f m
 performOn (leaves n result) m = leave undefined n result m
 performOn (jumps place) m = jump (place % 2 ^ 16) m
-performOn (setsOrigin v) m = setOrigin v m
+performOn (setsOrigin v) m = withOrigin v m
 
 abbrev pub performAll : List Effect → Machine Cell → Machine Cell
 performAll [] m = m

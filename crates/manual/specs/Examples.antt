@@ -249,7 +249,7 @@ pushing = record {
 pub making : Making
 unfolding planOf seenOf scalars.monadic scalars.dyadic scalars.shape scalars.ravel scalars.reshape scalars.catenate scalars.indexGenerator
     scalars.index values.each values.monadic values.dyadic values.conform values.pairwise values.catenate values.upFrom
-    values.indexGenerator values.cycle values.reshape values.place S.identity S.negative S.floor S.magnitudeOf S.notOf S.sumSign S.sumSize
+    values.indexGenerator values.cycle values.reshape values.ravelPlace S.identity S.negative S.floor S.magnitudeOf S.notOf S.sumSign S.sumSize
     S.plus S.minus S.sum S.difference S.logicalProduct S.logicalSum units integer float rounded result wholeUnits wholeOf truthUnits truthOf
     size
 making = record {
@@ -291,7 +291,7 @@ making = record {
 
 pub writing : Writing
 unfolding planOf seenOf memory.assign memory.assignNoResult memory.assignIndexed memory.eat memory.interchange scalars.setOrigin
-    values.place units wholeUnits wholeOf truthUnits truthOf
+    values.ravelPlace units wholeUnits wholeOf truthUnits truthOf
 writing = record {
   assign = refl;
   assignNoResult = refl;

@@ -10,7 +10,7 @@ use Rattle.manual.specs.OrTrap.{OrTrap, gives, trap, andThen, stopIf}
 use Rattle.manual.specs.Values as values
 use Rattle.manual.specs.Effects.{Source, operand, Effect, discards, swaps, stores, storesElement, jumps, Plan}
 use Rattle.manual.specs.Seen.{Seen, Variable}
-use Rattle.manual.specs.Scalars.{valueOf, operands, isScalarCell, anyCell, scalarWord, subscripted}
+use Rattle.manual.specs.Scalars.{valueOf, operands, isScalarCell, anyCell, cellWord, subscripted}
 
 -- ASSIGN leaves the value on the stack; of undefined or indirect it is (3,5).
 abbrev pub assigning : Seen → OrTrap Variable → (Variable → List Effect) → Plan
@@ -43,7 +43,7 @@ assignIndexed seen next rank resolved =
     stopIf (anyCell hasNoValue taken) 3 5
     (stopIf (eqb (values.rank a) 0 || anyCell (λ c. not (isScalarCell c)) taken) 5 0
     (andThen (subscripted (seen .origin) rank (a .shape) subscripts) (λ k.
-    gives (storesElement (v .place) k (scalarWord (seen .operand rank)) (rank + 1) ∷ jumps next ∷ [])))))))
+    gives (storesElement (v .place) k (cellWord (seen .operand rank)) (rank + 1) ∷ jumps next ∷ [])))))))
 
 -- EAT1, INTERCHANGE, NO_OPERATION.
 unfoldable pub eat : Seen → ℕ → Plan

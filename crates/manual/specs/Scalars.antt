@@ -24,12 +24,12 @@ valueOf (holds shape ravel) = gives (values.value shape ravel)
 valueOf invalid = trap 3 5
 
 -- A scalar is held in its cell, an array is a new block.
-abbrev pub resultOf : Value → Source
-resultOf v = cond (eqb (values.rank v) 0) (word (values.first (v .ravel))) (made (v .shape) (v .ravel))
+abbrev pub resultSource : Value → Source
+resultSource v = cond (eqb (values.rank v) 0) (word (values.first (v .ravel))) (made (v .shape) (v .ravel))
 
 -- The result takes the place of n operands.
 abbrev pub replaceBy : ℕ → ℕ → OrTrap Value → Plan
-replaceBy next n result = andThen result (λ v. gives (replaces n (resultOf v) ∷ jumps next ∷ []))
+replaceBy next n result = andThen result (λ v. gives (replaces n (resultSource v) ∷ jumps next ∷ []))
 
 -- Instructions of one operand and of two.
 abbrev pub ofOne : Seen → ℕ → (Value → OrTrap Value) → Plan
@@ -94,20 +94,20 @@ anyCell test [] = false
 anyCell test (c ∷ cs) = test c || anyCell test cs
 
 -- The words of scalar cells.
-abbrev pub scalarWord : Cell → ℕ
-scalarWord undefined = 0
-scalarWord (indirect t) = 0
-scalarWord (holds shape ravel) = values.first ravel
-scalarWord invalid = 0
+abbrev pub cellWord : Cell → ℕ
+cellWord undefined = 0
+cellWord (indirect t) = 0
+cellWord (holds shape ravel) = values.first ravel
+cellWord invalid = 0
 
 abbrev pub scalarWords : List Cell → List ℕ
 scalarWords [] = []
-scalarWords (c ∷ cs) = scalarWord c ∷ scalarWords cs
+scalarWords (c ∷ cs) = cellWord c ∷ scalarWords cs
 
 -- The place in the ravel of an array with these lengths that the subscripts lead to: (9,1), then the subscripts' own list.
 abbrev pub subscripted : ℕ → ℕ → List ℕ → List Cell → OrTrap ℕ
 subscripted origin rank lengths subscripts =
-    stopIf (not (eqb rank (length lengths))) 9 1 (values.place origin (scalarWords subscripts) lengths)
+    stopIf (not (eqb rank (length lengths))) 9 1 (values.ravelPlace origin (scalarWords subscripts) lengths)
 
 unfoldable pub index : Seen → ℕ → ℕ → Plan
 index seen next rank =

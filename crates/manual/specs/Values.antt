@@ -156,12 +156,12 @@ indexGenerator origin v =
     andThen (single v) (λ w. andThen (shortOf (wholeOf w)) (λ n. gives (vector (upFrom origin n))))
 
 -- n elements, taken from the ravel round and round.
-abbrev pub copies : ℕ → List ℕ → List ℕ
-copies zero ravel = []
-copies (suc n) ravel = ravel ++ copies n ravel
+abbrev pub repeated : ℕ → List ℕ → List ℕ
+repeated zero ravel = []
+repeated (suc n) ravel = ravel ++ repeated n ravel
 
 unfoldable pub cycle : ℕ → List ℕ → List ℕ
-cycle n ravel = take n (copies n ravel)
+cycle n ravel = take n (repeated n ravel)
 
 -- The characters among the lengths are judged before the other domain errors.
 unfoldable pub reshape : Value → Value → OrTrap Value
@@ -198,15 +198,15 @@ inRanges origin (w ∷ ws) [] = true
 inRanges origin (w ∷ ws) (l ∷ ls) = inRange origin (wholeOf w) l && inRanges origin ws ls
 
 -- The sum of (S i − IORG) times the product of the lengths after i.
-abbrev pub placeOf : ℕ → List ℕ → List ℕ → ℕ
-placeOf origin [] ls = 0
-placeOf origin (w ∷ ws) [] = 0
-placeOf origin (w ∷ ws) (l ∷ ls) = offset origin (wholeOf w) * product ls + placeOf origin ws ls
+abbrev pub ravelOffset : ℕ → List ℕ → List ℕ → ℕ
+ravelOffset origin [] ls = 0
+ravelOffset origin (w ∷ ws) [] = 0
+ravelOffset origin (w ∷ ws) (l ∷ ls) = offset origin (wholeOf w) * product ls + ravelOffset origin ws ls
 
 -- Each line is judged over all subscripts before the next.
-unfoldable pub place : ℕ → List ℕ → List ℕ → OrTrap ℕ
-place origin subscripts lengths =
+unfoldable pub ravelPlace : ℕ → List ℕ → List ℕ → OrTrap ℕ
+ravelPlace origin subscripts lengths =
     stopIf (any isCharacter subscripts) 7 0
     (stopIf (any (λ w. isFraction (wholeOf w)) subscripts) 8 5
     (stopIf (not (inRanges origin subscripts lengths)) 9 2
-    (gives (placeOf origin subscripts lengths))))
+    (gives (ravelOffset origin subscripts lengths))))

@@ -24,7 +24,7 @@ use Rattle.effects.specs.Sources.{heldAt}
 use Rattle.effects.specs.Seen.{whole, readKind, read, seen}
 use Rattle.operands.specs.declared.variables.Resolved.{Resolved}
 use Rattle.operands.specs.declared.variables.Resolved.the-variants.{Trap}
-use Rattle.operands.specs.Variables.{endedBy, ended, followedBy, followed, resolvedLocal, resolvedGlobal, resolved, variableSeen, Sure}
+use Rattle.operands.specs.Variables.{resolvedTargetBy, resolvedTarget, resolvedVariableBy, resolvedVariable, resolvedLocal, resolvedGlobal, resolved, variableSeen, Sure}
 
 -- An array that cannot be read is the end of the way too.
 array-followed : (t : Target) (shape ravel : List ℕ) (b : Bool) → gives (manual.at t (cond b (value shape ravel) invalid)) ≡ manual.followed t (cond b (value shape ravel) invalid)
@@ -39,34 +39,34 @@ module _ (s : List ℕ) where
   abbrev held : Target → Cell
   held t = read s (heldAt s t)
 
-  ended-by : (t : Target) (w : ℕ) (k : Kind) → kindOf w ≡ k → variableSeen s (endedBy t w k) ≡ manual.followed t (readKind s w k)
+  target-by : (t : Target) (w : ℕ) (k : Kind) → kindOf w ≡ k → variableSeen s (resolvedTargetBy t w k) ≡ manual.followed t (readKind s w k)
   unfolding read
-  ended-by t w (K.Scalar k) e = rw e
-  ended-by t w (K.Array a) e = rw e (array-followed t (shapeAt s (a .0)) (elementsAt s (a .0)) (whole s (a .0)))
-  ended-by t w (K.Indirect u) e = refl
-  ended-by t w K.Undefined e = rw e
-  ended-by t w K.Invalid e = rw e
+  target-by t w (K.Scalar k) e = rw e
+  target-by t w (K.Array a) e = rw e (array-followed t (shapeAt s (a .0)) (elementsAt s (a .0)) (whole s (a .0)))
+  target-by t w (K.Indirect u) e = refl
+  target-by t w K.Undefined e = rw e
+  target-by t w K.Invalid e = rw e
 
-  ended-seen : (t : Target) → variableSeen s (ended s t) ≡ manual.followed t (held t)
-  unfolding ended read
-  ended-seen t = ended-by t (heldAt s t) (kindOf (heldAt s t)) refl
+  target-seen : (t : Target) → variableSeen s (resolvedTarget s t) ≡ manual.followed t (held t)
+  unfolding resolvedTarget read
+  target-seen t = target-by t (heldAt s t) (kindOf (heldAt s t)) refl
 
-  followed-by : (t : Target) (w : ℕ) (k : Kind) → kindOf w ≡ k → variableSeen s (followedBy s t w k) ≡ manual.follow held t (readKind s w k)
+  variable-by : (t : Target) (w : ℕ) (k : Kind) → kindOf w ≡ k → variableSeen s (resolvedVariableBy s t w k) ≡ manual.follow held t (readKind s w k)
   unfolding read
-  followed-by t w (K.Scalar k) e = rw e
-  followed-by t w (K.Array a) e = rw e (array-follow held t (shapeAt s (a .0)) (elementsAt s (a .0)) (whole s (a .0)))
-  followed-by t w (K.Indirect u) e = ended-seen u
-  followed-by t w K.Undefined e = rw e
-  followed-by t w K.Invalid e = rw e
+  variable-by t w (K.Scalar k) e = rw e
+  variable-by t w (K.Array a) e = rw e (array-follow held t (shapeAt s (a .0)) (elementsAt s (a .0)) (whole s (a .0)))
+  variable-by t w (K.Indirect u) e = target-seen u
+  variable-by t w K.Undefined e = rw e
+  variable-by t w K.Invalid e = rw e
 
-  followed-seen : (t : Target) → variableSeen s (followed s t) ≡ manual.follow held t (held t)
-  unfolding followed read
-  followed-seen t = followed-by t (heldAt s t) (kindOf (heldAt s t)) refl
+  variable-seen : (t : Target) → variableSeen s (resolvedVariable s t) ≡ manual.follow held t (held t)
+  unfolding resolvedVariable read
+  variable-seen t = variable-by t (heldAt s t) (kindOf (heldAt s t)) refl
 
-  judged : (class number : ℕ) (a b : Bool) (t : Target) → variableSeen s (cond a (Trap class number) (cond b (Trap class number) (followed s t))) ≡ stopIf (a || b) class number (manual.follow held t (held t))
+  judged : (class number : ℕ) (a b : Bool) (t : Target) → variableSeen s (cond a (Trap class number) (cond b (Trap class number) (resolvedVariable s t))) ≡ stopIf (a || b) class number (manual.follow held t (held t))
   judged class number true b t = refl
   judged class number false true t = refl
-  judged class number false false t = followed-seen t
+  judged class number false false t = variable-seen t
 
   pub resolved-seen : (variables : ℕ) (h : Header) (address : Address) → variables ≡ manual.variablesOf h → variableSeen s (resolved s variables address) ≡ resolve (seen s) h address
   unfolding resolvedLocal resolvedGlobal seen
@@ -82,7 +82,7 @@ module _ (s : List ℕ) where
   unfolding resolvedLocal
   local-above variables v some past = simp (le-ltb _ _ some, lt-ltb _ _ past)
 
-  pub local-inside : (variables v : ℕ) (at : StackAddress) → at .0 ≡ lbase s - v → 1 ≤ v → v ≤ variables → followed s (Local at) ≡ resolvedLocal s variables v
+  pub local-inside : (variables v : ℕ) (at : StackAddress) → at .0 ≡ lbase s - v → 1 ≤ v → v ≤ variables → resolvedVariable s (Local at) ≡ resolvedLocal s variables v
   unfolding resolvedLocal
   local-inside variables v at e some inside = rw (le-ltb v 1 some, le-ltb variables v inside, ← e)
 
@@ -94,37 +94,37 @@ module _ (s : List ℕ) where
   unfolding resolvedGlobal
   global-above g some past = simp (le-ltb _ _ some, le-leb _ _ past)
 
-  pub global-inside : (g : ℕ) → 8 ≤ g → g < blockptr s → resolvedGlobal s g ≡ followed s (Global (segment g))
+  pub global-inside : (g : ℕ) → 8 ≤ g → g < blockptr s → resolvedGlobal s g ≡ resolvedVariable s (Global (segment g))
   unfolding resolvedGlobal
   global-inside g some inside = simp (le-ltb _ _ some, lt-leb _ _ inside)
 
   -- The word that comes with a variable is the one that it holds.
-  ended-sure : (t : Target) → Sure s (ended s t)
-  unfolding ended
-  ended-sure t = by-kind (kindOf (heldAt s t))
+  target-sure : (t : Target) → Sure s (resolvedTarget s t)
+  unfolding resolvedTarget
+  target-sure t = by-kind (kindOf (heldAt s t))
     where
-      by-kind : (k : Kind) → Sure s (endedBy t (heldAt s t) k)
+      by-kind : (k : Kind) → Sure s (resolvedTargetBy t (heldAt s t) k)
       by-kind (K.Scalar k) = refl
       by-kind (K.Array a) = refl
       by-kind (K.Indirect u) = tt
       by-kind K.Undefined = refl
       by-kind K.Invalid = refl
 
-  followed-sure : (t : Target) → Sure s (followed s t)
-  unfolding followed
-  followed-sure t = by-kind (kindOf (heldAt s t))
+  variable-sure : (t : Target) → Sure s (resolvedVariable s t)
+  unfolding resolvedVariable
+  variable-sure t = by-kind (kindOf (heldAt s t))
     where
-      by-kind : (k : Kind) → Sure s (followedBy s t (heldAt s t) k)
+      by-kind : (k : Kind) → Sure s (resolvedVariableBy s t (heldAt s t) k)
       by-kind (K.Scalar k) = refl
       by-kind (K.Array a) = refl
-      by-kind (K.Indirect u) = ended-sure u
+      by-kind (K.Indirect u) = target-sure u
       by-kind K.Undefined = refl
       by-kind K.Invalid = refl
 
-  trapped-or : (class number : ℕ) (a b : Bool) (t : Target) → Sure s (cond a (Trap class number) (cond b (Trap class number) (followed s t)))
+  trapped-or : (class number : ℕ) (a b : Bool) (t : Target) → Sure s (cond a (Trap class number) (cond b (Trap class number) (resolvedVariable s t)))
   trapped-or class number true b t = tt
   trapped-or class number false true t = tt
-  trapped-or class number false false t = followed-sure t
+  trapped-or class number false false t = variable-sure t
 
   resolved-sure : (variables : ℕ) (address : Address) → Sure s (resolved s variables address)
   unfolding resolvedLocal resolvedGlobal

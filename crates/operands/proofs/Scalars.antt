@@ -15,13 +15,13 @@ use Rattle.descriptor.specs.Kinds.{kindOf, scalarKind, isScalar}
 use Rattle.segment.specs.Blocks.{shapeAt, elementsAt}
 use Rattle.segment.specs.Cells.{Cell, value, invalid}
 use Rattle.manual.specs.OrTrap.{gives, trap}
-use Rattle.manual.specs.Scalars.{operands, isScalarCell, anyCell, scalarWord, scalarWords}
+use Rattle.manual.specs.Scalars.{operands, isScalarCell, anyCell, cellWord, scalarWords}
 use Rattle.effects.specs.Sources.{operandAt}
 use Rattle.effects.specs.Seen.{whole, readKind, read, temporaries, seen}
 use Rattle.operands.specs.declared.reading.Value.the-variants as values
 use Rattle.operands.specs.declared.reading.Operand.{Operand}
 use Rattle.operands.specs.declared.reading.Operand.the-variants as operand
-use Rattle.operands.specs.Operands.{operandOfKind, operandOf, isUndefinedKind, isUndefined}
+use Rattle.operands.specs.Operands.{operandOfKind, operandOf, isUndefinedKind, isUndefinedWord}
 use Rattle.operands.specs.Taken.{isForeignTo, scalarsOf, takenOf}
 use Rattle.operands.proofs.Whole.{whole-facts}
 use Rattle.operands.proofs.Seen.{operand-seen}
@@ -50,14 +50,14 @@ module _ (s : List ℕ) (w : ℕ) where
   foreign-of-kind true K.Invalid = refl
   foreign-of-kind false K.Invalid = refl
 
-  foreign-seen : (strict : Bool) → isForeignTo strict (read s w) ≡ cond (isUndefined w) strict (isOther (operandOf s w))
-  unfolding read isUndefined operandOf
+  foreign-seen : (strict : Bool) → isForeignTo strict (read s w) ≡ cond (isUndefinedWord w) strict (isOther (operandOf s w))
+  unfolding read isUndefinedWord operandOf
   foreign-seen strict = foreign-of-kind strict (kindOf w)
 
-  pub undefined-foreign : (strict : Bool) → isUndefined w ≡ true → isForeignTo strict (read s w) ≡ strict
+  pub undefined-foreign : (strict : Bool) → isUndefinedWord w ≡ true → isForeignTo strict (read s w) ≡ strict
   undefined-foreign strict h = foreign-seen strict ∙ rw h
 
-  pub value-foreign : (strict : Bool) (o : Operand) → isUndefined w ≡ false → operandOf s w ≡ o → isForeignTo strict (read s w) ≡ isOther o
+  pub value-foreign : (strict : Bool) (o : Operand) → isUndefinedWord w ≡ false → operandOf s w ≡ o → isForeignTo strict (read s w) ≡ isOther o
   value-foreign strict o h e = foreign-seen strict ∙ rw (h, e)
 
   scalar-of-kind : (k : Kind) → isScalarCell (readKind s w k) ≡ scalarKind k
@@ -75,14 +75,14 @@ module _ (s : List ℕ) (w : ℕ) where
   unfolding read isScalar
   scalar-seen = scalar-of-kind (kindOf w)
 
-  word-of-kind : (k : Kind) → scalarKind k ≡ true → scalarWord (readKind s w k) ≡ w
+  word-of-kind : (k : Kind) → scalarKind k ≡ true → cellWord (readKind s w k) ≡ w
   word-of-kind (K.Scalar k) h = refl
   word-of-kind (K.Array a) h = cc
   word-of-kind (K.Indirect t) h = cc
   word-of-kind K.Undefined h = cc
   word-of-kind K.Invalid h = cc
 
-  word-seen : isScalar w ≡ true → scalarWord (read s w) ≡ w
+  word-seen : isScalar w ≡ true → cellWord (read s w) ≡ w
   unfolding read isScalar
   word-seen h = word-of-kind (kindOf w) h
 

@@ -9,7 +9,7 @@ use lib.ListN.{take, getD}
 use Rattle.segment.specs.Cells.{Cell}
 use Rattle.manual.specs.OrTrap.{OrTrap, gives, andThen, stopIf}
 use Rattle.manual.specs.Seen.{Seen}
-use Rattle.manual.specs.Scalars.{operands, isScalarCell, anyCell, scalarWord, scalarWords}
+use Rattle.manual.specs.Scalars.{operands, isScalarCell, anyCell, cellWord, scalarWords}
 use Rattle.operands.specs.Taken.{isForeignTo, scalarsOf, takenOf}
 
 -- (5,0) is also for what is indexed where that is no array.
@@ -30,11 +30,11 @@ words-before seen i n = rw (add-one n) (by-count n i)
   where
     by-count : (n i : ℕ) → take n (scalarWords (operands seen i (suc n))) ≡ scalarWords (operands seen i n)
     by-count zero i = refl
-    by-count (suc n) i = ap (λ (words : List ℕ). scalarWord (seen .operand i) ∷ words) (by-count n (suc i))
+    by-count (suc n) i = ap (λ (words : List ℕ). cellWord (seen .operand i) ∷ words) (by-count n (suc i))
 
-pub word-last : (seen : Seen) (i n : ℕ) → getD (scalarWords (operands seen i (n + 1))) n 0 ≡ scalarWord (seen .operand (i + n))
+pub word-last : (seen : Seen) (i n : ℕ) → getD (scalarWords (operands seen i (n + 1))) n 0 ≡ cellWord (seen .operand (i + n))
 word-last seen i n = rw (add-one n) (by-count n i)
   where
-    by-count : (n i : ℕ) → getD (scalarWords (operands seen i (suc n))) n 0 ≡ scalarWord (seen .operand (i + n))
+    by-count : (n i : ℕ) → getD (scalarWords (operands seen i (suc n))) n 0 ≡ cellWord (seen .operand (i + n))
     by-count zero i = let none : i + 0 ≡ i = omega arith in rw none
     by-count (suc n) i = let next : suc i + n ≡ i + suc n = omega arith in by-count n (suc i) ∙ rw next

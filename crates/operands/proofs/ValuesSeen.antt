@@ -14,7 +14,7 @@ use Rattle.manual.specs.Scalars.{valueOf}
 use Rattle.manual.specs.Loads as loads
 use Rattle.operands.specs.declared.reading.Value.the-variants as values
 use Rattle.operands.specs.declared.reading.Operand.the-variants as operands
-use Rattle.operands.specs.Operands.{operandOfKind, operandOf, isUndefinedKind, isUndefined, valueSeen}
+use Rattle.operands.specs.Operands.{operandOfKind, operandOf, isUndefinedKind, isUndefinedWord, valueSeen}
 
 module _ (s : List ℕ) (w : ℕ) where
   value-of-kind : (k : Kind) → valueOf (readKind s w k) ≡ valueSeen s (operandOfKind s w k)
@@ -43,8 +43,8 @@ module _ (s : List ℕ) (w : ℕ) where
   undefined-of-kind K.Undefined = refl
   undefined-of-kind K.Invalid = refl
 
-  pub undefined-seen : loads.isUndefined (read s w) ≡ isUndefined w
-  unfolding read isUndefined
+  pub undefined-seen : loads.isUndefined (read s w) ≡ isUndefinedWord w
+  unfolding read isUndefinedWord
   undefined-seen = undefined-of-kind (kindOf w)
 
   array-of-kind : (k : Kind) (block : SegmentAddress) → operandOfKind s w k ≡ operands.Value (values.Array block) → whole s (block .0) ≡ true

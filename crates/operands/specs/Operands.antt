@@ -32,8 +32,8 @@ isUndefinedKind (K.Indirect t) = false
 isUndefinedKind K.Undefined = true
 isUndefinedKind K.Invalid = false
 
-unfoldable pub isUndefined : ℕ → Bool
-isUndefined w = isUndefinedKind (kindOf w)
+unfoldable pub isUndefinedWord : ℕ → Bool
+isUndefinedWord w = isUndefinedKind (kindOf w)
 
 -- The value that it stands for; (3,5) where it is none.
 abbrev pub held : List ℕ → Value → values.Value

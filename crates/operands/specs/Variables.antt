@@ -21,33 +21,33 @@ use Rattle.operands.specs.declared.variables.Resolved.{Resolved}
 use Rattle.operands.specs.declared.variables.Resolved.the-variants.{At, Trap}
 
 -- The variable that an indirect word names may not be indirect again.
-abbrev pub endedBy : Target → ℕ → Kind → Resolved
-endedBy t w (K.Scalar k) = At t w
-endedBy t w (K.Array a) = At t w
-endedBy t w (K.Indirect u) = Trap 3 6
-endedBy t w K.Undefined = At t w
-endedBy t w K.Invalid = At t w
+abbrev pub resolvedTargetBy : Target → ℕ → Kind → Resolved
+resolvedTargetBy t w (K.Scalar k) = At t w
+resolvedTargetBy t w (K.Array a) = At t w
+resolvedTargetBy t w (K.Indirect u) = Trap 3 6
+resolvedTargetBy t w K.Undefined = At t w
+resolvedTargetBy t w K.Invalid = At t w
 
-unfoldable pub ended : List ℕ → Target → Resolved
-ended s t = endedBy t (heldAt s t) (kindOf (heldAt s t))
+unfoldable pub resolvedTarget : List ℕ → Target → Resolved
+resolvedTarget s t = resolvedTargetBy t (heldAt s t) (kindOf (heldAt s t))
 
-abbrev pub followedBy : List ℕ → Target → ℕ → Kind → Resolved
-followedBy s t w (K.Scalar k) = At t w
-followedBy s t w (K.Array a) = At t w
-followedBy s t w (K.Indirect u) = ended s u
-followedBy s t w K.Undefined = At t w
-followedBy s t w K.Invalid = At t w
+abbrev pub resolvedVariableBy : List ℕ → Target → ℕ → Kind → Resolved
+resolvedVariableBy s t w (K.Scalar k) = At t w
+resolvedVariableBy s t w (K.Array a) = At t w
+resolvedVariableBy s t w (K.Indirect u) = resolvedTarget s u
+resolvedVariableBy s t w K.Undefined = At t w
+resolvedVariableBy s t w K.Invalid = At t w
 
-unfoldable pub followed : List ℕ → Target → Resolved
-followed s t = followedBy s t (heldAt s t) (kindOf (heldAt s t))
+unfoldable pub resolvedVariable : List ℕ → Target → Resolved
+resolvedVariable s t = resolvedVariableBy s t (heldAt s t) (kindOf (heldAt s t))
 
 unfoldable pub resolvedLocal : List ℕ → ℕ → ℕ → Resolved
 resolvedLocal s variables v =
-    cond (ltb v 1) (Trap 3 2) (cond (ltb variables v) (Trap 3 2) (followed s (Local (stack (lbase s - v)))))
+    cond (ltb v 1) (Trap 3 2) (cond (ltb variables v) (Trap 3 2) (resolvedVariable s (Local (stack (lbase s - v)))))
 
 unfoldable pub resolvedGlobal : List ℕ → ℕ → Resolved
 resolvedGlobal s g =
-    cond (ltb g 8) (Trap 3 3) (cond (leb (blockptr s) g) (Trap 3 3) (followed s (Global (segment g))))
+    cond (ltb g 8) (Trap 3 3) (cond (leb (blockptr s) g) (Trap 3 3) (resolvedVariable s (Global (segment g))))
 
 abbrev pub resolved : List ℕ → ℕ → Address → Resolved
 resolved s variables (A.Local v) = resolvedLocal s variables v

@@ -7,7 +7,7 @@ ghost use Rattle.segment.specs.State as fields;
 ghost use Rattle.segment.specs.Blocks as layout;
 ghost use Rattle.effects.specs.Sources.{operandAt};
 ghost use Rattle.effects.specs.Seen.{temporaries, whole};
-ghost use Rattle.operands.specs.Operands.{operandOf, isUndefined};
+ghost use Rattle.operands.specs.Operands.{operandOf, isUndefinedWord};
 use descriptor::Descriptor;
 use descriptor::Kind;
 use descriptor::address::SegmentAddress;
@@ -117,7 +117,7 @@ pub fn elements_of(seg: &[u32], block: SegmentAddress) -> &[u32]
 }
 
 pub fn is_undefined(w: u32) -> bool
-    ensures { λ r. ⌜ r ≡ isUndefined w ⌝ }
+    ensures { λ r. ⌜ r ≡ isUndefinedWord w ⌝ }
 {
     match Descriptor::of(w).kind() {
         Kind::Undefined => true,

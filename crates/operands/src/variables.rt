@@ -67,7 +67,7 @@ fn resolve_global(seg: &[u32], g: SegmentAddress) -> Resolved
 }
 
 fn follow(seg: &[u32], t: Target) -> Resolved
-    ensures { λ r. ⌜ r ≡ meaning.followed (now (seg .entry)) t ⌝ }
+    ensures { λ r. ⌜ r ≡ meaning.resolvedVariable (now (seg .entry)) t ⌝ }
 {
     let w = held(seg, t);
     match Descriptor::of(w).kind() {
@@ -81,7 +81,7 @@ fn follow(seg: &[u32], t: Target) -> Resolved
 
 // The variable that an indirect word names: it may not be indirect again.
 fn end(seg: &[u32], t: Target) -> Resolved
-    ensures { λ r. ⌜ r ≡ meaning.ended (now (seg .entry)) t ⌝ }
+    ensures { λ r. ⌜ r ≡ meaning.resolvedTarget (now (seg .entry)) t ⌝ }
 {
     let w = held(seg, t);
     match Descriptor::of(w).kind() {

@@ -10,8 +10,8 @@ use Rattle.operations.specs.declared.Looked.{Looked}
 use Rattle.operations.specs.declared.Looked.the-variants as L
 
 -- Lay out and load: done, or refused by the number of a test.
-abbrev pub answerOf : ℕ → Answer
-answerOf number = cond (eqb number 0) A.Done (A.Refused number)
+abbrev pub doneOrRefused : ℕ → Answer
+doneOrRefused number = cond (eqb number 0) A.Done (A.Refused number)
 
 abbrev pub statusOf : Answer → ℕ
 statusOf A.Done = 0

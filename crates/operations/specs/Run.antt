@@ -18,13 +18,13 @@ pub record Ended : Type 0 where
 abbrev pub ended : Run → List ℕ → Ended
 ended answer s = record { answer = answer; words = s }
 
-abbrev pub runAnswer : Ran → Run
-runAnswer (machine.Done steps) = Done steps
-runAnswer (machine.Trapped steps) = Trapped steps
+abbrev pub acceptedRun : Ran → Run
+acceptedRun (machine.Done steps) = Done steps
+acceptedRun (machine.Trapped steps) = Trapped steps
 
-abbrev pub accepted : RunResult → Ended
-accepted o = ended (runAnswer (o .answer)) (o .words)
+abbrev pub acceptedEnd : RunResult → Ended
+acceptedEnd o = ended (acceptedRun (o .answer)) (o .words)
 
 unfoldable pub ran : List ℕ → List ℕ → List ℕ → ℕ → Ended
 ran s regular alternate budget =
-    cond (eqb (refusal s regular alternate) 0) (accepted (runOf regular alternate s budget)) (ended (Refused (refusal s regular alternate)) s)
+    cond (eqb (refusal s regular alternate) 0) (acceptedEnd (runOf regular alternate s budget)) (ended (Refused (refusal s regular alternate)) s)

@@ -17,30 +17,30 @@ abbrev pub lookup : {A : Type 0} → ℕ → List (ℕ × A) → A → A
 lookup k [] none = none
 lookup k (entry ∷ table) none = cond (eqb k (entry .0)) (entry .1) (lookup k table none)
 
-abbrev pub monadic : ℕ → Monadic → ℕ × Suboperation
-monadic k o = (k, Defined (O.Monadic o))
+abbrev pub monadicAt : ℕ → Monadic → ℕ × Suboperation
+monadicAt k o = (k, Defined (O.Monadic o))
 
-abbrev pub dyadic : ℕ → Dyadic → ℕ × Suboperation
-dyadic k o = (k, Defined (O.Dyadic o))
+abbrev pub dyadicAt : ℕ → Dyadic → ℕ × Suboperation
+dyadicAt k o = (k, Defined (O.Dyadic o))
 
 unfoldable pub operatorOf : ℕ → Suboperation
 operatorOf k =
     lookup k
-    (monadic 0 Identity
-    ∷ monadic 1 Negative
-    ∷ monadic 2 Floor
-    ∷ monadic 3 Ceiling
-    ∷ monadic 4 Magnitude
-    ∷ monadic 5 Not
-    ∷ monadic 6 TestNumber
-    ∷ monadic 7 Convert
-    ∷ dyadic 8 Sum
-    ∷ dyadic 9 Difference
-    ∷ dyadic 10 Product
-    ∷ dyadic 11 Quotient
-    ∷ dyadic 12 LogicalProduct
-    ∷ dyadic 13 LogicalSum
-    ∷ dyadic 14 Less
-    ∷ dyadic 15 Equal
+    (monadicAt 0 Identity
+    ∷ monadicAt 1 Negative
+    ∷ monadicAt 2 Floor
+    ∷ monadicAt 3 Ceiling
+    ∷ monadicAt 4 Magnitude
+    ∷ monadicAt 5 Not
+    ∷ monadicAt 6 TestNumber
+    ∷ monadicAt 7 Convert
+    ∷ dyadicAt 8 Sum
+    ∷ dyadicAt 9 Difference
+    ∷ dyadicAt 10 Product
+    ∷ dyadicAt 11 Quotient
+    ∷ dyadicAt 12 LogicalProduct
+    ∷ dyadicAt 13 LogicalSum
+    ∷ dyadicAt 14 Less
+    ∷ dyadicAt 15 Equal
     ∷ [])
     Undefined

@@ -17,7 +17,7 @@ use Rattle.manual.specs.Effects as manual
 use Rattle.manual.specs.Effects.{Source, variable, replaces, discards, stores, storesElement, leaves}
 use Rattle.storage_theorems.proofs.Walks.{over-le}
 use Rattle.storage_theorems.proofs.Steps.{downward-same, drop-own}
-use Rattle.effects.specs.Sources.{addressOf, wordOf, placed}
+use Rattle.effects.specs.Sources.{addressOf, sourceWord, placed}
 use Rattle.effects.specs.Perform.{bottomOf, leavingStart, finish, blockOf, replace, discard, store, storeAt, storeElement, leaveWith, leaveWithout, perform, isFull}
 use Rattle.effects.specs.Seen.{temporaries}
 use Rattle.effects.specs.Sound.{Sound}
@@ -28,7 +28,7 @@ use Rattle.effects_theorems.proofs.Element.{element-written}
 use Rattle.effects_theorems.proofs.Replace.{replace-cells, replace-own, replace-above}
 use Rattle.effects_theorems.proofs.Discard.{discard-own, discard-above}
 use Rattle.effects_theorems.proofs.Leave.{leave-cells, leave-own, leave-above, without-first, with-put, with-shown}
-use Rattle.placement.specs.Placement.{dropEach, operandsFrom, resultOf, replacedInOrder, storedInOrder, elementStoredInOrder, discardedInOrder, leftInOrder, leftWithoutInOrder}
+use Rattle.placement.specs.Placement.{dropEach, operandsFrom, resultWord, replacedInOrder, storedInOrder, elementStoredInOrder, discardedInOrder, leftInOrder, leftWithoutInOrder}
 
 -- a drop leaves the stack as it is
 pub drops-each : (n : ℕ) {s : List ℕ} (ws : List ℕ) (a : ℕ) → Owned s (downward s a n ++ ws) → sbase s ≤ a → dropWords n s a ≡ dropEach s (downward s a n)
@@ -60,10 +60,10 @@ module _ (s : List ℕ) (g : Sound s) (n : ℕ) where
       let p = put-source s g source (h .1) (source-found s source f) in
       let c = manual.meant source (view s) in
       let d : dropWords n (placed s source) (bottomOf s n) ≡ dropEach (placed s source) (operandsFrom s 0 n) = drops-each n _ _
-      (replace-own s g n (wordOf s source) c (placed s source) p (h .0))
-      (replace-above s g n (wordOf s source) c (placed s source) p (h .0))
-      ∙ ap (dropEach (placed s source)) (replace-cells s g n (wordOf s source) c (placed s source) p (h .0) ∙ operands (h .0 .taken)) in
-      ap (λ (l : List ℕ). finish l (bottomOf s n) (wordOf s source)) d
+      (replace-own s g n (sourceWord s source) c (placed s source) p (h .0))
+      (replace-above s g n (sourceWord s source) c (placed s source) p (h .0))
+      ∙ ap (dropEach (placed s source)) (replace-cells s g n (sourceWord s source) c (placed s source) p (h .0) ∙ operands (h .0 .taken)) in
+      ap (λ (l : List ℕ). finish l (bottomOf s n) (sourceWord s source)) d
 
   pub discarded : Fits s (discards n) → perform s (discards n) ≡ discardedInOrder s n
   unfolding discard
@@ -79,7 +79,7 @@ module _ (s : List ℕ) (g : Sound s) (n : ℕ) where
   pub left : Fits s (leaves n true) → perform s (leaves n true) ≡ leftInOrder s n
   unfolding leaveWith
   left h =
-      let w = resultOf s in
+      let w = resultWord s in
       let c = getD (manual.currentCells (view s .frames)) 0 undefined in
       let k = with-put s g n h .step in
       let v = with-shown s g n h in
@@ -87,7 +87,7 @@ module _ (s : List ℕ) (g : Sound s) (n : ℕ) where
       (leave-own s g n (h .empty) (h .cells) (w ∷ []) (share s w) (c ∷ []) k v)
       (leave-above s g n (h .empty) (h .cells) (w ∷ []) (share s w) (c ∷ []) k v)
       ∙ ap (dropEach (share s w)) (leave-cells s g n (h .empty) (h .cells) (w ∷ []) (share s w) (c ∷ []) k v) in
-      ap (λ (l : List ℕ). set (setLbase (setLtop l (lbase s - n)) (lastLbaseAt s (lbase s) % 2 ^ 16)) (leavingStart s n) (resultOf s)) d
+      ap (λ (l : List ℕ). set (setLbase (setLtop l (lbase s - n)) (lastLbaseAt s (lbase s) % 2 ^ 16)) (leavingStart s n) (resultWord s)) d
 
 pub storedElement : (s : List ℕ) → Sound s → (t : Target) (place w n : ℕ) → Fits s (storesElement t place w n)
     → isFull s (storesElement t place w n) ≡ false → perform s (storesElement t place w n) ≡ elementStoredInOrder s t place w n

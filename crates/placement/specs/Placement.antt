@@ -21,7 +21,7 @@ use Rattle.storage.specs.Arrays.{share, dropWord, dropWords}
 use Rattle.storage.specs.Heap.{Block, frees, count, Links, Heap}
 use Rattle.storage.specs.Owned.{ArrayIn, Owned}
 use Rattle.manual.specs.Effects.{Source, variable, replaces, discards, stores, storesElement, leaves}
-use Rattle.effects.specs.Sources.{addressOf, heldAt, operandAt, wordOf, placed}
+use Rattle.effects.specs.Sources.{addressOf, heldAt, operandAt, sourceWord, placed}
 use Rattle.effects.specs.Perform.{bottomOf, leavingStart, finish, unshare, writeElement, perform, isFull}
 use Rattle.effects.specs.Sound.{Sound}
 use Rattle.effects.specs.Fits.{Fits}
@@ -124,11 +124,11 @@ operandsFrom s i (suc n) = operandAt s i ∷ operandsFrom s (i + 1) n
 
 -- "Results are placed before operands are released, first operand first".
 abbrev pub replacedInOrder : List ℕ → ℕ → Source → List ℕ
-replacedInOrder s n source = finish (dropEach (placed s source) (operandsFrom s 0 n)) (bottomOf s n) (wordOf s source)
+replacedInOrder s n source = finish (dropEach (placed s source) (operandsFrom s 0 n)) (bottomOf s n) (sourceWord s source)
 
 -- A variable's new value is placed and stored before the old one, the word that stood there, is dropped.
 abbrev pub storedInOrder : List ℕ → Target → Source → List ℕ
-storedInOrder s t source = dropWord (set (placed s source) (addressOf s t) (wordOf s source)) (heldAt s t)
+storedInOrder s t source = dropWord (set (placed s source) (addressOf s t) (sourceWord s source)) (heldAt s t)
 
 -- ASSIGN_INDEXED: a shared array is copied, the element is written, and then the variable's value takes the place of the operands.
 abbrev pub elementStoredInOrder : List ℕ → Target → ℕ → ℕ → ℕ → List ℕ
@@ -139,15 +139,15 @@ discardedInOrder s n = setLtop (dropEach s (operandsFrom s 0 n)) (ltop s - n)
 
 -- "RETURN releases its cells from the highest address down": `downward s a n` are the words in the cells from `a + n - 1` down to
 -- `a`. The result, the frame's highest cell, is shared first.
-abbrev pub resultOf : List ℕ → ℕ
-resultOf s = getD s (sbase s + lbase s - 1) 0
+abbrev pub resultWord : List ℕ → ℕ
+resultWord s = getD s (sbase s + lbase s - 1) 0
 
 abbrev pub leftInOrder : List ℕ → ℕ → List ℕ
 leftInOrder s n =
     set
-    (setLbase (setLtop (dropEach (share s (resultOf s)) (downward s (leavingStart s n) n)) (lbase s - n)) (lastLbaseAt s (lbase s) % 2 ^ 16))
+    (setLbase (setLtop (dropEach (share s (resultWord s)) (downward s (leavingStart s n) n)) (lbase s - n)) (lastLbaseAt s (lbase s) % 2 ^ 16))
     (leavingStart s n)
-    (resultOf s)
+    (resultWord s)
 
 abbrev pub leftWithoutInOrder : List ℕ → ℕ → List ℕ
 leftWithoutInOrder s n =

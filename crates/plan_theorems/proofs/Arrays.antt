@@ -13,7 +13,7 @@ use Rattle.scalar.specs.declared.Whole.the-variants as W
 use Rattle.scalar.specs.Reading.{wholeOf}
 use Rattle.segment.specs.Blocks.{product}
 use Rattle.manual.specs.OrTrap.{gives}
-use Rattle.manual.specs.Values.{Value, vector, rank, size, isSingle, first, any, each, shortOf, shorts, single, shapeOf, ravelOf, catenate, upFrom, indexGenerator, copies, cycle, reshape}
+use Rattle.manual.specs.Values.{Value, vector, rank, size, isSingle, first, any, each, shortOf, shorts, single, shapeOf, ravelOf, catenate, upFrom, indexGenerator, repeated, cycle, reshape}
 use Rattle.manual.proofs.Tests.{none-holds}
 use Rattle.manual.proofs.Elements.{length-cycle}
 use Rattle.scalar_theorems.specs.Validity.{Valid}
@@ -61,13 +61,13 @@ index-fits origin v h =
 
 -- ---- RESHAPE
 
-copies-all : (n : ℕ) (l : List ℕ) → All Valid l → All Valid (copies n l)
-copies-all zero l h = tt
-copies-all (suc n) l h = all-append Valid l (copies n l) h (copies-all n l h)
+repeated-all : (n : ℕ) (l : List ℕ) → All Valid l → All Valid (repeated n l)
+repeated-all zero l h = tt
+repeated-all (suc n) l h = all-append Valid l (repeated n l) h (repeated-all n l h)
 
 cycle-all : (n : ℕ) (l : List ℕ) → All Valid l → All Valid (cycle n l)
 unfolding cycle
-cycle-all n l h = all-take Valid n (copies n l) (copies-all n l h)
+cycle-all n l h = all-take Valid n (repeated n l) (repeated-all n l h)
 
 -- elements are wanted only where there are some
 some : (n m : ℕ) → (eqb n 0 && not (eqb m 0)) ≡ false → n ≡ 0 → m ≡ 0

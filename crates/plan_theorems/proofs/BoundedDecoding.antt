@@ -21,10 +21,9 @@ use Rattle.instruction.specs.declared.cursor.FetchedWord.{FetchedWord}
 use Rattle.instruction.specs.declared.cursor.FetchedWord.the-variants as W
 use Rattle.instruction.specs.Reading.{cursorAt, fetchByte, fetchHalf, fetchWord, withByte, withHalf}
 use Rattle.instruction.specs.Decoding.{instructionAt}
+use Rattle.segment.specs.Lent.{Words, Bytes}
 use Rattle.manual.specs.Instructions.{Running, codeIn, segmentOf, wordsFrom}
 use Rattle.manual.proofs.Decoding.{Decodes, instruction-decodes}
-use Rattle.plan_theorems.specs.Fitting.{Words}
-use Rattle.plan_theorems.specs.Lent.{Bytes}
 
 -- ---- bytes
 

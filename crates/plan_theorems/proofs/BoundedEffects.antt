@@ -15,22 +15,22 @@ use Rattle.descriptor.specs.Fields.{undefinedWord}
 use Rattle.segment.specs.State.{sbase, ltop, lbase, setLtop}
 use Rattle.segment.specs.Stack.{lastLbaseAt}
 use Rattle.segment.specs.Blocks.{rankAt, countAt, product, shapeAt, elementsAt, need}
+use Rattle.segment.specs.Lent.{Words}
+use Rattle.segment.proofs.Words.{set-below, words-part, words-sets, Short, short-set, short-ltop, short-lbase, short-iorg, short-pctr}
 use Rattle.storage.specs.Request.{requestAt}
 use Rattle.storage.specs.Arrays.{placeAt, dropWords}
 use Rattle.manual.specs.Effects.{Source, variable, operand, word, undefinedValue, reference, made, Effect, replaces, discards, swaps, stores, storesElement, enters, leaves, jumps, setsOrigin}
 use Rattle.manual.proofs.Tests.{none-holds}
-use Rattle.effects.specs.Sources.{addressOf, heldAt, operandAt, wordOf, placed}
+use Rattle.effects.specs.Sources.{addressOf, heldAt, operandAt, sourceWord, placed}
 use Rattle.effects.specs.Perform.{bottomOf, blockOf, leavingStart, finish, replace, discard, swap, storeAt, store, unshare, writeElement, storeElement, enter, leaveWith, leaveWithout, perform, performs, sourceNeed, noneFor, isFull, firstFull}
 use Rattle.effects.specs.Sound.{Sound}
 use Rattle.effects.specs.Fits.{Available, Fits}
 use Rattle.effects.specs.Requests.{AllFit, OneRequest}
 use Rattle.effects_theorems.proofs.Effects.{perform-theorem}
 use Rattle.effects_theorems.proofs.Lists.{AllServed, all-served}
-use Rattle.plan_theorems.specs.Fitting.{Words}
-use Rattle.plan_theorems.proofs.Lists.{All, count-all, all-map, all-append, all-replicate}
+use Rattle.plan_theorems.proofs.Lists.{All, count-all, all-map, all-append, all-replicate, words-all}
 use Rattle.plan_theorems.proofs.Values.{Length}
 use Rattle.plan_theorems.specs.Bounded.{SmallSource, Small, AllSmall}
-use Rattle.plan_theorems.proofs.BoundedWords.{set-below, words-all, words-part, words-sets, Short, short-set, short-ltop, short-lbase, short-iorg, short-pctr}
 use Rattle.plan_theorems.proofs.BoundedStorage.{request-below, short-share, short-drop, short-drops, short-place}
 
 -- ---- sources
@@ -62,7 +62,7 @@ source-ready s (made shape ravel) a f k = (
 )
 
 module _ {s : List ℕ} (h : Short s) where
-  word-below : (source : Source) → Ready source → wordOf s source < 2 ^ 32
+  word-below : (source : Source) → Ready source → sourceWord s source < 2 ^ 32
   unfolding placeAt
   word-below (variable t) r = h .at (addressOf s t)
   word-below (operand i) r = h .at (sbase s + ltop s - i)
@@ -82,7 +82,7 @@ module _ {s : List ℕ} (h : Short s) where
 
   short-store : (i : ℕ) (source : Source) → Ready source → Short (storeAt s i source)
   unfolding storeAt
-  short-store i source r = short-drop (short-set (short-placed source r) i (wordOf s source) (word-below source r)) (getD s i 0)
+  short-store i source r = short-drop (short-set (short-placed source r) i (sourceWord s source) (word-below source r)) (getD s i 0)
 
 -- ---- effects
 
@@ -101,7 +101,7 @@ module _ {s : List ℕ} (h : Short s) where
   short-replace : (n : ℕ) (source : Source) → Ready source → Sound (replace s n source) → Short (replace s n source)
   unfolding replace
   short-replace n source r g =
-      record { at = finish-below (short-drops n (short-placed h source r) (bottomOf s n)) (bottomOf s n) (wordOf s source) (word-below h source r) g }
+      record { at = finish-below (short-drops n (short-placed h source r) (bottomOf s n)) (bottomOf s n) (sourceWord s source) (word-below h source r) g }
 
   short-discard : (n : ℕ) → Short (discard s n)
   unfolding discard

@@ -12,27 +12,25 @@ use Rattle.manual.specs.Values.{Value, rank, first}
 use Rattle.manual.specs.Effects.{Source, word, made}
 use Rattle.manual.specs.Seen.{Seen, variablesOf}
 use Rattle.manual.specs.Loads.{isUndefined}
-use Rattle.manual.specs.Scalars.{resultOf}
+use Rattle.manual.specs.Scalars.{resultSource}
 use Rattle.manual.specs.Control.{frameWord}
 use Rattle.manual.specs.Instructions.{Running, codeIn, headerOf, planOf, planDecoded}
 use Rattle.manual.specs.Cases.{Pushed, ofLoad, ofReference, ofTestDefined, ofUndefined, ofGetOrigin, ofShortConstant, ofConstantScalar, ofConstantVector}
 use Rattle.manual.proofs.Decoding.{Reads}
 use Rattle.manual.proofs.Cases.{plan-cases}
 use Rattle.scalar_theorems.specs.Validity.{Valid}
-use Rattle.plan_theorems.specs.Fitting.{Words}
+use Rattle.segment.specs.Lent.{Words, Bytes}
 use Rattle.plan_theorems.proofs.Given.{AnyTrap, Given}
-use Rattle.plan_theorems.proofs.Lists.{all-map}
+use Rattle.plan_theorems.proofs.Lists.{all-map, words-all}
 use Rattle.plan_theorems.proofs.Values.{ValueFits}
 use Rattle.plan_theorems.proofs.Cells.{word-valid}
 use Rattle.plan_theorems.proofs.Sees.{Sees}
 use Rattle.plan_theorems.proofs.Pushed.{valid-truth, valid-short}
 use Rattle.plan_theorems.proofs.Results.{result-fits}
-use Rattle.plan_theorems.specs.Lent.{Bytes}
 use Rattle.plan_theorems.specs.Bounded.{SmallSource, AllSmall}
-use Rattle.plan_theorems.proofs.BoundedWords.{words-all}
 use Rattle.plan_theorems.proofs.BoundedDecoding.{SmallDecoded, words-from}
 
-result-small : (a : Value) → ValueFits a → SmallSource (resultOf a)
+result-small : (a : Value) → ValueFits a → SmallSource (resultSource a)
 result-small a h = go (eqb (rank a) 0) (words-all (a .ravel) (all-map Valid (λ w. w < 2 ^ 32) (λ w v. v .word) (a .ravel) (h .scalars)))
   where
     go : (b : Bool) → Words (a .ravel) → SmallSource (cond b (word (first (a .ravel))) (made (a .shape) (a .ravel)))

@@ -8,12 +8,12 @@ use lib.ListN.{getD, length}
 use Rattle.descriptor.specs.Fields.{isArray, address}
 use Rattle.segment.specs.State.{rover}
 use Rattle.segment.specs.Blocks.{sizeAt, spanAt, nextAt, lastAt, dummy, countAt, freeAt, prevFreeAt, need}
+use Rattle.segment.specs.Lent.{Words}
+use Rattle.segment.proofs.Words.{words-sets, Short, short-set, either, short-rover}
 use Rattle.storage.specs.Ring.{setNext, setLast, clearPrevFree, setPrevFree, markFree, unlink, hook, insert, relink, moveRover}
 use Rattle.storage.specs.Release.{joinBoth, joinBefore, joinAfter, joinNone, release}
 use Rattle.storage.specs.Request.{findFrom, find, split, givenWhole, give, given, requestAt, request}
 use Rattle.storage.specs.Arrays.{fill, placeAt, place, raise, lower, share, dropWord, dropWords}
-use Rattle.plan_theorems.specs.Fitting.{Words}
-use Rattle.plan_theorems.proofs.BoundedWords.{words-sets, Short, short-set, either, short-rover}
 
 -- ---- the ring
 

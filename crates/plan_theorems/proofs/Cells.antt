@@ -19,12 +19,12 @@ use Rattle.segment.proofs.Runs.{part-length}
 use Rattle.storage.specs.Heap.{count}
 use Rattle.storage.specs.Owned.{Owned, Inside}
 use Rattle.manual.specs.Values as values
-use Rattle.manual.specs.Scalars.{valueOf, scalarWord}
+use Rattle.manual.specs.Scalars.{valueOf, cellWord}
 use Rattle.manual.proofs.Tests.{both-hold}
 use Rattle.storage_theorems.proofs.Cells.{array-of}
 use Rattle.effects.specs.Seen.{whole, readKind, read}
 use Rattle.scalar_theorems.specs.Validity.{Valid}
-use Rattle.plan_theorems.specs.Fitting.{Words}
+use Rattle.segment.specs.Lent.{Words}
 use Rattle.plan_theorems.proofs.Given.{Given}
 use Rattle.plan_theorems.proofs.Lists.{All, all-count, count-all, all-getD}
 use Rattle.plan_theorems.proofs.Values.{Length, valid-length, ValueFits, scalar-fits}
@@ -41,7 +41,7 @@ value-given (indirect t) h = tt
 value-given (value shape ravel) h = h
 value-given invalid h = tt
 
-pub word-valid : (c : Cell) → CellFits c → Valid (scalarWord c)
+pub word-valid : (c : Cell) → CellFits c → Valid (cellWord c)
 word-valid undefined h = valid-length 0 (omega arith)
 word-valid (indirect t) h = valid-length 0 (omega arith)
 word-valid (value shape ravel) h = all-getD Valid ravel 0 (valid-length 0 (omega arith)) (h .scalars)

@@ -12,7 +12,6 @@ pub mod After
 pub mod Pushed
 pub mod Results
 pub mod PlansFit
-pub mod BoundedWords
 pub mod BoundedStorage
 pub mod BoundedEffects
 pub mod BoundedDecoding

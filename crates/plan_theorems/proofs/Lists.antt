@@ -1,10 +1,11 @@
 -- Lists all of whose numbers have a property.
-use Prim.Native.Nat.{ℕ, zero, suc, _<_}
+use Prim.Native.Nat.{ℕ, zero, suc, _^_, _<_}
 use mathlib.Core.Path.{subst, sym}
 use mathlib.Core.List.{List, [], _∷_, _++_}
 use mathlib.Core.Logic.{⊎-elim}
 use native.Mathlib.Omega.{arith}
 use lib.ListN.{getD, take, replicate}
+use Rattle.segment.specs.Lent.{Words}
 use Rattle.storage.specs.Heap.{count}
 use Rattle.storage_theorems.proofs.Counts.{hit-cases, hit-same}
 
@@ -43,3 +44,6 @@ module _ (P : ℕ → Type 0) where
 pub all-map : (P Q : ℕ → Type 0) → ((w : ℕ) → P w → Q w) → (l : List ℕ) → All P l → All Q l
 all-map P Q f [] h = tt
 all-map P Q f (x ∷ l) h = (f x (h .0), all-map P Q f l (h .1))
+
+pub words-all : (l : List ℕ) → All (λ w. w < 2 ^ 32) l → Words l
+words-all l h i = all-getD (λ (w : ℕ). w < 2 ^ 32) l i (omega arith) h

@@ -13,7 +13,7 @@ use Rattle.scalar.specs.Reading.{wholeOf}
 use Rattle.segment.specs.Blocks.{product}
 use Rattle.segment.specs.Cells.{Cell, undefined, indirect, value, invalid}
 use Rattle.instruction.specs.declared.Address.{Address}
-use Rattle.manual.specs.Values.{Value, rank as rankOf, any, isFraction, inRanges, place}
+use Rattle.manual.specs.Values.{Value, rank as rankOf, any, isFraction, inRanges, ravelPlace}
 use Rattle.manual.specs.Seen.{Seen, Variable}
 use Rattle.manual.specs.Scalars.{valueOf, operands, scalarWords, subscripted}
 use Rattle.manual.specs.Instructions.{Running}
@@ -25,8 +25,8 @@ use Rattle.effects.specs.Alike.{Resolved}
 use Rattle.plan_theorems.proofs.Given.{Given, passed, given}
 use Rattle.plan_theorems.proofs.Cells.{cell-array-shape}
 
-judged-below : (origin : ℕ) (ws ls : List ℕ) → length ws ≡ length ls → Given (λ k. k < product ls) (place origin ws ls)
-unfolding place
+judged-below : (origin : ℕ) (ws ls : List ℕ) → length ws ≡ length ls → Given (λ k. k < product ls) (ravelPlace origin ws ls)
+unfolding ravelPlace
 judged-below origin ws ls e =
     passed (λ (k : ℕ). k < product ls) (any isCharacter ws) 7 0 _ (λ c.
     passed (λ (k : ℕ). k < product ls) (any (λ w. isFraction (wholeOf w)) ws) 8 5 _ (λ f.

@@ -8,7 +8,7 @@ use Rattle.descriptor.specs.Kinds.{bit}
 use Rattle.instruction.specs.declared.Instruction.{Instruction}
 use Rattle.manual.specs.Effects.{operand, word, replaces, discards, swaps, stores, storesElement, enters, leaves, jumps, setsOrigin}
 use Rattle.manual.specs.Seen.{Seen, variablesOf}
-use Rattle.manual.specs.Scalars.{resultOf, scalarWord}
+use Rattle.manual.specs.Scalars.{resultSource, cellWord}
 use Rattle.manual.specs.Control.{frameWord}
 use Rattle.manual.specs.Instructions.{Running, headerOf, planOf}
 use Rattle.manual.specs.Cases.{calledBy}
@@ -44,7 +44,7 @@ module _ (s : List ℕ) (g : Sound s) (f : Running) (v : Seen) (h : Sees s (vari
         stopped = λ class number e. tt;
         pushed = λ {source} p r.
             then-jumps s (replaces 0 source) (record { taken = omega arith; room = omega (arith, r, h .room) }, source-available g h p) next;
-        result = λ {n} {v = r} p m c. then-jumps s (replaces n (resultOf r)) (can-replace s g n (there n c) m, value-available s r (result-fits h p)) next;
+        result = λ {n} {v = r} p m c. then-jumps s (replaces n (resultSource r)) (can-replace s g n (there n c) m, value-available s r (result-fits h p)) next;
         origin = λ a b e c p t.
             and-then-jumps s (setsOrigin (bit b)) tt (replaces 1 (word (v .origin))) (λ t. refl)
             (replace-after s (bit b) 1 (can-replace s g 1 (there 1 c) (omega arith)), valid-length (v .origin) (omega (arith, h .origin)) .scalar) next;
@@ -53,7 +53,7 @@ module _ (s : List ℕ) (g : Sound s) (f : Running) (v : Seen) (h : Sees s (vari
             let k : Fits s (stores (x .place) (operand 0)) = (resolved f h a r .there, there 1 c) in
             and-then-jumps s (stores (x .place) (operand 0)) k (discards 1) (λ t. refl) (discards-after s g (x .place) k) next;
         assignedElement = λ rank a x k e c p.
-            then-jumps s (storesElement (x .place) k (scalarWord (v .operand (rank % 2 ^ 4))) (rank % 2 ^ 4 + 1)) (
+            then-jumps s (storesElement (x .place) k (cellWord (v .operand (rank % 2 ^ 4))) (rank % 2 ^ 4 + 1)) (
               can-replace s g (rank % 2 ^ 4 + 1) (there (rank % 2 ^ 4 + 1) c) (omega arith),
               has-element (resolved f h a (p .reaches)) p,
               word-valid (v .operand (rank % 2 ^ 4)) (h .operand (rank % 2 ^ 4)) .scalar,

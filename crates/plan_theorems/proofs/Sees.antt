@@ -12,6 +12,7 @@ use Rattle.segment.specs.Cells.{undefined}
 use Rattle.segment.specs.View.{words, view}
 use Rattle.instruction.specs.declared.Address.{Address}
 use Rattle.instruction.specs.declared.Address.the-variants as A
+use Rattle.segment.specs.Lent.{Words}
 use Rattle.manual.specs.OrTrap.{gives}
 use Rattle.manual.specs.Values.{Value}
 use Rattle.manual.specs.Effects.{currentCells}
@@ -25,7 +26,6 @@ use Rattle.effects.specs.Sound.{Sound}
 use Rattle.effects.specs.Alike.{HasFrame, Resolved}
 use Rattle.effects_theorems.proofs.Variables.{operand-owner}
 use Rattle.effects_theorems.proofs.Theorems.{effects-theorems}
-use Rattle.plan_theorems.specs.Fitting.{Words}
 use Rattle.plan_theorems.proofs.Given.{given}
 use Rattle.plan_theorems.proofs.Values.{ValueFits}
 use Rattle.plan_theorems.proofs.Cells.{CellFits, value-given, read-fits}

@@ -12,7 +12,7 @@ use Rattle.segment.specs.Blocks.{product}
 use Rattle.storage.specs.Owned.{Proper}
 use Rattle.manual.specs.Values.{Value, scalar, rank, first}
 use Rattle.manual.specs.Effects.{word, made}
-use Rattle.manual.specs.Scalars.{resultOf}
+use Rattle.manual.specs.Scalars.{resultSource}
 use Rattle.manual.proofs.Elements.{no-lengths}
 use Rattle.effects.specs.Fits.{Available}
 use Rattle.scalar_theorems.specs.Validity.{Valid}
@@ -55,7 +55,7 @@ module _ (s : List ℕ) (v : Value) (h : ValueFits v) where
         scalars = λ w k. all-count Valid (v .ravel) (h .scalars) w k .scalar;
       }
 
-  pub value-available : Available s (resultOf v)
+  pub value-available : Available s (resultSource v)
   value-available = go (eqb (rank v) 0) refl
     where
       go : (b : Bool) → eqb (rank v) 0 ≡ b → Available s (cond b (word (first (v .ravel))) (made (v .shape) (v .ravel)))

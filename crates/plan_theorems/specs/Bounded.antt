@@ -4,6 +4,7 @@ use Prim.Native.Nat.{ℕ, _^_, _<_}
 use mathlib.Core.Path.{_≡_}
 use mathlib.Core.Bool.{false}
 use mathlib.Core.List.{List, [], _∷_}
+use Rattle.segment.specs.Lent.{Words, Bytes}
 use Rattle.manual.specs.OrTrap.{gives}
 use Rattle.manual.specs.Effects.{Source, variable, operand, word, undefinedValue, reference, made, Effect, replaces, discards, swaps, stores, storesElement, enters, leaves, jumps, setsOrigin}
 use Rattle.manual.specs.Seen.{variablesOf}
@@ -14,8 +15,6 @@ use Rattle.effects.specs.Alike.{HasFrame}
 use Rattle.effects.specs.Requests.{AllFit, OneRequest}
 use Rattle.effects.specs.Fits.{Fits}
 use Rattle.effects.specs.Perform.{perform, performs, isFull, firstFull}
-use Rattle.plan_theorems.specs.Fitting.{Words}
-use Rattle.plan_theorems.specs.Lent.{Bytes}
 
 abbrev pub SmallSource : Source → Type 0
 SmallSource (variable t) = Unit {0}

@@ -1,11 +1,11 @@
 -- The plan of an instruction fits the segment that it was told from: where no trap of the manual's lists is given, every effect
 -- has what it needs when its turn comes, whether or not its request is served, and only the first may ask for a block. So the
 -- theorems about effects hold of every plan. Proved in proofs/Theorems. Assumes nothing.
-use Prim.Native.Nat.{ℕ, _^_, _<_}
+use Prim.Native.Nat.{ℕ}
 use mathlib.Core.Path.{_≡_}
 use mathlib.Core.List.{List}
-use lib.ListN.{getD}
 use Rattle.instruction.specs.declared.Instruction.{Instruction}
+use Rattle.segment.specs.Lent.{Words}
 use Rattle.manual.specs.OrTrap.{gives}
 use Rattle.manual.specs.Effects.{Effect}
 use Rattle.manual.specs.Seen.{variablesOf}
@@ -14,10 +14,6 @@ use Rattle.effects.specs.Seen.{seen}
 use Rattle.effects.specs.Sound.{Sound}
 use Rattle.effects.specs.Alike.{HasFrame}
 use Rattle.effects.specs.Requests.{FirstFits, AllFit, OneRequest}
-
--- The words of a segment have 32 bits, as their type says in code. LESS gives a sign, and a longer word's need be no scalar.
-abbrev pub Words : List ℕ → Type 0
-Words s = (i : ℕ) → getD s i 0 < 2 ^ 32
 
 pub record Fitting (s : List ℕ) (es : List Effect) : Type 0 where
   pub first : FirstFits s es

@@ -9,7 +9,7 @@ use borrow.Author.Tests.{leb-true, eqb-true, eqb-false, le-leb, eq-eqb}
 use Rattle.descriptor.proofs.Truth.{both}
 use Rattle.procedure.specs.Directory.{entries, nlocalsOf, resultOf}
 use Rattle.procedure.specs.Refusal.{segmentLengthTest, entriesTest, resultHasLocal, headerTest, functionPasses, functionsPass, contentsTest, procedureRefusal}
-use Rattle.procedure.specs.Accepted.{FunctionFits, Accepted, Acceptance}
+use Rattle.procedure.specs.Accepted.{FunctionFits, ProcedureSegment, Acceptance}
 
 -- RESULT needs a local.
 has-local : (result : Bool) (nlocals : ℕ) → resultHasLocal result nlocals ≡ true → result ≡ true → 1 ≤ nlocals
@@ -73,7 +73,7 @@ fit-functions p (suc n) k f =
     (fit-functions p n (k + 1) (λ j l h. f j (omega arith) (omega arith)))
 
 module _ (p : List ℕ) where
-  accepted : segmentLengthTest p ≡ true → contentsTest p ≡ true → Accepted p
+  accepted : segmentLengthTest p ≡ true → contentsTest p ≡ true → ProcedureSegment p
   unfolding segmentLengthTest contentsTest entriesTest
   accepted e f =
       let words = both _ _ e in
@@ -94,11 +94,11 @@ module _ (p : List ℕ) where
         functions = λ k l h. functions-fit p (entries p - 1) 1 (contents .1) k l (omega arith);
       }
 
-  passes-length : Accepted p → segmentLengthTest p ≡ true
+  passes-length : ProcedureSegment p → segmentLengthTest p ≡ true
   unfolding segmentLengthTest
   passes-length a = simp (le-leb _ _ (a .shortest), le-leb _ _ (a .longest), eq-eqb _ _ (a .whole-words))
 
-  passes-contents : Accepted p → contentsTest p ≡ true
+  passes-contents : ProcedureSegment p → contentsTest p ≡ true
   unfolding contentsTest entriesTest
   passes-contents a =
       simp (
@@ -119,13 +119,13 @@ pub acceptance : (regular alternate : List ℕ) → Acceptance regular alternate
 unfolding procedureRefusal
 acceptance regular alternate = record { sound = sound; complete = complete }
   where
-    sound : procedureRefusal regular alternate ≡ 0 → Accepted regular × Accepted alternate
+    sound : procedureRefusal regular alternate ≡ 0 → ProcedureSegment regular × ProcedureSegment alternate
     sound e =
         let tests = passed _ _ e in
         let lengths = both _ _ (tests .0) in
         let contents = both _ _ (tests .1) in
         (accepted regular (lengths .0) (contents .0), accepted alternate (lengths .1) (contents .1))
 
-    complete : Accepted regular → Accepted alternate → procedureRefusal regular alternate ≡ 0
+    complete : ProcedureSegment regular → ProcedureSegment alternate → procedureRefusal regular alternate ≡ 0
     complete r a =
         simp (passes-length regular r, passes-length alternate a, passes-contents regular r, passes-contents alternate a)

@@ -19,7 +19,7 @@ pub record FunctionFits (p : List ℕ) (k : ℕ) : Type 0 where
   pub variables : nargsOf p k + nlocalsOf p k ≤ 4096
   pub block-length : lengthOf p k ≡ 2 + ncodeOf p k + (nlinesOf p k + 1) / 2
 
-pub record Accepted (p : List ℕ) : Type 0 where
+pub record ProcedureSegment (p : List ℕ) : Type 0 where
   pub shortest : 4 ≤ length p
   pub longest : length p ≤ 32768
   pub whole-words : length p % 4 ≡ 0
@@ -30,5 +30,5 @@ pub record Accepted (p : List ℕ) : Type 0 where
   pub functions : (k : ℕ) → 1 ≤ k → k < entries p → FunctionFits p k
 
 pub record Acceptance (regular alternate : List ℕ) : Type 0 where
-  pub sound : procedureRefusal regular alternate ≡ 0 → Accepted regular × Accepted alternate
-  pub complete : Accepted regular → Accepted alternate → procedureRefusal regular alternate ≡ 0
+  pub sound : procedureRefusal regular alternate ≡ 0 → ProcedureSegment regular × ProcedureSegment alternate
+  pub complete : ProcedureSegment regular → ProcedureSegment alternate → procedureRefusal regular alternate ≡ 0

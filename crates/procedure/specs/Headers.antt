@@ -15,8 +15,8 @@ abbrev pub bitOf : ℕ → ℕ → Bool
 bitOf k w = eqb (w / 2 ^ k % 2) 1
 
 -- Header word 0: CALLTRACE 31, RTNTRACE 30, RESULT 29, NARGS 23–16, NLINES 15–0; word 1: NLOCALS high, NCODE low.
-abbrev pub headerOf : ℕ → ℕ → Header
-headerOf word0 word1 =
+abbrev pub headerOfWords : ℕ → ℕ → Header
+headerOfWords word0 word1 =
     record {
       calltrace = bitOf 31 word0;
       rtntrace = bitOf 30 word0;
@@ -33,7 +33,7 @@ unnamedBits word0 = word0 / 2 ^ 24 % 2 ^ 5
 
 -- The header of the block that starts at that word.
 unfoldable pub headerAt : List ℕ → ℕ → Header
-headerAt p start = headerOf (wordAt p (4 * start)) (wordAt p (4 * start + 4))
+headerAt p start = headerOfWords (wordAt p (4 * start)) (wordAt p (4 * start + 4))
 
 abbrev pub blockAt : List ℕ → ℕ → Block
 blockAt p start = record { start = start; header = headerAt p start }

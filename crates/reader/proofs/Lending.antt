@@ -34,7 +34,7 @@ use denote.Triple.Statement.{Contract, Triple}
 use Rattle.instruction.specs.declared.Decoded.{Decoded}
 use Rattle.instruction.proofs.Decoded as D
 use Rattle.reader.specs.declared.Reader.{Reader}
-use Rattle.reader.specs.Walking.{foundBy, read}
+use Rattle.reader.specs.Walking.{foundBy, readOnce}
 use Rattle.reader.proofs.Holding.{lifetime, Held, own}
 use Rattle.reader.proofs.Reader as T
 use Rattle.reader.proofs.Reader.Laws as T′
@@ -64,7 +64,7 @@ module _ {M : Type 1} (𝓤 : URA M) (H : Heap 𝓤) (A : Atoms 𝓤) (W : Given
 module _ {M : Type 1} {𝓤 : URA M} {H : Heap 𝓤} {A : Atoms 𝓤} {K : Type 0} {W : Given 𝓤 H A} {Γ : List (Item 𝓤)} {E : Env 𝓤 H} {C : Calls 𝓤 H} {Λ : Loops 𝓤 H} {p : Post 𝓤 H} {xs : List Operand} {d : Place} {rest : Code} where
   pub reads : K → FmC 𝓤 H (W .laws) C → (at-mem : Memory → SProp 𝓤) (run : Routine → Fun 𝓤) → Triple 𝓤 (C #next) (Next 𝓤 H A at-mem run) → (κ : Lft) (q : Share) (l : ℕ) (h : Reader)
       → ((i j k : Item 𝓤) → Opds K W (i ∷ j ∷ k ∷ Γ) E xs (vptr l 0 ∷ []))
-      → ((u : Val) (f : Decoded) → f ≡ foundBy h → Is D.the-row f (u ∷ []) → Seq K W (‵ (cell l (read h .1)) ∷ ‵ (own κ (read h .1)) ∷ ‵ (flft κ q) ∷ ‵ (D.the-row .own f (u ∷ [])) ∷ Γ) (lands C Λ E d u rest p))
+      → ((u : Val) (f : Decoded) → f ≡ foundBy h → Is D.the-row f (u ∷ []) → Seq K W (‵ (cell l (readOnce h .1)) ∷ ‵ (own κ (readOnce h .1)) ∷ ‵ (flft κ q) ∷ ‵ (D.the-row .own f (u ∷ [])) ∷ Γ) (lands C Λ E d u rest p))
       → Seq K W (‵ (cell l h) ∷ ‵ (own κ h) ∷ ‵ (flft κ q) ∷ Γ) (runs C Λ E (seq (call #next xs d) rest) p)
   reads t fm at-mem run known κ q l h os k =
       use2 W (‵ (mem (Held κ) .lies h l 0)) (lies-in 𝓤 H A W κ l h) $
@@ -79,13 +79,13 @@ module _ {M : Type 1} {𝓤 : URA M} {H : Heap 𝓤} {A : Atoms 𝓤} {K : Type 
       calls-at t fm (Next 𝓤 H A at-mem run) known (to ν δ) (os (raw (Next 𝓤 H A at-mem run .pre (to ν δ))) (‵ (flent (ν ∷ κ) (Body (mem (Held κ)) l 0 δ))) (raw (wand 𝓤 (A .lft (ν ∷ []) (PosShare·left q)) (A .lft (ν ∷ []) fullShare)))) (λ u.
       use1 W (later (some (λ (f : Decoded). ((‵ (flft (ν ∷ κ) (PosShare·left q)) ⊛ ‵ (flft κ (PosShare·right q)) ⊛ ‵ ftrue) ⊛ ‵ (D.the-row .own f (u ∷ []))) ⊛ raw (ensured 𝓤 H A next.ended (next.clauses 𝓤 H A at-mem run) (ν ∷ κ, (κ, tt)) (ref δ, tt) tt f)))) (id⊢ 𝓤 _) $ await t tt $ pick t (λ f.
       -- what `next` ensures, at some last reader
-      split t $ move t (1 ∷ []) $ use1 W (some (λ (ws : Reader × Unit {0}). ‵ (lasts next.ended (ν ∷ κ, (κ, tt)) (ref δ, tt) ws) ⊛ raw (fact 𝓤 ((f, ws .0) ≡ read h)))) (id⊢ 𝓤 _) $ pick t (λ ws.
-      split t $ move t (1 ∷ []) $ heard t ((f, ws .0) ≡ read h) (λ e. fsplit t $ move t (2 ∷ []) $ split t $ move t (1 ∷ []) $ peeks t D.the-row (Is D.the-row) (shows 𝓤 H A D.the-row) f (u ∷ []) (λ is. move t (1 ∷ []) $ split t $
+      split t $ move t (1 ∷ []) $ use1 W (some (λ (ws : Reader × Unit {0}). ‵ (lasts next.ended (ν ∷ κ, (κ, tt)) (ref δ, tt) ws) ⊛ raw (fact 𝓤 ((f, ws .0) ≡ readOnce h)))) (id⊢ 𝓤 _) $ pick t (λ ws.
+      split t $ move t (1 ∷ []) $ heard t ((f, ws .0) ≡ readOnce h) (λ e. fsplit t $ move t (2 ∷ []) $ split t $ move t (1 ∷ []) $ peeks t D.the-row (Is D.the-row) (shows 𝓤 H A D.the-row) f (u ∷ []) (λ is. move t (1 ∷ []) $ split t $
       -- ν is ended, and the reader comes back
       use1 W (‵ (flft (ν ∷ []) (PosShare·left q)) ⊛ ‵ (flft κ (PosShare·left q))) (W .lfts .lft-unmeet (ν ∷ []) κ (PosShare·left q)) $ split t $ move t (0 ∷ 7 ∷ []) $ apply t $ use1 W (‵ (flft (ν ∷ []) fullShare)) (id⊢ 𝓤 _) $
       lft-end t tt $ use1 W (‵ (fdead (ν ∷ κ))) (W .lfts .dead-incl (ν ∷ κ) (ν ∷ []) (meet-⊑-left (ν ∷ []) κ)) $
       move t (0 ∷ 6 ∷ 4 ∷ []) $ use3 W (later (‵ (mem (Held κ) .lies (ws .0) l 0))) (ref-back 𝓤 H A W (Held κ) (ν ∷ κ) δ (ws .0) l 0) $ await t tt $ rewrite t 0 (λ (y : Reader). ‵ (mem (Held κ) .lies y l 0)) (ap (λ (z : Decoded × Reader). z .1) e) refl $
-      use1 W (‵ (cell l (read h .1)) ⊛ ‵ (own κ (read h .1))) (lies-out 𝓤 H A W κ l (read h .1)) $ split t $
+      use1 W (‵ (cell l (readOnce h .1)) ⊛ ‵ (own κ (readOnce h .1))) (lies-out 𝓤 H A W κ l (readOnce h .1)) $ split t $
       -- [the local; what its reader owns; κ's left half; κ's right half; what was found; …]
       move t (3 ∷ []) $ split t $ move t (4 ∷ 0 ∷ []) $ use2 W (‵ (flft κ q)) (W .lfts .lft-join κ q) $ move t (1 ∷ []) $ drop t $ move t (4 ∷ []) $ drop t $ move t (1 ∷ 2 ∷ 0 ∷ []) $
       k u f (ap (λ (z : Decoded × Reader). z .0) e) is)))))))

@@ -34,8 +34,8 @@ abbrev pub foundBy : Reader → Decoded
 foundBy r = instructionAt (now (r .code)) (r .place .0)
 
 -- Reading once: what is found, and the reader after it.
-abbrev pub read : Reader → Decoded × Reader
-read r = (foundBy r, record { code = r .code; place = placeAfter (r .place) (foundBy r) })
+abbrev pub readOnce : Reader → Decoded × Reader
+readOnce r = (foundBy r, record { code = r .code; place = placeAfter (r .place) (foundBy r) })
 
 -- A walk from a place, of so many steps at most: what is found there, then what is found from its end on.
 unfoldable pub walkIn : ℕ → List ℕ → CodeAddress → List (CodeAddress × Decoded)

@@ -1,6 +1,6 @@
 // A reader on one function's code: the code and a place in it. Decoding is the work of `instruction`.
 ghost use mathlib.Core.Path.{_≡_};
-ghost use Rattle.reader.specs.Walking.{atStart, placeAfter, read};
+ghost use Rattle.reader.specs.Walking.{atStart, placeAfter, readOnce};
 use descriptor::address::CodeAddress;
 use instruction::Decoded;
 use instruction::decode::instruction_at;
@@ -24,7 +24,7 @@ impl<'a> Reader<'a> {
 
     // The instruction where the reader stands. The reader moves to its end, and stays where it traps.
     pub fn next<'s>(&'s mut self) -> Decoded
-        ensures { λ r. ⌜ (r, now (self .exit)) ≡ read (now (self .entry)) ⌝ }
+        ensures { λ r. ⌜ (r, now (self .exit)) ≡ readOnce (now (self .entry)) ⌝ }
     {
         let place = self.place;
         let found = instruction_at(self.code, place);

@@ -19,7 +19,7 @@ use Rattle.scalar.specs.Results.{rounded, integer, result}
 use Rattle.scalar.specs.Operators.{sumSign, sumSize, plus, minus}
 use Rattle.descriptor.specs.Fields.{sign, magnitude}
 use Rattle.scalar.specs.Value.{one, units, oneFloat}
-use Rattle.scalar.specs.Parts.{Added, placeOf, distanceOf}
+use Rattle.scalar.specs.Parts.{SignedSum, signedPlace, distanceOf}
 use Rattle.scalar.proofs.Operands.{both-integers}
 use Rattle.scalar.proofs.Units.{units-integer}
 use Rattle.scalar.proofs.Rounding.{rounded-none, rounded-same, not-lt-le, join, up-lt}
@@ -178,13 +178,13 @@ module _ (s t u v g e q f : ℕ) (x : u ≡ g * 2 ^ e) (y : v ≡ q * 2 ^ f) whe
 
 -- ---- the sum of two places on the line around 2 ^ 62
 
-place-plus : (s n : ℕ) → s ≡ 0 → placeOf s n ≡ 2 ^ 62 + n
+place-plus : (s n : ℕ) → s ≡ 0 → signedPlace s n ≡ 2 ^ 62 + n
 place-plus s n h = simp (eq-eqb s 0 h)
 
-place-minus : (s n : ℕ) → (s ≡ 0 → ⊥) → placeOf s n ≡ 2 ^ 62 - n
+place-minus : (s n : ℕ) → (s ≡ 0 → ⊥) → signedPlace s n ≡ 2 ^ 62 - n
 place-minus s n h = simp (ne-eqb s 0 h)
 
-pub place-lt : (s n : ℕ) → n < 2 ^ 62 → placeOf s n < 2 ^ 63
+pub place-lt : (s n : ℕ) → n < 2 ^ 62 → signedPlace s n < 2 ^ 63
 place-lt s n h = elim (ℕ-discrete s 0) [
   | yes e ↦ omega (arith, place-plus s n e)
   | no e ↦ omega (arith, place-minus s n e)
@@ -217,10 +217,10 @@ either P s h f g = ⊎-elim (λ (e : s ≡ 0). f e) (λ (l : 0 < s). g (omega ar
 
 module _ (s n t m : ℕ) (p : s < 2) (q : t < 2) (i : n < 2 ^ 62) (j : m < 2 ^ 62) where
   abbrev pub line : ℕ
-  line = placeOf s n + placeOf t m
+  line = signedPlace s n + signedPlace t m
 
   -- the sum has the sign g and the magnitude d
-  made : (g d : ℕ) → Sum s n t m g d → Located line g d → d < 2 ^ 63 → Added s n t m (1 - line / 2 ^ 63) (distanceOf line)
+  made : (g d : ℕ) → Sum s n t m g d → Located line g d → d < 2 ^ 63 → SignedSum s n t m (1 - line / 2 ^ 63) (distanceOf line)
   made g d k e l =
       record {
         magnitude = e .0 ∙ sym (k .1);
@@ -230,7 +230,7 @@ module _ (s n t m : ℕ) (p : s < 2) (q : t < 2) (i : n < 2 ^ 62) (j : m < 2 ^ 6
       }
 
   Goal : Type 0
-  Goal = Added s n t m (1 - line / 2 ^ 63) (distanceOf line)
+  Goal = SignedSum s n t m (1 - line / 2 ^ 63) (distanceOf line)
 
   alike : s ≡ t → Goal
   unfolding Goal
@@ -260,15 +260,15 @@ module _ (s n t m : ℕ) (p : s < 2) (q : t < 2) (i : n < 2 ^ 62) (j : m < 2 ^ 6
       (omega arith)
 
   -- from the places x and y, and the distance d
-  pub added : (x y d : ℕ) → x ≡ placeOf s n → y ≡ placeOf t m → d ≡ distanceOf (x + y) → Added s n t m (1 - (x + y) / 2 ^ 63) d
+  pub added : (x y d : ℕ) → x ≡ signedPlace s n → y ≡ signedPlace t m → d ≡ distanceOf (x + y) → SignedSum s n t m (1 - (x + y) / 2 ^ 63) d
   unfolding Goal
   added x y d e f h =
       let k : x + y ≡ line = ap₂ _+_ e f in
-      subst (λ (z : ℕ). Added s n t m (1 - z / 2 ^ 63) d) (sym k) (subst (λ (z : ℕ). Added s n t m (1 - line / 2 ^ 63) z) (sym (h ∙ ap distanceOf k)) (cases s n t m Goal alike lower higher))
+      subst (λ (z : ℕ). SignedSum s n t m (1 - z / 2 ^ 63) d) (sym k) (subst (λ (z : ℕ). SignedSum s n t m (1 - line / 2 ^ 63) z) (sym (h ∙ ap distanceOf k)) (cases s n t m Goal alike lower higher))
 
 -- ---- what is made of a sum's sign and magnitude: zero has either sign
 
-module _ (s n t m g d : ℕ) (k : Added s n t m g d) where
+module _ (s n t m g d : ℕ) (k : SignedSum s n t m g d) where
   -- what an answer makes of them, if it makes the same of zero with either sign
   same : (f : ℕ → ℕ → Answer) → ((x y : ℕ) → f x 0 ≡ f y 0) → f g d ≡ f (sumSign s n t m) (sumSize s n t m)
   same f h =

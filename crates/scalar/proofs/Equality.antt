@@ -5,16 +5,16 @@ use mathlib.Core.Bool.{Bool, true, false, cond, _&&_}
 use lib.Dec.{eqb}
 use Rattle.descriptor.specs.Fields.{isCharacter}
 use Rattle.descriptor.specs.Kinds.{bit}
-use Rattle.scalar.specs.Value.{code}
+use Rattle.scalar.specs.Value.{characterCode}
 use Rattle.scalar.specs.Operators.{comparison, ifZero, equal}
 use Rattle.scalar.specs.declared.Answer.the-variants.{Word}
 
 module _ (a b : ℕ) where
-  by : (t u : Bool) → isCharacter a ≡ t → isCharacter b ≡ u → cond t (Word (bit (isCharacter b && eqb (code a) (code b)))) (cond u (Word 0) (ifZero (comparison a b))) ≡ equal a b
+  by : (t u : Bool) → isCharacter a ≡ t → isCharacter b ≡ u → cond t (Word (bit (isCharacter b && eqb (characterCode a) (characterCode b)))) (cond u (Word 0) (ifZero (comparison a b))) ≡ equal a b
   unfolding equal
-  by t u h k = ap₂ (λ (x y : Bool). cond x (Word (bit (isCharacter b && eqb (code a) (code b)))) (cond y (Word 0) (ifZero (comparison a b)))) (sym h) (sym k)
+  by t u h k = ap₂ (λ (x y : Bool). cond x (Word (bit (isCharacter b && eqb (characterCode a) (characterCode b)))) (cond y (Word 0) (ifZero (comparison a b)))) (sym h) (sym k)
 
-  pub equal-first : isCharacter a ≡ true → Word (bit (isCharacter b && eqb (code a) (code b))) ≡ equal a b
+  pub equal-first : isCharacter a ≡ true → Word (bit (isCharacter b && eqb (characterCode a) (characterCode b))) ≡ equal a b
   equal-first h = by true (isCharacter b) h refl
 
   pub equal-second : isCharacter a ≡ false → isCharacter b ≡ true → Word 0 ≡ equal a b
@@ -24,8 +24,8 @@ module _ (a b : ℕ) where
   equal-numbers h k = by false false h k
 
   -- two characters, or a character and a number
-  pub same-code : isCharacter b ≡ true → Word (bit (eqb (code a) (code b))) ≡ Word (bit (isCharacter b && eqb (code a) (code b)))
-  same-code h = ap (λ (t : Bool). Word (bit (t && eqb (code a) (code b)))) (sym h)
+  pub same-code : isCharacter b ≡ true → Word (bit (eqb (characterCode a) (characterCode b))) ≡ Word (bit (isCharacter b && eqb (characterCode a) (characterCode b)))
+  same-code h = ap (λ (t : Bool). Word (bit (t && eqb (characterCode a) (characterCode b)))) (sym h)
 
-  pub no-code : isCharacter b ≡ false → Word 0 ≡ Word (bit (isCharacter b && eqb (code a) (code b)))
-  no-code h = ap (λ (t : Bool). Word (bit (t && eqb (code a) (code b)))) (sym h)
+  pub no-code : isCharacter b ≡ false → Word 0 ≡ Word (bit (isCharacter b && eqb (characterCode a) (characterCode b)))
+  no-code h = ap (λ (t : Bool). Word (bit (t && eqb (characterCode a) (characterCode b)))) (sym h)

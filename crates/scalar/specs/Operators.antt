@@ -10,7 +10,7 @@ use Rattle.operator.specs.declared.Monadic.{Monadic}
 use Rattle.operator.specs.declared.Monadic.the-variants as M
 use Rattle.operator.specs.declared.Dyadic.{Dyadic}
 use Rattle.operator.specs.declared.Dyadic.the-variants as D
-use Rattle.scalar.specs.Value.{one, units, oneFloat, code}
+use Rattle.scalar.specs.Value.{one, units, oneFloat, characterCode}
 use Rattle.scalar.specs.Results.{typeError, zeroDivisor, domainError, integer, rounded, result}
 use Rattle.scalar.specs.Reading.{wholeOf, truthOf}
 use Rattle.scalar.specs.declared.Whole.{Whole}
@@ -77,7 +77,7 @@ characterOf true n = domainError
 characterOf false n = cond (ltb n (2 ^ 8)) (Word (characterWord n)) domainError
 
 abbrev pub converted : ℕ → Whole → Answer
-converted a W.Character = Word (integerWord 0 (code a))
+converted a W.Character = Word (integerWord 0 (characterCode a))
 converted a W.Fraction = domainError
 converted a (W.Number negative n) = characterOf negative n
 
@@ -158,7 +158,7 @@ less a b = numbers a b (ifNegative (comparison a b))
 -- "A character scalar is equal only to another character scalar possessing the same character code."
 unfoldable pub equal : ℕ → ℕ → Answer
 equal a b =
-    cond (isCharacter a) (Word (bit (isCharacter b && eqb (code a) (code b))))
+    cond (isCharacter a) (Word (bit (isCharacter b && eqb (characterCode a) (characterCode b))))
     (cond (isCharacter b) (Word 0) (ifZero (comparison a b)))
 
 -- ---- all of them

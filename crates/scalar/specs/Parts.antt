@@ -29,14 +29,14 @@ abbrev pub oneCharacter : ℕ → ℕ → Bool
 oneCharacter a b = isCharacter a || isCharacter b
 
 -- The place of a signed magnitude on a line around 2 ^ 62, and how far the sum of two places lies from 2 ^ 63.
-abbrev pub placeOf : ℕ → ℕ → ℕ
-placeOf s n = cond (eqb s 0) (2 ^ 62 + n) (2 ^ 62 - n)
+abbrev pub signedPlace : ℕ → ℕ → ℕ
+signedPlace s n = cond (eqb s 0) (2 ^ 62 + n) (2 ^ 62 - n)
 
 abbrev pub distanceOf : ℕ → ℕ
 distanceOf x = cond (ltb x (2 ^ 63)) (2 ^ 63 - x) (x - 2 ^ 63)
 
 -- The sign and the magnitude of a sum; zero has either sign.
-pub record Added (s n t m sign size : ℕ) : Type 0 where
+pub record SignedSum (s n t m sign size : ℕ) : Type 0 where
   pub magnitude : size ≡ sumSize s n t m
   pub signed : 0 < size → sign ≡ sumSign s n t m
   pub bit : sign < 2

@@ -1,6 +1,6 @@
 -- The value of a scalar, document 01's "Descriptors": its sign is `sign`, and its magnitude is put over whole numbers, as
 -- under "Meanings fixed here": every float times 2 ^ 150 is whole, so a magnitude is a number of units of 2 ^ -150.
--- A reader must believe: `units` and `code` are the document's values. Assumes nothing.
+-- A reader must believe: `units` and `characterCode` are the document's values. Assumes nothing.
 -- A word that is no scalar has a value too: with bit 30 clear it is a character by its type 1, and else an integer.
 use Prim.Native.Nat.{ℕ, _+_, _*_, _%_, _^_}
 use mathlib.Core.Bool.{Bool, cond, _||_}
@@ -19,5 +19,5 @@ abbrev pub oneFloat : ℕ → ℕ → Bool
 oneFloat a b = isFloat a || isFloat b
 
 -- A character's code, bits 7–0.
-abbrev pub code : ℕ → ℕ
-code w = w % 2 ^ 8
+abbrev pub characterCode : ℕ → ℕ
+characterCode w = w % 2 ^ 8

@@ -4,7 +4,7 @@ ghost use mathlib.Core.Bool.{_&&_};
 ghost use lib.Dec.{eqb};
 ghost use Rattle.descriptor.specs.Fields.{isCharacter};
 ghost use Rattle.descriptor.specs.Kinds.{bit};
-ghost use Rattle.scalar.specs.Value.{code};
+ghost use Rattle.scalar.specs.Value.{characterCode};
 ghost use Rattle.scalar.specs.Operators as S;
 use crate::Answer;
 use crate::reading;
@@ -40,7 +40,7 @@ pub fn equal(a: u32, b: u32) -> Answer
 
 // A character and any scalar.
 fn same_character(a: u32, b: u32) -> Answer
-    ensures { λ r. ⌜ r ≡ Answer.Word (bit (isCharacter b && eqb (code a) (code b))) ⌝ }
+    ensures { λ r. ⌜ r ≡ Answer.Word (bit (isCharacter b && eqb (characterCode a) (characterCode b))) ⌝ }
 {
     if reading::is_character(b) {
         if a % 0x100 == b % 0x100 {

@@ -5,7 +5,7 @@ ghost use Prim.Native.Nat.{ℕ, _-_, _*_, _^_, _<_, _≤_, min};
 ghost use Rattle.descriptor.specs.Fields.{sign, magnitude};
 ghost use Rattle.scalar.specs.Value.{one, units, oneFloat};
 ghost use Rattle.scalar.specs.Operators as S;
-ghost use Rattle.scalar.specs.Parts.{Added, placeOf, distanceOf};
+ghost use Rattle.scalar.specs.Parts.{SignedSum, signedPlace, distanceOf};
 use crate::Answer;
 use crate::results;
 use crate::words;
@@ -140,7 +140,7 @@ fn far_sum(s: u32, n: u64, t: u32, e: u32) -> Answer
 // A signed sum with no branch on a sign: both numbers are put on a line around 2^62, so that their sum lies around 2^63.
 fn add_signed(s: u32, n: u64, t: u32, m: u64) -> Signed
     requires { ⌜ (s < 2) × (t < 2) × (n < 2 ^ 62) × (m < 2 ^ 62) ⌝ }
-    ensures { λ r. ⌜ Added s n t m (r .sign) (r .size) ⌝ }
+    ensures { λ r. ⌜ SignedSum s n t m (r .sign) (r .size) ⌝ }
 {
     let x = place(s, n) + place(t, m);
     Signed {
@@ -151,7 +151,7 @@ fn add_signed(s: u32, n: u64, t: u32, m: u64) -> Signed
 
 fn place(s: u32, n: u64) -> u64
     requires { ⌜ n < 2 ^ 62 ⌝ }
-    ensures { λ r. ⌜ r ≡ placeOf s n ⌝ }
+    ensures { λ r. ⌜ r ≡ signedPlace s n ⌝ }
 {
     if s == 0 {
         0x4000_0000_0000_0000 + n

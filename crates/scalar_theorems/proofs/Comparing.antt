@@ -22,7 +22,7 @@ use Rattle.scalar.proofs.Rounding.{rounded-none}
 use Rattle.scalar.proofs.Addition.{like, less as lower, more, cases, sign-lt, scaled, plus-float, plus-integers, minus-integers, either}
 use Rattle.scalar.proofs.Equality.{equal-numbers}
 use Rattle.scalar.proofs.Units.{units-integer}
-use Rattle.scalar_theorems.specs.Line.{middle, place}
+use Rattle.scalar_theorems.specs.Line.{middle, linePlace}
 use Rattle.scalar_theorems.specs.Comparing.{Compares}
 use Rattle.scalar_theorems.proofs.Words.{never, same-word, integer-word, rounded-word, float-pos, below-middle}
 
@@ -175,41 +175,41 @@ module _ (a b w : ℕ) (fa : a < 2 ^ 32) (fb : b < 2 ^ 32) (h : difference a b �
     | no p ↦ floating (first-float a b p)
   ]
 
-  order : Ordered (place a) (place b) g d
-  unfolding place g d Goal
+  order : Ordered (linePlace a) (linePlace b) g d
+  unfolding linePlace g d Goal
   order = ordered middle (sign a) (units a) (sign b) (units b) (omega arith) (omega arith) (below-middle a) (below-middle b)
 
   -- ---- both agree, by whether the difference is zero, and its sign
 
   Agrees : Type 0
-  Agrees = (sign w ≡ bit (ltb (place a) (place b))) × (bit (eqb w 0) ≡ bit (eqb (place a) (place b)))
+  Agrees = (sign w ≡ bit (ltb (linePlace a) (linePlace b))) × (bit (eqb w 0) ≡ bit (eqb (linePlace a) (linePlace b)))
 
   agrees : Agrees
   unfolding Agrees
   agrees = ⊎-elim
       (λ (z : d ≡ 0). let k = told .none z in let o = order .same z in (
-        ap sign k ∙ sym (ap bit (le-ltb (place a) (place b) (omega arith))),
-        ap bit (eq-eqb w 0 k) ∙ sym (ap bit (eq-eqb (place a) (place b) o)),
+        ap sign k ∙ sym (ap bit (le-ltb (linePlace a) (linePlace b) (omega arith))),
+        ap bit (eq-eqb w 0 k) ∙ sym (ap bit (eq-eqb (linePlace a) (linePlace b) o)),
       ))
-      (λ (z : 0 < d). either ((sign w ≡ bit (ltb (place a) (place b))) × (bit (eqb w 0) ≡ bit (eqb (place a) (place b)))) g g-lt
+      (λ (z : 0 < d). either ((sign w ≡ bit (ltb (linePlace a) (linePlace b))) × (bit (eqb w 0) ≡ bit (eqb (linePlace a) (linePlace b)))) g g-lt
       (λ e. let o = order .above z e in (
-        told .signed z ∙ e ∙ sym (ap bit (le-ltb (place a) (place b) (omega arith))),
+        told .signed z ∙ e ∙ sym (ap bit (le-ltb (linePlace a) (linePlace b) (omega arith))),
         differ z (λ y. omega arith),
       ))
       (λ e. let o = order .below z e in (
-        told .signed z ∙ e ∙ sym (ap bit (lt-ltb (place a) (place b) o)),
+        told .signed z ∙ e ∙ sym (ap bit (lt-ltb (linePlace a) (linePlace b) o)),
         differ z (λ y. omega arith),
       )))
       (eq-zero-or-pos d)
     where
-      differ : 0 < d → (place a ≡ place b → ⊥) → bit (eqb w 0) ≡ bit (eqb (place a) (place b))
-      differ z n = let k = told .some z in ap bit (ne-eqb w 0 (λ y. omega arith)) ∙ sym (ap bit (ne-eqb (place a) (place b) n))
+      differ : 0 < d → (linePlace a ≡ linePlace b → ⊥) → bit (eqb w 0) ≡ bit (eqb (linePlace a) (linePlace b))
+      differ z n = let k = told .some z in ap bit (ne-eqb w 0 (λ y. omega arith)) ∙ sym (ap bit (ne-eqb (linePlace a) (linePlace b) n))
 
-  less-is : less a b ≡ Word (bit (ltb (place a) (place b)))
+  less-is : less a b ≡ Word (bit (ltb (linePlace a) (linePlace b)))
   unfolding less Agrees
   less-is = numbers-plain a b (ifNegative (comparison a b)) plain ∙ ap ifNegative given ∙ ap (λ (x : ℕ). Word x) (agrees .0)
 
-  equal-is : equal a b ≡ Word (bit (eqb (place a) (place b)))
+  equal-is : equal a b ≡ Word (bit (eqb (linePlace a) (linePlace b)))
   unfolding Agrees
   equal-is = sym (equal-numbers a b (neither (isCharacter a) (isCharacter b) plain .0) (neither (isCharacter a) (isCharacter b) plain .1)) ∙ ap ifZero given ∙ ap (λ (x : ℕ). Word x) (agrees .1)
 

@@ -20,7 +20,7 @@ use Rattle.scalar.proofs.Rounding.{not-lt-le, join}
 use Rattle.scalar.proofs.Units.{units-integer, units-float}
 use Rattle.scalar.proofs.Addition.{either}
 use Rattle.scalar.proofs.Ones.{down-is, up-is}
-use Rattle.scalar_theorems.specs.Line.{middle, place}
+use Rattle.scalar_theorems.specs.Line.{middle, linePlace}
 use Rattle.scalar_theorems.specs.Neighbours.{Greatest, Least, Neighbours}
 use Rattle.scalar_theorems.proofs.Words.{below-middle}
 use Rattle.scalar_theorems.proofs.Comparing.{integer-none}
@@ -28,12 +28,12 @@ use Rattle.scalar_theorems.proofs.Multiples.{Below, Above, below-at, ab
 
 -- ---- places
 
-place-plus : (w : ℕ) → sign w ≡ 0 → place w ≡ middle + units w
-unfolding place
+place-plus : (w : ℕ) → sign w ≡ 0 → linePlace w ≡ middle + units w
+unfolding linePlace
 place-plus w h = ap (λ (t : Bool). cond t (middle + units w) (middle - units w)) (eq-eqb (sign w) 0 h)
 
-place-minus : (w : ℕ) → (sign w ≡ 0 → ⊥) → place w ≡ middle - units w
-unfolding place
+place-minus : (w : ℕ) → (sign w ≡ 0 → ⊥) → linePlace w ≡ middle - units w
+unfolding linePlace
 place-minus w h = ap (λ (t : Bool). cond t (middle + units w) (middle - units w)) (ne-eqb (sign w) 0 h)
 
 -- the integer of sign s and magnitude k
@@ -41,20 +41,20 @@ integer-units : (s k : ℕ) → s < 2 → k < 2 ^ 23 → 0 < k → (integerWord 
 integer-units s k p l z =
     (simp (ne-eqb k 0 (λ y. omega arith)), units-integer (s * 2 ^ 31 + k) (omega arith) ∙ ap (λ (x : ℕ). x * one) (let e : (s * 2 ^ 31 + k) % 2 ^ 23 ≡ k = omega arith in e))
 
-place-zero : place 0 ≡ middle
-unfolding place units
+place-zero : linePlace 0 ≡ middle
+unfolding linePlace units
 place-zero = refl
 
-integer-plus : (k : ℕ) → k < 2 ^ 23 → place (integerWord 0 k) ≡ middle + k * one
+integer-plus : (k : ℕ) → k < 2 ^ 23 → linePlace (integerWord 0 k) ≡ middle + k * one
 integer-plus k l = ⊎-elim
-    (λ (z : k ≡ 0). ap place (integer-none 0 k z) ∙ place-zero ∙ sym (ap (λ (x : ℕ). middle + x * one) z))
-    (λ (z : 0 < k). let u = integer-units 0 k (lit< tt) l z in ap place (u .0) ∙ place-plus (0 * 2 ^ 31 + k) (omega arith) ∙ ap (λ (x : ℕ). middle + x) (u .1))
+    (λ (z : k ≡ 0). ap linePlace (integer-none 0 k z) ∙ place-zero ∙ sym (ap (λ (x : ℕ). middle + x * one) z))
+    (λ (z : 0 < k). let u = integer-units 0 k (lit< tt) l z in ap linePlace (u .0) ∙ place-plus (0 * 2 ^ 31 + k) (omega arith) ∙ ap (λ (x : ℕ). middle + x) (u .1))
     (eq-zero-or-pos k)
 
-integer-minus : (k : ℕ) → k < 2 ^ 23 → place (integerWord 1 k) ≡ middle - k * one
+integer-minus : (k : ℕ) → k < 2 ^ 23 → linePlace (integerWord 1 k) ≡ middle - k * one
 integer-minus k l = ⊎-elim
-    (λ (z : k ≡ 0). ap place (integer-none 1 k z) ∙ place-zero ∙ sym (ap (λ (x : ℕ). middle - x * one) z))
-    (λ (z : 0 < k). let u = integer-units 1 k (lit< tt) l z in ap place (u .0) ∙ place-minus (1 * 2 ^ 31 + k) (λ y. omega arith) ∙ ap (λ (x : ℕ). middle - x) (u .1))
+    (λ (z : k ≡ 0). ap linePlace (integer-none 1 k z) ∙ place-zero ∙ sym (ap (λ (x : ℕ). middle - x * one) z))
+    (λ (z : 0 < k). let u = integer-units 1 k (lit< tt) l z in ap linePlace (u .0) ∙ place-minus (1 * 2 ^ 31 + k) (λ y. omega arith) ∙ ap (λ (x : ℕ). middle - x) (u .1))
     (eq-zero-or-pos k)
 
 -- ---- numbers below 2 ^ 23, which is 2 ^ 173 units, and from there on
@@ -110,26 +110,26 @@ module _ (a : ℕ) (fits : a < 2 ^ 32) where
     result : ℕ → ℕ
     result up = integerWord (sign a) (ones up (units a))
 
-    positive : (up : ℕ) → up < 2 → sign a ≡ 0 → place (result up) ≡ middle + ones up (units a) * one
+    positive : (up : ℕ) → up < 2 → sign a ≡ 0 → linePlace (result up) ≡ middle + ones up (units a) * one
     unfolding result
-    positive up p z = ap (λ (s : ℕ). place (integerWord s (ones up (units a)))) z ∙ integer-plus (ones up (units a)) (ones-lt up p)
+    positive up p z = ap (λ (s : ℕ). linePlace (integerWord s (ones up (units a)))) z ∙ integer-plus (ones up (units a)) (ones-lt up p)
 
-    negative : (up : ℕ) → up < 2 → sign a ≡ 1 → place (result up) ≡ middle - ones up (units a) * one
+    negative : (up : ℕ) → up < 2 → sign a ≡ 1 → linePlace (result up) ≡ middle - ones up (units a) * one
     unfolding result
-    negative up p z = ap (λ (s : ℕ). place (integerWord s (ones up (units a)))) z ∙ integer-minus (ones up (units a)) (ones-lt up p)
+    negative up p z = ap (λ (s : ℕ). linePlace (integerWord s (ones up (units a)))) z ∙ integer-minus (ones up (units a)) (ones-lt up p)
 
     -- Of a positive number FLOOR rounds down and CEILING up, of a negative one the other way round.
 
-    floor-below : Below one (place a) (place (result (sign a)))
-    floor-below = either (Below one (place a) (place (result (sign a)))) (sign a) (omega arith)
+    floor-below : Below one (linePlace a) (linePlace (result (sign a)))
+    floor-below = either (Below one (linePlace a) (linePlace (result (sign a)))) (sign a) (omega arith)
         (λ z. below-at (place-plus a z) (positive (sign a) (omega arith) z)
         (subst (λ (x : ℕ). Below one (middle + units a) (middle + x * one)) (sym (down-is (sign a) (units a) z)) (below-plus one (pow-pos 150) (2 ^ 128) (units a) (units a / one) (down-lo one (pow-pos 150) (units a)) (down-hi one (pow-pos 150) (units a)))))
         (λ z. let u = up-is (sign a) (units a) (λ y. omega arith) in
         below-at (place-minus a (λ y. omega arith)) (negative (sign a) (omega arith) z)
         (subst (λ (x : ℕ). Below one (middle - units a) (middle - x * one)) (sym u) (below-minus one (pow-pos 150) (2 ^ 128) (units a) ((units a + (one - 1)) / one) (up-lo one (pow-pos 150) (units a)) (up-hi one (pow-pos 150) (units a)) (subst (λ (x : ℕ). x ≤ 2 ^ 128) u (few (sign a) (omega arith))) (le-of-lt (below-middle a)))))
 
-    ceiling-above : Above one (place a) (place (result (1 - sign a)))
-    ceiling-above = either (Above one (place a) (place (result (1 - sign a)))) (sign a) (omega arith)
+    ceiling-above : Above one (linePlace a) (linePlace (result (1 - sign a)))
+    ceiling-above = either (Above one (linePlace a) (linePlace (result (1 - sign a)))) (sign a) (omega arith)
         (λ z. let u = up-is (1 - sign a) (units a) (λ y. omega arith) in
         above-at (place-plus a z) (positive (1 - sign a) (omega arith) z)
         (subst (λ (x : ℕ). Above one (middle + units a) (middle + x * one)) (sym u) (above-plus one (pow-pos 150) (2 ^ 128) (units a) ((units a + (one - 1)) / one) (up-lo one (pow-pos 150) (units a)) (up-hi one (pow-pos 150) (units a)))))
@@ -144,18 +144,18 @@ module _ (a : ℕ) (fits : a < 2 ^ 32) where
     unfolding wholeNear
     far up = ap (λ (t : Bool). cond t (integer (sign a) (ones up (units a))) (Word a)) (le-ltb (units a) (2 ^ 173) l)
 
-    place-whole : place a % one ≡ 0
+    place-whole : linePlace a % one ≡ 0
     place-whole =
         let w = whole-from a l in
         let m : w .0 ≤ 2 ^ 128 = le-of-mul-le-mul-right {m = w .0} {n = 2 ^ 128} {k = one} (le-of-lt (subst (λ (x : ℕ). x < middle) (w .1) (below-middle a))) (pow-pos 150) in
-        either (place a % one ≡ 0) (sign a) (omega arith)
+        either (linePlace a % one ≡ 0) (sign a) (omega arith)
         (λ z. ap (λ (x : ℕ). x % one) (place-plus a z ∙ ap (λ (x : ℕ). middle + x) (w .1)) ∙ sum-multiple one (pow-pos 150) (2 ^ 128) (w .0))
         (λ z. ap (λ (x : ℕ). x % one) (place-minus a (λ y. omega arith) ∙ ap (λ (x : ℕ). middle - x) (w .1)) ∙ difference-multiple one (pow-pos 150) (2 ^ 128) (w .0) m)
 
-  greatest : {r : ℕ} → Below one (place a) (place r) → Greatest a r
+  greatest : {r : ℕ} → Below one (linePlace a) (linePlace r) → Greatest a r
   greatest b = record { whole = b .multiple; under = b .under; most = b .most }
 
-  least : {r : ℕ} → Above one (place a) (place r) → Least a r
+  least : {r : ℕ} → Above one (linePlace a) (linePlace r) → Least a r
   least b = record { whole = b .multiple; over = b .over; fewest = b .fewest }
 
   module _ (plain : isCharacter a ≡ false) where
@@ -163,14 +163,14 @@ module _ (a : ℕ) (fits : a < 2 ^ 32) where
     unfolding floor result
     floor-is = elim (decLt (units a) (2 ^ 173)) [
       | yes l ↦ (integerWord (sign a) (ones (sign a) (units a)), number-plain a (wholeNear (sign a) a) plain ∙ near l (sign a) (omega arith), greatest (floor-below l))
-      | no l ↦ (a, number-plain a (wholeNear (sign a) a) plain ∙ far (not-lt-le l) (sign a), greatest (itself-below one (pow-pos 150) (place a) (place-whole (not-lt-le l))))
+      | no l ↦ (a, number-plain a (wholeNear (sign a) a) plain ∙ far (not-lt-le l) (sign a), greatest (itself-below one (pow-pos 150) (linePlace a) (place-whole (not-lt-le l))))
     ]
 
     ceiling-is : (r : ℕ) × (ceiling a ≡ Word r) × Least a r
     unfolding ceiling result
     ceiling-is = elim (decLt (units a) (2 ^ 173)) [
       | yes l ↦ (integerWord (sign a) (ones (1 - sign a) (units a)), number-plain a (wholeNear (1 - sign a) a) plain ∙ near l (1 - sign a) (omega arith), least (ceiling-above l))
-      | no l ↦ (a, number-plain a (wholeNear (1 - sign a) a) plain ∙ far (not-lt-le l) (1 - sign a), least (itself-above one (pow-pos 150) (place a) (place-whole (not-lt-le l))))
+      | no l ↦ (a, number-plain a (wholeNear (1 - sign a) a) plain ∙ far (not-lt-le l) (1 - sign a), least (itself-above one (pow-pos 150) (linePlace a) (place-whole (not-lt-le l))))
     ]
 
 pub neighbours : Neighbours

@@ -16,7 +16,7 @@ use Rattle.operator.specs.declared.Monadic.{Monadic}
 use Rattle.operator.specs.declared.Monadic.the-variants as M
 use Rattle.operator.specs.declared.Dyadic.{Dyadic}
 use Rattle.operator.specs.declared.Dyadic.the-variants as D
-use Rattle.scalar.specs.Value.{one, units, oneFloat, code}
+use Rattle.scalar.specs.Value.{one, units, oneFloat, characterCode}
 use Rattle.scalar.specs.Results.{typeError, zeroDivisor, domainError, integer, rounded, result}
 use Rattle.scalar.specs.Reading.{wholeOf, truthOf}
 use Rattle.scalar.specs.Operators.{number, numbers, identity, negative, withSign, ones, wholeNear, floor, ceiling, magnitudeOf, notTruth, notOf, testNumber, characterOf, converted, convert, sumSign, sumSize, plus, sum, minus, difference, productSign, times, product, ratioOf, quotient, logical, logicalProduct, logicalSum, comparison, ifNegative, ifZero, less, equal, monadicOf, dyadicOf}
@@ -141,7 +141,7 @@ module _ (a w : ℕ) (v : Valid a) where
       go false e k = absurd (never k refl)
 
   convert-valid : (x : Whole) → converted a x ≡ Word w → Valid w
-  convert-valid W.Character h = at-word h refl (valid-integer 0 (code a) (lit< tt) (omega arith))
+  convert-valid W.Character h = at-word h refl (valid-integer 0 (characterCode a) (lit< tt) (omega arith))
   convert-valid W.Fraction h = absurd (never h refl)
   convert-valid (W.Number negative n) h = character-valid negative n h
 
@@ -209,8 +209,8 @@ module _ (a b w : ℕ) (va : Valid a) (vb : Valid b) where
   unfolding equal
   equal-valid h = go (isCharacter a) (isCharacter b) h
     where
-      go : (t u : Bool) → cond t (Word (bit (u && eqb (code a) (code b)))) (cond u (Word 0) (ifZero (comparison a b))) ≡ Word w → Valid w
-      go true u k = at-word k refl (valid-bit (u && eqb (code a) (code b)))
+      go : (t u : Bool) → cond t (Word (bit (u && eqb (characterCode a) (characterCode b)))) (cond u (Word 0) (ifZero (comparison a b))) ≡ Word w → Valid w
+      go true u k = at-word k refl (valid-bit (u && eqb (characterCode a) (characterCode b)))
       go false true k = at-word k refl (valid-bit false)
       go false false k = zero-valid (comparison a b) k
 

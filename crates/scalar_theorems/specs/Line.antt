@@ -12,8 +12,8 @@ abbrev pub middle : ℕ
 middle = 2 ^ 278
 
 -- The place of a number.
-unfoldable pub place : ℕ → ℕ
-place w = cond (eqb (sign w) 0) (middle + units w) (middle - units w)
+unfoldable pub linePlace : ℕ → ℕ
+linePlace w = cond (eqb (sign w) 0) (middle + units w) (middle - units w)
 
 -- A place of a whole number.
 abbrev pub IsWhole : ℕ → Type 0

@@ -2,3 +2,4 @@
 pub mod Copies
 pub mod Parts
 pub mod Runs
+pub mod Words

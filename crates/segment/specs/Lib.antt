@@ -1,4 +1,4 @@
--- The layout of the data segment, and what it is seen as.
+-- The layout of the data segment, and what it is seen as; words and bytes that are lent.
 pub mod State
 pub mod Blocks
 pub mod Parts
@@ -6,3 +6,4 @@ pub mod Stack
 pub mod Cells
 pub mod Machine
 pub mod View
+pub mod Lent

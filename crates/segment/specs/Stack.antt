@@ -16,8 +16,8 @@ lastLbaseAt s base = getD s (sbase s + base) 0
 abbrev pub codeWordAt : List ℕ → ℕ → ℕ
 codeWordAt s base = getD s (sbase s + base + 1) 0
 
-abbrev pub alternate : ℕ → ℕ
-alternate w = w / 2 ^ 27 % 2
+abbrev pub alternateBit : ℕ → ℕ
+alternateBit w = w / 2 ^ 27 % 2
 
 abbrev pub functionNumber : ℕ → ℕ
 functionNumber w = w / 2 ^ 16 % 2 ^ 11

@@ -44,8 +44,8 @@ stepFlag f = f / 2 ^ 3 % 2
 abbrev pub trapWord : List ℕ → ℕ
 trapWord s = getD s 3 0
 
-abbrev pub trap : ℕ → ℕ → ℕ
-trap class number = class * 2 ^ 8 + number
+abbrev pub trapOf : ℕ → ℕ → ℕ
+trapOf class number = class * 2 ^ 8 + number
 
 abbrev pub blockptr : List ℕ → ℕ
 blockptr s = getD s 4 0
@@ -64,4 +64,4 @@ unfoldable pub setIorg : List ℕ → ℕ → List ℕ
 setIorg s v = set s 2 (flags s / 2 * 2 + v)
 
 unfoldable pub setTrap : List ℕ → ℕ → ℕ → List ℕ
-setTrap s class number = set s 3 (trap class number)
+setTrap s class number = set s 3 (trapOf class number)

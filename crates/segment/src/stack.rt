@@ -51,7 +51,7 @@ fn code_word(seg: &[u32], base: StackAddress) -> u32
 
 // P: the function is of the alternate procedure segment.
 pub fn alternate(seg: &[u32], base: StackAddress) -> bool
-    ensures { λ r. ⌜ r ≡ eqb (frames.alternate (frames.codeWordAt (now (seg .entry)) (base .0))) 1 ⌝ }
+    ensures { λ r. ⌜ r ≡ eqb (frames.alternateBit (frames.codeWordAt (now (seg .entry)) (base .0))) 1 ⌝ }
 {
     code_word(seg, base) / 0x0800_0000 % 2 == 1
 }

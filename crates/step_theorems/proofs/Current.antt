@@ -36,7 +36,7 @@ use Rattle.legality.proofs.Accepted.{legal-theorems}
 use Rattle.legality.specs.Legal.{functionWord}
 use Rattle.legality.specs.Kept.{RunsIn}
 use Rattle.effects.specs.Carried.{carry}
-use Rattle.effects.specs.Step.{selectorOf, numberOf, currentHeader, settle, stepIn, stepOf}
+use Rattle.effects.specs.Step.{selectorOf, currentFunction, currentHeader, settle, stepIn, stepOf}
 use Rattle.step_theorems.specs.Planned.{frameSelector, nextPlan, planned, headerIn}
 
 -- ---- the first frame of the view
@@ -64,7 +64,7 @@ module _ (s : List ℕ) where
   same-selector : frameSelector (current s .frame) ≡ selectorOf s
   same-selector = rw (current s .function, same-alternate (codeWordAt s (lbase s)))
 
-  same-function : functionNumber (functionWord (current s .frame)) ≡ numberOf s
+  same-function : functionNumber (functionWord (current s .frame)) ≡ currentFunction s
   same-function = rw (current s .function, same-number (codeWordAt s (lbase s)))
 
 pub header-seen : (regular alternate s : List ℕ) → headerIn regular alternate (view s) ≡ currentHeader regular alternate s
@@ -81,7 +81,7 @@ found regular alternate w h = rw (both (ltb w (2 ^ 28)) (hasFunction (frameSegme
 abbrev pub current-function : List ℕ → List ℕ → List ℕ → Running
 current-function s regular alternate =
     let p = frameSegment regular alternate (codeWordAt s (lbase s)) in
-    running regular alternate (selectorOf s) (blockAt p (startOf p (numberOf s)))
+    running regular alternate (selectorOf s) (blockAt p (startOf p (currentFunction s)))
 
 pub header-running : (s regular alternate : List ℕ) → headerIn regular alternate (view s) ≡ headerOf (current-function s regular alternate)
 unfolding currentHeader
@@ -98,7 +98,7 @@ module _ (s regular alternate : List ℕ) (h : Accepted s regular alternate) whe
   abbrev f : Running
   f = current-function s regular alternate
 
-  function-there : functionOf (frameSegment regular alternate (codeWordAt s (lbase s))) (numberOf s) ≡ F.At (f .block)
+  function-there : functionOf (frameSegment regular alternate (codeWordAt s (lbase s))) (currentFunction s) ≡ F.At (f .block)
   function-there = found regular alternate (codeWordAt s (lbase s)) (function-known s regular alternate (h .older) (lbase s) (h .chain))
 
   pub runs : HasFrame s (variablesOf (headerOf f)) (headerOf f .result)

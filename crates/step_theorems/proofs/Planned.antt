@@ -12,6 +12,7 @@ use Rattle.segment.specs.Stack.{codeWordAt, functionNumber, pctr}
 use Rattle.segment.specs.Cells.{Cell}
 use Rattle.segment.specs.Machine.{Frame, Machine}
 use Rattle.segment.specs.View.{view}
+use Rattle.segment.specs.Lent.{Lent}
 use Rattle.acceptance.specs.Frames.{frameSegment}
 use Rattle.acceptance.specs.Structure.{Accepted}
 use Rattle.manual.specs.OrTrap.{gives, trap}
@@ -24,7 +25,6 @@ use Rattle.effects.specs.Seen.{seen}
 use Rattle.effects_theorems.specs.Theorems.{EntersFirst}
 use Rattle.plan_theorems.specs.Fitting.{Fitting}
 use Rattle.plan_theorems.proofs.PlansFit.{plans-fit}
-use Rattle.plan_theorems.specs.Lent.{Lent}
 use Rattle.plan_theorems.specs.Bounded.{AllSmall}
 use Rattle.plan_theorems.proofs.Bounded.{bounded-theorems}
 use Rattle.legality.proofs.Accepted.{legal-theorems}

@@ -24,7 +24,7 @@ use Rattle.legality.specs.Legal.{functionWord}
 
 -- P of a frame.
 abbrev pub frameSelector : Frame Cell → Bool
-frameSelector r = eqb (stack.alternate (functionWord r)) 1
+frameSelector r = eqb (stack.alternateBit (functionWord r)) 1
 
 abbrev pub planIn : List ℕ → List ℕ → ℕ → Machine Cell → Frame Cell → Function → Plan
 planIn regular alternate words m r (F.At block) = planAt (running regular alternate (frameSelector r) block) (seenOf words m) (r .pctr)

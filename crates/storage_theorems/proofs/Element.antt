@@ -18,7 +18,7 @@ use Rattle.storage_theorems.specs.Words.{Inner}
 use Rattle.storage_theorems.proofs.Counts.{hit-cases}
 use Rattle.storage_theorems.proofs.Arrays.{array-inner, array-apart}
 use Rattle.storage_theorems.proofs.Stores.{store-heap}
-use Rattle.storage_theorems.specs.Element.{setElement, Element}
+use Rattle.storage_theorems.specs.Element.{setElement, ElementSet}
 use Rattle.storage_theorems.proofs.Cells.{part-same, value-same, inside-same, cell-array, cell-same}
 use Rattle.storage_theorems.proofs.Owners.{array-place}
 
@@ -139,5 +139,5 @@ module _ {s ws : List ℕ} (o : Owned s ws) (x z : ℕ) (u : ArrayIn (blockptr s
   this-x : cell s′ (arrayWord x) ≡ value (shapeAt s x) (set (elementsAt s x) k v)
   this-x = cell-array s′ x (omega (arith, room)) ∙ rw (shape-x, elements-x)
 
-  pub element-theorem : Element s ws x k v
+  pub element-theorem : ElementSet s ws x k v
   element-theorem = record { own = own-x; kept = kept-x; others = others-x; this = this-x }

@@ -15,7 +15,7 @@ use Rattle.storage.specs.Owned.{Owned, CellsKept}
 abbrev pub setElement : List ℕ → ℕ → ℕ → ℕ → List ℕ
 setElement s x k v = set s (x + 2 + rankAt s x + k) v
 
-pub record Element (s owners : List ℕ) (x k v : ℕ) : Type 0 where
+pub record ElementSet (s owners : List ℕ) (x k v : ℕ) : Type 0 where
   pub own : Owned (setElement s x k v) owners
   pub kept : CellsKept s (setElement s x k v)
   pub others : (w : ℕ) → w ≢ arrayWord x → 0 < count w owners → cell (setElement s x k v) w ≡ cell s w

@@ -16,7 +16,7 @@ use Rattle.storage.specs.Owned.{ArrayIn, Owned, Proper, OwnedStep}
 use Rattle.storage_theorems.specs.Elsewhere.{Elsewhere, Unmoved}
 use Rattle.storage_theorems.specs.Counts.{Share, Drop}
 use Rattle.storage_theorems.specs.Place.{Place}
-use Rattle.storage_theorems.specs.Element.{Element}
+use Rattle.storage_theorems.specs.Element.{ElementSet}
 
 pub record OwnersTheorems : Type 0 where
   pub place : (s owners shape elements : List ℕ) (own : Owned s owners) → Proper shape elements → Place s owners shape elements own
@@ -29,4 +29,4 @@ pub record OwnersTheorems : Type 0 where
   pub reorder : (s owners others : List ℕ) → ((x : ℕ) → x < 2 ^ 16 → count (arrayWord x) others ≡ count (arrayWord x) owners) → Owned s owners → Owned s others
   pub elsewhere : (s after owners : List ℕ) → Owned s owners → Elsewhere s after → Unmoved s after owners
   pub element : (s owners : List ℕ) (own : Owned s owners) (x size k v : ℕ) → ArrayIn (blockptr s) (own .blocks) x size → k < product (shapeAt s x) → isScalar v ≡ true
-      → Element s owners x k v
+      → ElementSet s owners x k v

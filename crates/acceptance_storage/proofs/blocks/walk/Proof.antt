@@ -75,7 +75,7 @@ mark-requires c κs = walking-room (c .before .before .before .before .before .b
 
 add-found : tie.Need-add-found Inv-loop μ-loop
 add-found c = record {
-  fits = omega (arith, c .before .before .before .before .mark .ensures .0, one-at-most (c .before .before .before .before .before .before .before .free-at .result), walking-found (c .before .before .before .before .before .before .before .before .before .before .before .before .before .before .before .before .before .before .before .pre) (c .before .before .before .before .before .before .before .before .before .before .before .before .before .before .before .loop .inv .2), c .before .before .before .before .before .before .before .before .before .before .before .before .before .before .before .before .before .before .before .pre .longest)
+  fits = omega (arith, c .before .before .before .before .mark .ensures .0, one-at-most (c .before .before .before .before .before .before .before .free-at .result), walking-found (c .before .before .before .before .before .before .before .before .before .before .before .before .before .before .before .before .before .before .before .pre) (c .before .before .before .before .before .before .before .before .before .before .before .before .before .before .before .loop .inv .2), c .before .before .before .before .before .before .before .before .before .before .before .before .before .before .before .before .before .before .before .pre .longest);
 }
 
 add-a : tie.Need-add-a Inv-loop μ-loop

@@ -66,7 +66,7 @@ use Rattle.instruction.proofs.Decoded as D
 use Rattle.instruction.proofs.Decoded.Laws as D′
 use Rattle.instruction.specs.Reading.{codeAddress}
 use Rattle.reader.specs.declared.Reader.{Reader}
-use Rattle.reader.specs.Walking.{atStart, read}
+use Rattle.reader.specs.Walking.{atStart, readOnce}
 use Rattle.reader.proofs.Reader as T
 use Rattle.reader.proofs.Reader.Laws as T′
 use Rattle.reader.proofs.Reader.new as new
@@ -207,15 +207,15 @@ module _ {M : Type 1} (𝓤 : URA M) (H : Heap 𝓤) (A : Atoms 𝓤) (W : Given
           land ! (from ! (stop !)) (init ! 11 refl (nothing-lawful 𝓤 H A W .typed r _ is″ .0)) $
           drop ! $ use1 W (‵ (flft κ q) ⊛ ‵ ftrue) (id⊢ 𝓤 _) $ split ! $ move ! (1 ∷ []) $ drop ! $ move ! (3 ∷ []) $
           -- `past` is called
-          peeks ! (Held κ) (Is (Held κ)) (shows 𝓤 H A (Held κ)) (read (made place) .1) (T′.lowered (read (made place) .1) ∷ []) (λ was′.
-          assigns ! (of-opd ! (load ! (from ! (fld ! refl (stop !))) (look-in ! 3 (sub ! 1 refl (whole !))))) (from ! (stop !)) (init ! 4 refl (typed-p (read (made place) .1 .place) _ (place-is κ (read (made place) .1) was′))) $
-          nothing ! $ place-own ! (read (made place) .1 .place) (place-is κ (read (made place) .1) was′) $ fjoin ! $
+          peeks ! (Held κ) (Is (Held κ)) (shows 𝓤 H A (Held κ)) (readOnce (made place) .1) (T′.lowered (readOnce (made place) .1) ∷ []) (λ was′.
+          assigns ! (of-opd ! (load ! (from ! (fld ! refl (stop !))) (look-in ! 3 (sub ! 1 refl (whole !))))) (from ! (stop !)) (init ! 4 refl (typed-p (readOnce (made place) .1 .place) _ (place-is κ (readOnce (made place) .1) was′))) $
+          nothing ! $ place-own ! (readOnce (made place) .1 .place) (place-is κ (readOnce (made place) .1) was′) $ fjoin ! $
           place-own ! place (place-is κ (made place) was) $ fjoin ! $
-          answers-plain ! fm past.ended (past.clauses 𝓤 H A mem run) (known .past-met) (tt, tt, tt, (place, (read (made place) .1 .place, tt)), (P′.lowered place ∷ [], (P′.lowered (read (made place) .1 .place) ∷ [], tt))) tt (id⊢ 𝓤 _)
+          answers-plain ! fm past.ended (past.clauses 𝓤 H A mem run) (known .past-met) (tt, tt, tt, (place, (readOnce (made place) .1 .place, tt)), (P′.lowered place ∷ [], (P′.lowered (readOnce (made place) .1 .place) ∷ [], tt))) tt (id⊢ 𝓤 _)
           (factI 𝓤 (place .0 + 1 < 2 ^ 32) (emp 𝓤) (room place less)) (and-then ! (load ! (from ! (stop !)) (look ! 23 refl)) (and-then ! (load ! (from ! (stop !)) (look ! 5 refl)) (no-more !))) (λ r′. place .0 < r′ .0) (λ r′ ws. id⊢ 𝓤 _) (λ w′ r′ later is‴.
           land ! (from ! (stop !)) (init ! 14 refl (typed-p r′ _ is‴)) $ rewrite ! 14 (λ (x : Val). ‵ (fat fullShare tp l₉ 0 x)) (ap only (LL.tells P.the-type P′.the-laws r′ _ is‴)) refl $
           assigns-last ! (of-opd ! (load ! (from ! (stop !)) (look ! 14 refl))) (from ! (fld ! refl (stop !))) (store-in ! 3 (sub ! 1 refl (whole !)) (typed 𝓤 H A W r′ (again r′ is‴))) $
-          use1 W (‵ (own κ (made r′))) (moved 𝓤 H A W κ (read (made place) .1) r′ (again r′ is‴)) $
+          use1 W (‵ (own κ (made r′))) (moved 𝓤 H A W κ (readOnce (made place) .1) r′ (again r′ is‴)) $
           forget ! 4 refl $ forget ! 6 refl $ forget ! 8 refl $ forget ! 10 refl $ forget ! 14 refl $ forget ! 22 refl $ turns-on ! Nearer Invariant place r′ (nearer place less r′ later))))))
           (λ over. exec ! C Λ En code.Mir.t-6 (atRet En Post′) $
           assigns ! (of-opd ! (unit-lit !)) (from ! (stop !)) (init ! 31 refl (tt, tt)) $

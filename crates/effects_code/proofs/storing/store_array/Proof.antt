@@ -60,9 +60,11 @@ returns-3 c =
     let p = c .before .before .before .before .before .before .before .before .before .before .before .before .before .before .before in
     let block = c .before .before .before .before .before .before .before .before .before .before .before .block .given in
     let at = sym (p .place .ensures .0) ∙ block .1 in
-    let done = found-done (a .seg .now) (a .shape .now) (a .ravel .now) (stores (a .t) (made (a .shape .now) (a .ravel .now))) refl (block .0 .0) (omega arith) at in
-    (done .0, rw (c .before .before .drop-word .ensures, c .before .before .before .before .before .before .put .ensures, c .before .before .before .before .before .before .before .word2 .ensures, c .before .before .before .before .before .before .before .before .array .ensures, p .place .ensures .1, p .before .before .word .ensures, p .before .before .before .before .place-of .ensures)
-    (store-block (a .seg .now) (a .shape .now) (a .ravel .now) (block .0 .0) at (a .t) ∙ done .1))
+    let done = found-done (a .seg .now) (a .shape .now) (a .ravel .now) (stores (a .t) (made (a .shape .now) (a .ravel .now))) refl (block .0 .0) (omega arith) at in (
+      done .0,
+      rw (c .before .before .drop-word .ensures, c .before .before .before .before .before .before .put .ensures, c .before .before .before .before .before .before .before .word2 .ensures, c .before .before .before .before .before .before .before .before .array .ensures, p .place .ensures .1, p .before .before .word .ensures, p .before .before .before .before .place-of .ensures)
+          (store-block (a .seg .now) (a .shape .now) (a .ravel .now) (block .0 .0) at (a .t) ∙ done .1),
+    )
 
 pub store-array-spec : {M : Type 1} → statement M
 store-array-spec =

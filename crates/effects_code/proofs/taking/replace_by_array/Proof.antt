@@ -56,9 +56,11 @@ returns-3 c =
     let p = c .before .before .before .before .before .before .before .before .before .before .before in
     let block = c .before .before .before .before .before .before .before .block .given in
     let at = sym (p .place .ensures .0) ∙ block .1 in
-    let done = found-done (a .seg .now) (a .shape .now) (a .ravel .now) (replaces (a .n) (made (a .shape .now) (a .ravel .now))) refl (block .0 .0) (omega arith) at in
-    (done .0, rw (c .before .before .take .ensures, c .before .before .before .word .ensures, c .before .before .before .before .array .ensures, p .place .ensures .1, p .before .before .bottom .ensures)
-    (replace-block _ _ _ (block .0 .0) at _ ∙ done .1))
+    let done = found-done (a .seg .now) (a .shape .now) (a .ravel .now) (replaces (a .n) (made (a .shape .now) (a .ravel .now))) refl (block .0 .0) (omega arith) at in (
+      done .0,
+      rw (c .before .before .take .ensures, c .before .before .before .word .ensures, c .before .before .before .before .array .ensures, p .place .ensures .1, p .before .before .bottom .ensures)
+          (replace-block _ _ _ (block .0 .0) at _ ∙ done .1),
+    )
 
 pub replace-by-array-spec : {M : Type 1} → statement M
 replace-by-array-spec =

@@ -1,10 +1,10 @@
-use Rattle.line_tool.specs.Faults.{lineOf}
+use Rattle.line_tool.specs.Faults.{faultLine}
 use borrow.Author.Needs.{needs}
 use Rattle.line_tool.proofs.fault.line_of.Statement.{statement}
 use Rattle.line_tool.proofs.fault.line_of.Tie as tie
 
 pub line-of-spec : {M : Type 1} → statement M
-unfolding lineOf
+unfolding faultLine
 line-of-spec =
     tie.close
     (tie.spec

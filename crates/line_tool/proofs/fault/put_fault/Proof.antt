@@ -1,11 +1,11 @@
-use Rattle.line_tool.specs.Faults.{words}
+use Rattle.line_tool.specs.Faults.{faultText}
 use Rattle.line_tool.proofs.Entries.{fault-written}
 use borrow.Author.Needs.{needs}
 use Rattle.line_tool.proofs.fault.put_fault.Statement.{statement}
 use Rattle.line_tool.proofs.fault.put_fault.Tie as tie
 
 pub put-fault-spec : {M : Type 1} → statement M
-unfolding words
+unfolding faultText
 put-fault-spec =
     tie.close
     (tie.spec

@@ -1,20 +1,20 @@
 use mathlib.Core.Path.{sym, _∙_}
 use Rattle.line_tool.proofs.Numerals.{decimal-large, decimal-value}
-use Rattle.line_tool.specs.Numbers.{decimal}
+use Rattle.line_tool.specs.Numbers.{decimalNumber}
 use borrow.Author.Tests.{not-true, not-false, eq-eqb, ne-eqb}
 use borrow.Author.Needs.{needs}
 use Rattle.line_tool.proofs.number.decimal.Statement.{statement}
 use Rattle.line_tool.proofs.number.decimal.Tie as tie
 
 returns : tie.Need-returns
-unfolding decimal
+unfolding decimalNumber
 returns c = simp (eq-eqb _ _ (c .if1 .taken))
 
 is-numeral-requires : tie.Need-is-numeral-requires
 is-numeral-requires c κs = search needs
 
 returns-2 : tie.Need-returns-2
-unfolding decimal
+unfolding decimalNumber
 returns-2 c = simp (ne-eqb _ _ (c .before .before .if1 .left), ← c .before .is-numeral .ensures, not-true (c .before .is-numeral .result) (c .if2 .taken))
 
 capped-requires : tie.Need-capped-requires

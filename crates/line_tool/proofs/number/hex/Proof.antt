@@ -1,25 +1,25 @@
 use native.Mathlib.Omega.{arith}
 use mathlib.Core.Path.{sym, _∙_}
 use Rattle.line_tool.proofs.Numerals.{hex-value, hex-fits}
-use Rattle.line_tool.specs.Numbers.{hex}
+use Rattle.line_tool.specs.Numbers.{hexNumber}
 use borrow.Author.Tests.{not-true, not-false, lt-ltb, eq-eqb, ne-eqb}
 use borrow.Author.Needs.{needs}
 use Rattle.line_tool.proofs.number.hex.Statement.{statement}
 use Rattle.line_tool.proofs.number.hex.Tie as tie
 
 returns : tie.Need-returns
-unfolding hex
+unfolding hexNumber
 returns c = simp (eq-eqb _ _ (c .if1 .taken))
 
 is-numeral-requires : tie.Need-is-numeral-requires
 is-numeral-requires c κs = search needs
 
 returns-2 : tie.Need-returns-2
-unfolding hex
+unfolding hexNumber
 returns-2 c = simp (ne-eqb _ _ (c .before .before .if1 .left), ← c .before .is-numeral .ensures, not-true (c .before .is-numeral .result) (c .if2 .taken))
 
 returns-3 : tie.Need-returns-3
-unfolding hex
+unfolding hexNumber
 returns-3 c = simp (ne-eqb _ _ (c .before .before .before .if1 .left), ← c .before .before .is-numeral .ensures, not-false (c .before .before .is-numeral .result) (c .before .if2 .left), lt-ltb _ _ (c .if3 .taken))
 
 capped-requires : tie.Need-capped-requires

@@ -1,4 +1,4 @@
-use Rattle.operands.specs.Operands.{isUndefined}
+use Rattle.operands.specs.Operands.{isUndefinedWord}
 use borrow.Author.Needs.{needs}
 use Rattle.operands.proofs.reading.is_undefined.Statement.{statement}
 use Rattle.operands.proofs.reading.is_undefined.Tie as tie
@@ -25,23 +25,23 @@ enum-told-5 : tie.Need-enum-told-5
 enum-told-5 c = search needs
 
 returns : tie.Need-returns
-unfolding isUndefined
+unfolding isUndefinedWord
 returns c = simp (← c .before .before .before .of .ensures, ← c .before .before .kind .ensures, c .enum-told .given .1)
 
 returns-2 : tie.Need-returns-2
-unfolding isUndefined
+unfolding isUndefinedWord
 returns-2 c = simp (← c .before .before .before .of .ensures, ← c .before .before .kind .ensures, c .enum-told2 .given .1)
 
 returns-3 : tie.Need-returns-3
-unfolding isUndefined
+unfolding isUndefinedWord
 returns-3 c = simp (← c .before .before .before .of .ensures, ← c .before .before .kind .ensures, c .enum-told3 .given .1)
 
 returns-4 : tie.Need-returns-4
-unfolding isUndefined
+unfolding isUndefinedWord
 returns-4 c = simp (← c .before .before .before .of .ensures, ← c .before .before .kind .ensures, c .enum-told4 .given .1)
 
 returns-5 : tie.Need-returns-5
-unfolding isUndefined
+unfolding isUndefinedWord
 returns-5 c = simp (← c .before .before .before .of .ensures, ← c .before .before .kind .ensures, c .enum-told5 .given .1)
 
 pub is-undefined-spec : {M : Type 1} → statement M

@@ -1,4 +1,4 @@
-use Rattle.operands.specs.Variables.{ended}
+use Rattle.operands.specs.Variables.{resolvedTarget}
 use borrow.Author.Needs.{needs}
 use Rattle.operands.proofs.variables.end.Statement.{statement}
 use Rattle.operands.proofs.variables.end.Tie as tie
@@ -28,23 +28,23 @@ enum-told-5 : tie.Need-enum-told-5
 enum-told-5 c = search needs
 
 returns : tie.Need-returns
-unfolding ended
+unfolding resolvedTarget
 returns c = simp (← c .before .before .before .before .held .ensures, ← c .before .before .before .of .ensures, ← c .before .before .kind .ensures, c .enum-told .given .1)
 
 returns-2 : tie.Need-returns-2
-unfolding ended
+unfolding resolvedTarget
 returns-2 c = simp (← c .before .before .before .before .held .ensures, ← c .before .before .before .of .ensures, ← c .before .before .kind .ensures, c .enum-told2 .given .1)
 
 returns-3 : tie.Need-returns-3
-unfolding ended
+unfolding resolvedTarget
 returns-3 c = simp (← c .before .before .before .before .held .ensures, ← c .before .before .before .of .ensures, ← c .before .before .kind .ensures, c .enum-told3 .given .1)
 
 returns-4 : tie.Need-returns-4
-unfolding ended
+unfolding resolvedTarget
 returns-4 c = simp (← c .before .before .before .before .held .ensures, ← c .before .before .before .of .ensures, ← c .before .before .kind .ensures, c .enum-told4 .given .1)
 
 returns-5 : tie.Need-returns-5
-unfolding ended
+unfolding resolvedTarget
 returns-5 c = simp (← c .before .before .before .before .held .ensures, ← c .before .before .before .of .ensures, ← c .before .before .kind .ensures, c .enum-told5 .given .1)
 
 pub end-spec : {M : Type 1} → statement M

@@ -1,4 +1,4 @@
-use Rattle.operands.specs.Variables.{followed}
+use Rattle.operands.specs.Variables.{resolvedVariable}
 use borrow.Author.Needs.{needs}
 use Rattle.operands.proofs.variables.follow.Statement.{statement}
 use Rattle.operands.proofs.variables.follow.Tie as tie
@@ -31,23 +31,23 @@ enum-told-4 : tie.Need-enum-told-4
 enum-told-4 c = search needs
 
 returns : tie.Need-returns
-unfolding followed
+unfolding resolvedVariable
 returns c = simp (← c .before .before .before .before .before .before .held .ensures, ← c .before .before .before .before .before .of .ensures, ← c .before .before .before .before .kind .ensures, c .before .before .u .given .1, ← c .end .ensures)
 
 returns-2 : tie.Need-returns-2
-unfolding followed
+unfolding resolvedVariable
 returns-2 c = simp (← c .before .before .before .before .held .ensures, ← c .before .before .before .of .ensures, ← c .before .before .kind .ensures, c .enum-told .given .1)
 
 returns-3 : tie.Need-returns-3
-unfolding followed
+unfolding resolvedVariable
 returns-3 c = simp (← c .before .before .before .before .held .ensures, ← c .before .before .before .of .ensures, ← c .before .before .kind .ensures, c .enum-told2 .given .1)
 
 returns-4 : tie.Need-returns-4
-unfolding followed
+unfolding resolvedVariable
 returns-4 c = simp (← c .before .before .before .before .held .ensures, ← c .before .before .before .of .ensures, ← c .before .before .kind .ensures, c .enum-told3 .given .1)
 
 returns-5 : tie.Need-returns-5
-unfolding followed
+unfolding resolvedVariable
 returns-5 c = simp (← c .before .before .before .before .held .ensures, ← c .before .before .before .of .ensures, ← c .before .before .kind .ensures, c .enum-told4 .given .1)
 
 pub follow-spec : {M : Type 1} → statement M

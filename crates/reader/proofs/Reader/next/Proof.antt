@@ -48,7 +48,7 @@ use Rattle.instruction.proofs.decode.instruction_at as decoding
 use Rattle.instruction.proofs.decode.instruction_at.Symbol as decoding-def
 use Rattle.instruction.proofs.decode.instruction_at.Symbol.{name as #instruction-at}
 use Rattle.instruction.proofs.decode.instruction_at.Met as decoding-thm
-use Rattle.reader.specs.Walking.{placeAfter, foundBy, read}
+use Rattle.reader.specs.Walking.{placeAfter, foundBy, readOnce}
 use Rattle.reader.specs.declared.Reader.{Reader}
 use Rattle.reader.proofs.Calling.{answers, answers-plain}
 use Rattle.reader.proofs.Holding.{lifetime, Held, own, codeVal, at, code-is, place-is, again, place-own, typed, code-own, moved}
@@ -89,7 +89,7 @@ module _ {M : Type 1} (𝓤 : URA M) (H : Heap 𝓤) (A : Atoms 𝓤) (W : Given
   abbrev Post : Val → SProp 𝓤
   Post = walkOf 𝓤 H A next.ended stayed (next.clauses 𝓤 H A at-mem run) .post (((κ, (κ′, tt)), (q, (q′, tt)), bounds, x, vals), tt)
 
-  exits : (d : Decoded) (u : Val) (r : CodeAddress) → Is D.the-row d (u ∷ []) → (d, at h r) ≡ read h
+  exits : (d : Decoded) (u : Val) (r : CodeAddress) → Is D.the-row d (u ∷ []) → (d, at h r) ≡ readOnce h
       → ent 𝓤 (⋆ 𝓤 H A (‵ (fobs γ (Held κ′ .coded .code (at h r))) ∷ ‵ (fbor κ (Body (mem (Held κ′)) b o γ)) ∷ ‵ (flft κ q) ∷ raw (alive 𝓤 H A decoding.signature (κ′, tt) (q′, tt)) ∷ [])) (Post u)
   exits d u r is e =
       qed W (‵ (fobs γ (Held κ′ .coded .code (at h r))) ∷ ‵ (fbor κ (Body (mem (Held κ′)) b o γ)) ∷ ‵ (flft κ q) ∷ (‵ (flft κ′ q′) ⊛ ‵ ftrue) ∷ []) ∵

@@ -43,20 +43,22 @@ same-length c = search needs
 
 returns : tie.Need-returns
 returns c =
-    let e = c .before .before .before .before .before .before .before .before .before .before in
-    (rw (c .of .ensures, c .before .number .ensures, e .before .size-at .ensures) (sym (given-split _ _ _ (omega (arith, e .if1 .taken, e .before .size-at .ensures)))),
-    rw (c .before .before .before .before .set-rover .ensures, c .before .before .before .before .before .before .before .before .split .ensures, e .before .size-at .ensures, e .before .before .before .next-at .ensures .0)
-    (sym (give-split _ _ _ (omega (arith, e .if1 .taken, e .before .size-at .ensures)))))
+    let e = c .before .before .before .before .before .before .before .before .before .before in (
+      rw (c .of .ensures, c .before .number .ensures, e .before .size-at .ensures) (sym (given-split _ _ _ (omega (arith, e .if1 .taken, e .before .size-at .ensures)))),
+      rw (c .before .before .before .before .set-rover .ensures, c .before .before .before .before .before .before .before .before .split .ensures, e .before .size-at .ensures, e .before .before .before .next-at .ensures .0)
+          (sym (give-split _ _ _ (omega (arith, e .if1 .taken, e .before .size-at .ensures)))),
+    )
 
 same-length-2 : tie.Need-same-length-2
 same-length-2 c = search needs
 
 returns-2 : tie.Need-returns-2
 returns-2 c =
-    let e = c .before .before .before .before .before .before .before .before in
-    (sym (given-whole _ _ _ (omega (arith, e .if1 .left, e .before .size-at .ensures))),
-    rw (c .before .before .set-rover2 .ensures, c .before .before .before .before .before .before .whole .ensures, e .before .size-at .ensures, e .before .before .before .next-at .ensures .0)
-    (sym (give-whole _ _ _ (omega (arith, e .if1 .left, e .before .size-at .ensures)))))
+    let e = c .before .before .before .before .before .before .before .before in (
+      sym (given-whole _ _ _ (omega (arith, e .if1 .left, e .before .size-at .ensures))),
+      rw (c .before .before .set-rover2 .ensures, c .before .before .before .before .before .before .whole .ensures, e .before .size-at .ensures, e .before .before .before .next-at .ensures .0)
+          (sym (give-whole _ _ _ (omega (arith, e .if1 .left, e .before .size-at .ensures)))),
+    )
 
 pub give-spec : {M : Type 1} → statement M
 give-spec =

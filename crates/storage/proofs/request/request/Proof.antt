@@ -31,9 +31,10 @@ same-length-2 c = search needs
 returns-2 : tie.Need-returns-2
 returns-2 c =
     let e = c .before .before .before .before in
-    let f = e .before .before .find .ensures .0 in
-    (found-some _ _ _ (λ z. e .if1 .left (e .before .number .ensures ∙ f ∙ z)) (rw f at (c .before .before .give .ensures .0)),
-    rw (c .before .before .give .ensures .1, f) (sym (request-some _ _ (λ z. e .if1 .left (e .before .number .ensures ∙ f ∙ z)))))
+    let f = e .before .before .find .ensures .0 in (
+      found-some _ _ _ (λ z. e .if1 .left (e .before .number .ensures ∙ f ∙ z)) (rw f at (c .before .before .give .ensures .0)),
+      rw (c .before .before .give .ensures .1, f) (sym (request-some _ _ (λ z. e .if1 .left (e .before .number .ensures ∙ f ∙ z)))),
+    )
 
 pub request-spec : {M : Type 1} → statement M
 request-spec =

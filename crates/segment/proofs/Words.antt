@@ -6,11 +6,10 @@ use mathlib.Core.List.{List, [], _∷_}
 use native.Mathlib.Omega.{arith}
 use lib.ListN.{getD, set}
 use lib.Seq.{sets}
 use Rattle.segment.specs.State.{sbase, lbase, rover, flags, setLtop, setLbase, setRover, setIorg}
 use Rattle.segment.specs.Stack.{codeWordAt, setPctr}
 use Rattle.segment.specs.Blocks.{part}
-use Rattle.plan_theorems.specs.Fitting.{Words}
-use Rattle.plan_theorems.proofs.Lists.{All, all-getD}
+use Rattle.segment.specs.Lent.{Words}
 
 -- one word after a store
 pub set-below : (s : List ℕ) (i w j : ℕ) → getD s j 0 < 2 ^ 32 → (j ≡ i → w < 2 ^ 32) → getD (set s i w) j 0 < 2 ^ 32
@@ -19,9 +18,6 @@ set-below (x ∷ s) zero w zero h k = k refl
 set-below (x ∷ s) zero w (suc j) h k = h
 set-below (x ∷ s) (suc i) w zero h k = h
 set-below (x ∷ s) (suc i) w (suc j) h k = set-below s i w j h (λ e. k (ap suc e))
-
-pub words-all : (l : List ℕ) → All (λ w. w < 2 ^ 32) l → Words l
-words-all l h i = all-getD (λ (w : ℕ). w < 2 ^ 32) l i (omega arith) h
 
 module _ (s : List ℕ) (h : Words s) where
   pub words-part : (a n : ℕ) → Words (part s a n)

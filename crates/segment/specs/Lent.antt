@@ -3,7 +3,10 @@
 use Prim.Native.Nat.{ℕ, _^_, _<_}
 use mathlib.Core.List.{List}
 use lib.ListN.{getD}
-use Rattle.plan_theorems.specs.Fitting.{Words}
+
+-- The words of a segment have 32 bits, as their type says in code. LESS gives a sign, and a longer word's need be no scalar.
+abbrev pub Words : List ℕ → Type 0
+Words s = (i : ℕ) → getD s i 0 < 2 ^ 32
 
 abbrev pub Bytes : List ℕ → Type 0
 Bytes p = (i : ℕ) → getD p i 0 < 2 ^ 8
