@@ -21,7 +21,8 @@ use Rattle.acceptance_storage.specs.Blocks.{arrayStarts}
 use Rattle.acceptance_storage.specs.Marks.{Tally}
 use Rattle.acceptance.specs.Frames.{arguments, variables}
 use Rattle.acceptance.specs.Cells.{range, inTable, inList, direct, plainCell, freeCell, variablesFrom, frameCells, cellsFrom, cellsTest}
-use Rattle.acceptance.specs.Tables.{Gains, lacking, Met}
+use Rattle.acceptance.specs.Tables.{Gains, CanRise, lacking, Met, cellsOfFrame, frameTest}
+use Rattle.acceptance.specs.Before.{BeforeFrame}
 use Rattle.acceptance.proofs.Meeting.{direct-alike, free-alike, met-then}
 use Rattle.acceptance.proofs.Tallies.{part-join}
 use Rattle.acceptance.proofs.VariableMarks.{variables-bottom, variables-on}
@@ -52,46 +53,121 @@ every-alike f g e l = ap (λ (test : ℕ → Bool). every test l) (λ i. λ w. e
 words-alike : (f g : ℕ → Bool) → ((w : ℕ) → f w ≡ g w) → (n : ℕ) (s : List ℕ) (at : ℕ) → wordsWhere n f s at ≡ wordsWhere n g s at
 words-alike f g e n s at = ap (λ (test : ℕ → Bool). wordsWhere n test s at) (λ i. λ w. e w i)
 
+-- A run of cells as the code lends it, and what a loop over cells answers and leaves: whether all pass and, where they do, the table
+-- once they were met, with no mark higher by more than their number.
+abbrev pub Lent : List ℕ → ℕ → ℕ → List ℕ
+Lent s from to = take (to - from) (drop from s)
+
+abbrev pub Ran : (ℕ → Bool) → List ℕ → List ℕ → List ℕ → Bool → Type 0
+Ran test before after cells r =
+    (r ≡ every test cells) × ((r ≡ true → Met before after cells) × (r ≡ true → (x : ℕ) → getD after x 0 ≤ getD before x 0 + length cells))
+
 -- The three runs of cells of one frame, as the code meets them.
-module _ (s t₀ m₀ : List ℕ) (args start base top : ℕ) {l₁ : List ℕ} (p₁ : l₁ ≡ part s (sbase s + base + 2) (top - (base + 2))) where
-  abbrev Frame : Bool
-  Frame = frameCells s (inTable t₀) (inTable m₀) (lacking m₀ (range start (base - start))) args start base top
+module _ {s t₀ m₀ : List ℕ} {args start base top : ℕ} (h : BeforeFrame s t₀ m₀ args start base top) {stack : ℕ} (z : stack ≡ sbase s) where
+  temporaries-are : Lent s (stack + base + 2) (stack + top) ≡ part s (sbase s + base + 2) (top - (base + 2))
+  temporaries-are =
+      lent s (stack + base + 2) (stack + top) (sbase s + base + 2) (top - (base + 2)) (omega arith) (omega (arith, h .over)) (omega (arith, h .inside))
 
-  pub temporaries-fail : every (freeCell s (inTable t₀) (inTable m₀)) l₁ ≡ false → false ≡ Frame
-  unfolding frameCells
-  temporaries-fail e = simp (run (freeCell s (inTable t₀) (inTable m₀)) s (sbase s + base + 2) (top - (base + 2)) p₁ e)
+  arguments-are : Lent s (stack + start) (stack + start + args) ≡ part s (sbase s + start) args
+  arguments-are = lent s (stack + start) (stack + start + args) (sbase s + start) args (omega arith) (omega arith) (omega (arith, h .arguments, h .over, h .inside))
 
-  module _ (a : every (freeCell s (inTable t₀) (inTable m₀)) l₁ ≡ true) {t₁ m₁ : List ℕ} (h₁ : Met t₀ t₁ l₁) (g : Gains m₁ m₀ (range start (base - start)))
-      {l₂ : List ℕ} (p₂ : l₂ ≡ part s (sbase s + start) args) where
-    older : every (freeCell s (inTable t₁) (inTable m₁)) l₂ ≡ every (freeCell s (inTable t₀) (lacking m₀ (range start (base - start)))) l₂
-    older =
-        every-alike (freeCell s (inTable t₁) (inTable m₁)) (freeCell s (inTable t₀) (inTable m₁)) (free-alike s (inTable m₁) (inTable t₀) (inTable t₁) (h₁ .same)) l₂
-        ∙ ap (λ (h : ℕ → ℕ). every (freeCell s (inTable t₀) h) l₂) (taken-away m₀ m₁ (range start (base - start)) g)
+  locals-are : Lent s (stack + start + args) (stack + base) ≡ part s (sbase s + start + args) (base - (start + args))
+  locals-are =
+      lent s (stack + start + args) (stack + base) (sbase s + start + args) (base - (start + args)) (omega arith) (omega (arith, h .arguments))
+      (omega (arith, h .over, h .inside))
 
-    pub arguments-fail : every (freeCell s (inTable t₁) (inTable m₁)) l₂ ≡ false → false ≡ Frame
+  temporaries-number : length (Lent s (stack + base + 2) (stack + top)) ≡ stack + top - (stack + base + 2)
+  temporaries-number = lent-length s (stack + base + 2) (stack + top) (omega (arith, h .over)) (omega (arith, h .inside))
+
+  arguments-number : length (Lent s (stack + start) (stack + start + args)) ≡ stack + start + args - (stack + start)
+  arguments-number = lent-length s (stack + start) (stack + start + args) (omega arith) (omega (arith, h .arguments, h .over, h .inside))
+
+  locals-number : length (Lent s (stack + start + args) (stack + base)) ≡ stack + base - (stack + start + args)
+  locals-number = lent-length s (stack + start + args) (stack + base) (omega (arith, h .arguments)) (omega (arith, h .over, h .inside))
+
+  pub temporaries-room : CanRise t₀ (length (Lent s (stack + base + 2) (stack + top)))
+  temporaries-room x = omega (arith, h .room x, temporaries-number)
+
+  module _ {t₁ : List ℕ} {r₁ : Bool} (f₁ : Ran (freeCell s (inTable t₀) (inTable m₀)) t₀ t₁ (Lent s (stack + base + 2) (stack + top)) r₁) where
+    temporaries-pass : {b : Bool} → r₁ ≡ b → wordsWhere (top - (base + 2)) (freeCell s (inTable t₀) (inTable m₀)) s (sbase s + base + 2) ≡ b
+    temporaries-pass e = run (freeCell s (inTable t₀) (inTable m₀)) s (sbase s + base + 2) (top - (base + 2)) temporaries-are (sym (f₁ .0) ∙ e)
+
+    pub temporaries-fail : r₁ ≡ false → false ≡ frameTest s t₀ m₀ args start base top
     unfolding frameCells
-    arguments-fail e =
-        simp (
-          run (freeCell s (inTable t₀) (inTable m₀)) s (sbase s + base + 2) (top - (base + 2)) p₁ a,
-          run (freeCell s (inTable t₀) (lacking m₀ (range start (base - start)))) s (sbase s + start) args p₂ (sym older ∙ e),
-        )
+    temporaries-fail e = simp (temporaries-pass e)
 
-    module _ (b : every (freeCell s (inTable t₁) (inTable m₁)) l₂ ≡ true) {t₂ : List ℕ} (h₂ : Met t₁ t₂ l₂)
-        {l₃ : List ℕ} (p₃ : l₃ ≡ part s (sbase s + start + args) (base - (start + args))) where
-      pub locals-left : every (plainCell (inTable t₂)) l₃ ≡ Frame
-      unfolding frameCells
-      locals-left =
-          every-alike (direct (inTable t₂)) (direct (inTable t₀)) (direct-alike (inTable t₀) (inTable t₂) (λ x. h₂ .same x ∙ h₁ .same x)) l₃
-          ∙ sym (simp (
-            run (freeCell s (inTable t₀) (inTable m₀)) s (sbase s + base + 2) (top - (base + 2)) p₁ a,
-            run (freeCell s (inTable t₀) (lacking m₀ (range start (base - start)))) s (sbase s + start) args p₂ (sym older ∙ b),
-          ) (words-every (base - (start + args)) (direct (inTable t₀)) s (sbase s + start + args) ∙ rw p₃))
+    module _ (yes₁ : r₁ ≡ true) where
+      pub arguments-room : CanRise t₁ (length (Lent s (stack + start) (stack + start + args)))
+      arguments-room x = omega (arith, h .arguments, h .over, h .room x, f₁ .1 .1 yes₁ x, temporaries-number, arguments-number)
 
-      pub frame-met : start + args ≤ base → {t₃ : List ℕ} → Met t₂ t₃ l₃
-          → Met t₀ t₃ (part s (sbase s + base + 2) (top - (base + 2)) ++ part s (sbase s + start) (base - start))
-      frame-met k h₃ =
-          let n : base - start ≡ args + (base - (start + args)) = omega arith in
-          met-then (rw p₁ at h₁) (rw (n, ← part-join s (sbase s + start) args (base - (start + args))) (met-then (rw p₂ at h₂) (rw p₃ at h₃)))
+      module _ {m₁ : List ℕ} {first end : ℕ} (a : first ≡ start) (b : end ≡ base) (g : Gains m₁ m₀ (range first (end - first))) where
+        gone : Gains m₁ m₀ (range start (base - start))
+        gone = rw (a, b) at g
+
+        older : (l : List ℕ) → every (freeCell s (inTable t₁) (inTable m₁)) l ≡ every (freeCell s (inTable t₀) (lacking m₀ (range start (base - start)))) l
+        older l =
+            every-alike (freeCell s (inTable t₁) (inTable m₁)) (freeCell s (inTable t₀) (inTable m₁))
+            (free-alike s (inTable m₁) (inTable t₀) (inTable t₁) (f₁ .1 .0 yes₁ .same)) l
+            ∙ ap (λ (k : ℕ → ℕ). every (freeCell s (inTable t₀) k) l) (taken-away m₀ m₁ (range start (base - start)) gone)
+
+        module _ {t₂ : List ℕ} {r₂ : Bool} (f₂ : Ran (freeCell s (inTable t₁) (inTable m₁)) t₁ t₂ (Lent s (stack + start) (stack + start + args)) r₂) where
+          arguments-pass : {b : Bool} → r₂ ≡ b → wordsWhere args (freeCell s (inTable t₀) (lacking m₀ (range start (base - start)))) s (sbase s + start) ≡ b
+          arguments-pass e =
+              run (freeCell s (inTable t₀) (lacking m₀ (range start (base - start)))) s (sbase s + start) args arguments-are
+              (sym (older (Lent s (stack + start) (stack + start + args))) ∙ sym (f₂ .0) ∙ e)
+
+          pub arguments-fail : r₂ ≡ false → false ≡ frameTest s t₀ m₀ args start base top
+          unfolding frameCells
+          arguments-fail e = simp (temporaries-pass yes₁, arguments-pass e)
+
+          module _ (yes₂ : r₂ ≡ true) where
+            pub locals-room : CanRise t₂ (length (Lent s (stack + start + args) (stack + base)))
+            locals-room x = omega (
+              arith,
+              h .arguments,
+              h .over,
+              h .room x,
+              f₁ .1 .1 yes₁ x,
+              f₂ .1 .1 yes₂ x,
+              temporaries-number,
+              arguments-number,
+              locals-number,
+            )
+
+            module _ {t₃ : List ℕ} {r₃ : Bool} (f₃ : Ran (plainCell (inTable t₂)) t₂ t₃ (Lent s (stack + start + args) (stack + base)) r₃) where
+              locals-left : r₃ ≡ frameTest s t₀ m₀ args start base top
+              unfolding frameCells
+              locals-left =
+                  f₃ .0
+                  ∙ every-alike (direct (inTable t₂)) (direct (inTable t₀)) (direct-alike (inTable t₀) (inTable t₂) (λ x. f₂ .1 .0 yes₂ .same x ∙ f₁ .1 .0 yes₁ .same x))
+                  (Lent s (stack + start + args) (stack + base))
+                  ∙ sym (simp (temporaries-pass yes₁, arguments-pass yes₂)
+                  (words-every (base - (start + args)) (direct (inTable t₀)) s (sbase s + start + args) ∙ ap (every (direct (inTable t₀))) (sym locals-are)))
+
+              frame-met : r₃ ≡ true → Met t₀ t₃ (cellsOfFrame s start base top)
+              frame-met e =
+                  let n : base - start ≡ args + (base - (start + args)) = omega (arith, h .arguments) in
+                  met-then (rw temporaries-are at (f₁ .1 .0 yes₁))
+                  (rw (n, ← part-join s (sbase s + start) args (base - (start + args))) (met-then (rw arguments-are at (f₂ .1 .0 yes₂)) (rw locals-are at (f₃ .1 .0 e))))
+
+              room-left : r₃ ≡ true → CanRise t₃ start
+              room-left e x = omega (
+                arith,
+                h .arguments,
+                h .over,
+                h .room x,
+                f₁ .1 .1 yes₁ x,
+                f₂ .1 .1 yes₂ x,
+                f₃ .1 .1 e x,
+                temporaries-number,
+                arguments-number,
+                locals-number,
+              )
+
+              pub frame-done : (r₃ ≡ frameTest s t₀ m₀ args start base top)
+                  × ((r₃ ≡ true → Gains m₁ m₀ (range start (base - start)))
+                  × ((r₃ ≡ true → Met t₀ t₃ (cellsOfFrame s start base top)) × (r₃ ≡ true → CanRise t₃ start)))
+              frame-done = (locals-left, (λ e. gone, (frame-met, room-left)))
 
 pub never : {A : Type 0} → false ≡ true → A
 never e = absurd (false≢true e)

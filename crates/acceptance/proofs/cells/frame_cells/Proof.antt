@@ -1,10 +1,7 @@
-use Prim.Native.Nat.{_+_, _-_}
-use mathlib.Core.Path.{_≡_, sym, _∙_}
-use native.Mathlib.Omega.{arith}
+use mathlib.Core.Path.{refl, _∙_}
 use borrow.Author.Needs.{needs}
 use borrow.Author.Tests.{not-true, not-false}
-use Rattle.segment.specs.State.{sbase}
-use Rattle.acceptance.proofs.FrameCells.{never, lent, lent-length, temporaries-fail, arguments-fail, locals-left, frame-met}
+use Rattle.acceptance.proofs.FrameCells.{never, temporaries-room, temporaries-fail, arguments-room, arguments-fail, locals-room, frame-done}
 use Rattle.acceptance.proofs.cells.frame_cells.Statement.{statement}
 use Rattle.acceptance.proofs.cells.frame_cells.Tie as tie
 
@@ -42,27 +39,16 @@ part-free-cells-end : tie.Need-part-free-cells-end
 part-free-cells-end c = search needs
 
 free-cells-requires : tie.Need-free-cells-requires
-free-cells-requires c κs =
-    let a = c .before .before .before .before .before .before .before .before .args in
-    let h = c .before .before .before .before .before .before .before .before .pre in
-    let stack = c .before .before .before .index .result in
-    let z : stack ≡ sbase (a .seg .now) = c .before .before .before .index .ensures ∙ c .before .before .before .before .sbase .ensures in
-    λ x. omega (arith, h .room x, lent-length (a .seg .now) (stack + a .base + 2) (stack + a .top) (omega (arith, h .over)) (omega (arith, z, h .inside)))
+free-cells-requires c κs = temporaries-room (c .before .before .before .before .before .before .before .before .pre) (c .before .before .before .index .ensures ∙ c .before .before .before .before .sbase .ensures)
 
 same-length : tie.Need-same-length
-same-length c = search needs
+same-length c = c .before .before .arrays .given
 
 same-length-2 : tie.Need-same-length-2
-same-length-2 c = search needs
+same-length-2 c = refl
 
 returns : tie.Need-returns
-returns c =
-    let a = c .before .before .before .before .before .before .before .before .before .before .before .before .args in
-    let h = c .before .before .before .before .before .before .before .before .before .before .before .before .pre in
-    let stack = c .before .before .before .before .before .before .before .index .result in
-    let z : stack ≡ sbase (a .seg .now) = c .before .before .before .before .before .before .before .index .ensures ∙ c .before .before .before .before .before .before .before .before .sbase .ensures in
-    let p₁ = lent (a .seg .now) (stack + a .base + 2) (stack + a .top) (sbase (a .seg .now) + a .base + 2) (a .top - (a .base + 2)) (omega (arith, z)) (omega (arith, z, h .over)) (omega (arith, z, h .inside)) in
-    (temporaries-fail (a .seg .now) (a .arrays .now) (a .marks .now) (a .arguments) (a .start) (a .base) (a .top) p₁ (sym (c .before .before .before .free-cells .ensures .0) ∙ not-true _ (c .if1 .taken)), (never, (never, never)))
+returns c = (temporaries-fail (c .before .before .before .before .before .before .before .before .before .before .before .before .pre) (c .before .before .before .before .before .before .before .index .ensures ∙ c .before .before .before .before .before .before .before .before .sbase .ensures) (c .before .before .before .free-cells .ensures) (not-true _ (c .if1 .taken)), (never, (never, never)))
 
 of-requires : tie.Need-of-requires
 of-requires c κs = search needs
@@ -86,31 +72,19 @@ part-free-cells-end-2 : tie.Need-part-free-cells-end-2
 part-free-cells-end-2 c = search needs
 
 free-cells-requires-2 : tie.Need-free-cells-requires-2
-free-cells-requires-2 c κs =
-    let a = c .before .before .before .before .before .before .before .before .before .before .before .before .before .before .before .before .before .before .before .before .before .args in
-    let h = c .before .before .before .before .before .before .before .before .before .before .before .before .before .before .before .before .before .before .before .before .before .pre in
-    let stack = c .before .before .before .before .before .before .before .before .before .before .before .before .before .before .before .before .index .result in
-    let z : stack ≡ sbase (a .seg .now) = c .before .before .before .before .before .before .before .before .before .before .before .before .before .before .before .before .index .ensures ∙ c .before .before .before .before .before .before .before .before .before .before .before .before .before .before .before .before .before .sbase .ensures in
-    let yes1 = not-false _ (c .before .before .before .before .before .before .before .before .before .if1 .left) in
-    λ x. omega (arith, h .arguments, h .over, h .room x, c .before .before .before .before .before .before .before .before .before .before .before .before .free-cells .ensures .1 .1 yes1 x, lent-length (a .seg .now) (stack + a .base + 2) (stack + a .top) (omega (arith, h .over)) (omega (arith, z, h .inside)), lent-length (a .seg .now) (stack + a .start) (stack + a .start + a .arguments) (omega arith) (omega (arith, z, h .arguments, h .over, h .inside)))
+free-cells-requires-2 c κs = arguments-room (c .before .before .before .before .before .before .before .before .before .before .before .before .before .before .before .before .before .before .before .before .before .pre) (c .before .before .before .before .before .before .before .before .before .before .before .before .before .before .before .before .index .ensures ∙ c .before .before .before .before .before .before .before .before .before .before .before .before .before .before .before .before .before .sbase .ensures) (c .before .before .before .before .before .before .before .before .before .before .before .before .free-cells .ensures) (not-false _ (c .before .before .before .before .before .before .before .before .before .if1 .left))
 
 same-length-3 : tie.Need-same-length-3
-same-length-3 c = search needs
+same-length-3 c = c .before .before .arrays2 .given ∙ c .before .before .before .before .before .before .before .before .before .before .before .before .before .before .before .arrays .given
 
 same-length-4 : tie.Need-same-length-4
-same-length-4 c = search needs
+same-length-4 c = c .before .before .before .before .before .before .before .before .marks .given
 
 returns-2 : tie.Need-returns-2
 returns-2 c =
-    let a = c .before .before .before .before .before .before .before .before .before .before .before .before .before .before .before .before .before .before .before .before .before .before .before .before .before .args in
-    let h = c .before .before .before .before .before .before .before .before .before .before .before .before .before .before .before .before .before .before .before .before .before .before .before .before .before .pre in
-    let stack = c .before .before .before .before .before .before .before .before .before .before .before .before .before .before .before .before .before .before .before .before .index .result in
-    let z : stack ≡ sbase (a .seg .now) = c .before .before .before .before .before .before .before .before .before .before .before .before .before .before .before .before .before .before .before .before .index .ensures ∙ c .before .before .before .before .before .before .before .before .before .before .before .before .before .before .before .before .before .before .before .before .before .sbase .ensures in
-    let p₁ = lent (a .seg .now) (stack + a .base + 2) (stack + a .top) (sbase (a .seg .now) + a .base + 2) (a .top - (a .base + 2)) (omega (arith, z)) (omega (arith, z, h .over)) (omega (arith, z, h .inside)) in
-    let p₂ = lent (a .seg .now) (stack + a .start) (stack + a .start + a .arguments) (sbase (a .seg .now) + a .start) (a .arguments) (omega (arith, z)) (omega (arith, z)) (omega (arith, z, h .arguments, h .over, h .inside)) in
-    let yes1 = not-false _ (c .before .before .before .before .before .before .before .before .before .before .before .before .before .if1 .left) in
-    let gone = rw (c .before .before .before .before .before .before .before .before .before .before .before .of .ensures, c .before .before .before .before .before .before .before .before .before .before .of2 .ensures) at (c .before .before .before .before .before .before .before .before .before .unmark .ensures) in
-    (arguments-fail (a .seg .now) (a .arrays .now) (a .marks .now) (a .arguments) (a .start) (a .base) (a .top) p₁ (sym (c .before .before .before .before .before .before .before .before .before .before .before .before .before .before .before .before .free-cells .ensures .0) ∙ yes1) (c .before .before .before .before .before .before .before .before .before .before .before .before .before .before .before .before .free-cells .ensures .1 .0 yes1) gone p₂ (sym (c .before .before .before .free-cells2 .ensures .0) ∙ not-true _ (c .if2 .taken)), (never, (never, never)))
+    let fails = arguments-fail (c .before .before .before .before .before .before .before .before .before .before .before .before .before .before .before .before .before .before .before .before .before .before .before .before .before .pre) (c .before .before .before .before .before .before .before .before .before .before .before .before .before .before .before .before .before .before .before .before .index .ensures ∙ c .before .before .before .before .before .before .before .before .before .before .before .before .before .before .before .before .before .before .before .before .before .sbase .ensures) (c .before .before .before .before .before .before .before .before .before .before .before .before .before .before .before .before .free-cells .ensures) (not-false _ (c .before .before .before .before .before .before .before .before .before .before .before .before .before .if1 .left))
+    (c .before .before .before .before .before .before .before .before .before .before .before .of .ensures) (c .before .before .before .before .before .before .before .before .before .before .of2 .ensures) (c .before .before .before .before .before .before .before .before .before .unmark .ensures) (c .before .before .before .free-cells2 .ensures) (not-true _ (c .if2 .taken)) in
+    (fails, (never, (never, never)))
 
 mul-plain-cells : tie.Need-mul-plain-cells
 mul-plain-cells c = search needs
@@ -126,41 +100,19 @@ part-plain-cells-end c = search needs
 
 plain-cells-requires : tie.Need-plain-cells-requires
 plain-cells-requires c κs =
-    let a = c .before .before .before .before .before .before .before .before .before .before .before .before .before .before .before .before .before .before .before .before .before .before .before .before .before .before .before .args in
-    let h = c .before .before .before .before .before .before .before .before .before .before .before .before .before .before .before .before .before .before .before .before .before .before .before .before .before .before .before .pre in
-    let stack = c .before .before .before .before .before .before .before .before .before .before .before .before .before .before .before .before .before .before .before .before .before .before .index .result in
-    let z : stack ≡ sbase (a .seg .now) = c .before .before .before .before .before .before .before .before .before .before .before .before .before .before .before .before .before .before .before .before .before .before .index .ensures ∙ c .before .before .before .before .before .before .before .before .before .before .before .before .before .before .before .before .before .before .before .before .before .before .before .sbase .ensures in
-    let yes1 = not-false _ (c .before .before .before .before .before .before .before .before .before .before .before .before .before .before .before .if1 .left) in
-    let yes2 = not-false _ (c .before .before .if2 .left) in
-    λ x. omega (arith, h .arguments, h .over, h .room x, c .before .before .before .before .before .before .before .before .before .before .before .before .before .before .before .before .before .before .free-cells .ensures .1 .1 yes1 x, c .before .before .before .before .before .free-cells2 .ensures .1 .1 yes2 x, lent-length (a .seg .now) (stack + a .base + 2) (stack + a .top) (omega (arith, h .over)) (omega (arith, z, h .inside)), lent-length (a .seg .now) (stack + a .start) (stack + a .start + a .arguments) (omega arith) (omega (arith, z, h .arguments, h .over, h .inside)), lent-length (a .seg .now) (stack + a .start + a .arguments) (stack + a .base) (omega (arith, h .arguments)) (omega (arith, z, h .over, h .inside)))
+    locals-room (c .before .before .before .before .before .before .before .before .before .before .before .before .before .before .before .before .before .before .before .before .before .before .before .before .before .before .before .pre) (c .before .before .before .before .before .before .before .before .before .before .before .before .before .before .before .before .before .before .before .before .before .before .index .ensures ∙ c .before .before .before .before .before .before .before .before .before .before .before .before .before .before .before .before .before .before .before .before .before .before .before .sbase .ensures) (c .before .before .before .before .before .before .before .before .before .before .before .before .before .before .before .before .before .before .free-cells .ensures) (not-false _ (c .before .before .before .before .before .before .before .before .before .before .before .before .before .before .before .if1 .left))
+    (c .before .before .before .before .before .before .before .before .before .before .before .before .before .of .ensures) (c .before .before .before .before .before .before .before .before .before .before .before .before .of2 .ensures) (c .before .before .before .before .before .before .before .before .before .before .before .unmark .ensures) (c .before .before .before .before .before .free-cells2 .ensures) (not-false _ (c .before .before .if2 .left))
 
 same-length-5 : tie.Need-same-length-5
-same-length-5 c = search needs
+same-length-5 c = c .before .arrays3 .given ∙ c .before .before .before .before .before .before .before .arrays2 .given ∙ c .before .before .before .before .before .before .before .before .before .before .before .before .before .before .before .before .before .before .before .before .arrays .given
 
 same-length-6 : tie.Need-same-length-6
-same-length-6 c = search needs
+same-length-6 c = c .before .before .before .before .before .before .before .before .before .before .before .before .before .marks .given
 
 returns-3 : tie.Need-returns-3
 returns-3 c =
-    let a = c .before .before .before .before .before .before .before .before .before .before .before .before .before .before .before .before .before .before .before .before .before .before .before .before .before .before .before .before .before .before .args in
-    let h = c .before .before .before .before .before .before .before .before .before .before .before .before .before .before .before .before .before .before .before .before .before .before .before .before .before .before .before .before .before .before .pre in
-    let stack = c .before .before .before .before .before .before .before .before .before .before .before .before .before .before .before .before .before .before .before .before .before .before .before .before .before .index .result in
-    let z : stack ≡ sbase (a .seg .now) = c .before .before .before .before .before .before .before .before .before .before .before .before .before .before .before .before .before .before .before .before .before .before .before .before .before .index .ensures ∙ c .before .before .before .before .before .before .before .before .before .before .before .before .before .before .before .before .before .before .before .before .before .before .before .before .before .before .sbase .ensures in
-    let p₁ = lent (a .seg .now) (stack + a .base + 2) (stack + a .top) (sbase (a .seg .now) + a .base + 2) (a .top - (a .base + 2)) (omega (arith, z)) (omega (arith, z, h .over)) (omega (arith, z, h .inside)) in
-    let p₂ = lent (a .seg .now) (stack + a .start) (stack + a .start + a .arguments) (sbase (a .seg .now) + a .start) (a .arguments) (omega (arith, z)) (omega (arith, z)) (omega (arith, z, h .arguments, h .over, h .inside)) in
-    let p₃ = lent (a .seg .now) (stack + a .start + a .arguments) (stack + a .base) (sbase (a .seg .now) + a .start + a .arguments) (a .base - (a .start + a .arguments)) (omega (arith, z)) (omega (arith, z, h .arguments)) (omega (arith, z, h .over, h .inside)) in
-    let yes1 = not-false _ (c .before .before .before .before .before .before .before .before .before .before .before .before .before .before .before .before .before .before .if1 .left) in
-    let yes2 = not-false _ (c .before .before .before .before .before .if2 .left) in
-    let gone = rw (c .before .before .before .before .before .before .before .before .before .before .before .before .before .before .before .before .of .ensures, c .before .before .before .before .before .before .before .before .before .before .before .before .before .before .before .of2 .ensures) at (c .before .before .before .before .before .before .before .before .before .before .before .before .before .before .unmark .ensures) in (
-      c .before .before .plain-cells .ensures .0 ∙ locals-left (a .seg .now) (a .arrays .now) (a .marks .now) (a .arguments) (a .start) (a .base) (a .top) p₁ (sym (c .before .before .before .before .before .before .before .before .before .before .before .before .before .before .before .before .before .before .before .before .before .free-cells .ensures .0) ∙ yes1) (c .before .before .before .before .before .before .before .before .before .before .before .before .before .before .before .before .before .before .before .before .before .free-cells .ensures .1 .0 yes1) gone p₂ (sym (c .before .before .before .before .before .before .before .before .free-cells2 .ensures .0) ∙ yes2) (c .before .before .before .before .before .before .before .before .free-cells2 .ensures .1 .0 yes2) p₃,
-      (
-        λ t. gone,
-        (
-          λ t. frame-met (a .seg .now) (a .arrays .now) (a .marks .now) (a .arguments) (a .start) (a .base) (a .top) p₁ (sym (c .before .before .before .before .before .before .before .before .before .before .before .before .before .before .before .before .before .before .before .before .before .free-cells .ensures .0) ∙ yes1) (c .before .before .before .before .before .before .before .before .before .before .before .before .before .before .before .before .before .before .before .before .before .free-cells .ensures .1 .0 yes1) gone p₂ (sym (c .before .before .before .before .before .before .before .before .free-cells2 .ensures .0) ∙ yes2) (c .before .before .before .before .before .before .before .before .free-cells2 .ensures .1 .0 yes2) p₃ (h .arguments) (c .before .before .plain-cells .ensures .1 .0 t),
-          λ t x. omega (arith, h .arguments, h .over, h .room x, c .before .before .before .before .before .before .before .before .before .before .before .before .before .before .before .before .before .before .before .before .before .free-cells .ensures .1 .1 yes1 x, c .before .before .before .before .before .before .before .before .free-cells2 .ensures .1 .1 yes2 x, c .before .before .plain-cells .ensures .1 .1 t x, lent-length (a .seg .now) (stack + a .base + 2) (stack + a .top) (omega (arith, h .over)) (omega (arith, z, h .inside)), lent-length (a .seg .now) (stack + a .start) (stack + a .start + a .arguments) (omega arith) (omega (arith, z, h .arguments, h .over, h .inside)), lent-length (a .seg .now) (stack + a .start + a .arguments) (stack + a .base) (omega (arith, h .arguments)) (omega (arith, z, h .over, h .inside))),
-        ),
-      ),
-    )
+    frame-done (c .before .before .before .before .before .before .before .before .before .before .before .before .before .before .before .before .before .before .before .before .before .before .before .before .before .before .before .before .before .before .pre) (c .before .before .before .before .before .before .before .before .before .before .before .before .before .before .before .before .before .before .before .before .before .before .before .before .before .index .ensures ∙ c .before .before .before .before .before .before .before .before .before .before .before .before .before .before .before .before .before .before .before .before .before .before .before .before .before .before .sbase .ensures) (c .before .before .before .before .before .before .before .before .before .before .before .before .before .before .before .before .before .before .before .before .before .free-cells .ensures) (not-false _ (c .before .before .before .before .before .before .before .before .before .before .before .before .before .before .before .before .before .before .if1 .left))
+    (c .before .before .before .before .before .before .before .before .before .before .before .before .before .before .before .before .of .ensures) (c .before .before .before .before .before .before .before .before .before .before .before .before .before .before .before .of2 .ensures) (c .before .before .before .before .before .before .before .before .before .before .before .before .before .before .unmark .ensures) (c .before .before .before .before .before .before .before .before .free-cells2 .ensures) (not-false _ (c .before .before .before .before .before .if2 .left)) (c .before .before .plain-cells .ensures)
 
 pub frame-cells-spec : {M : Type 1} → statement M
 frame-cells-spec =
