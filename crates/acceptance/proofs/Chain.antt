@@ -82,13 +82,13 @@ module _ (s regular alternate : List ℕ) (base n : ℕ) (pos : 0 < n) {frame : 
   low-enough = by-le base (frame .last .0) (λ l. omega (arith, at-bottom l)) (λ l. omega (arith, above l .0))
 
 module _ (s regular alternate : List ℕ) where
-  pub short : ltop s < lbase s + 1 → framesTest s regular alternate ≡ false
+  pub short : {base top : ℕ} → base ≡ lbase s → top ≡ ltop s → top < base + 1 → framesTest s regular alternate ≡ false
   unfolding framesTest
-  short h = simp (lt-leb (lbase s + 1) (ltop s) h)
+  short b t h = simp (lt-leb (lbase s + 1) (ltop s) (rw (b, t) at h))
 
-  pub long : lbase s + 1 ≤ ltop s → framesTest s regular alternate ≡ chainTest s regular alternate (lbase s)
+  pub long : {base top : ℕ} → base ≡ lbase s → top ≡ ltop s → base + 1 ≤ top → framesTest s regular alternate ≡ chainTest s regular alternate base
   unfolding framesTest
-  long h = simp (le-leb (lbase s + 1) (ltop s) h)
+  long b t h = rw b (simp (le-leb (lbase s + 1) (ltop s) (rw (b, t) at h)))
 
 -- What the header of a frame's function says.
 module _ (regular alternate : List ℕ) {h : Header} (code : ℕ) {w : ℕ} (e : h ≡ headerOfFunction (frameSegment regular alternate code) (functionNumber code)) (k : code ≡ w) where

@@ -62,6 +62,13 @@ abbrev pub Ran : (ℕ → Bool) → List ℕ → List ℕ → List ℕ → Bool 
 Ran test before after cells r =
     (r ≡ every test cells) × ((r ≡ true → Met before after cells) × (r ≡ true → (x : ℕ) → getD after x 0 ≤ getD before x 0 + length cells))
 
+-- The same of all cells of one frame, whose variables are marked no more.
+abbrev pub FrameRan : List ℕ → List ℕ → List ℕ → ℕ → ℕ → ℕ → ℕ → List ℕ → List ℕ → Bool → Type 0
+FrameRan s arrays marks args start base top arrays′ marks′ r =
+    (r ≡ frameTest s arrays marks args start base top)
+    × ((r ≡ true → Gains marks′ marks (range start (base - start)))
+    × ((r ≡ true → Met arrays arrays′ (cellsOfFrame s start base top)) × (r ≡ true → CanRise arrays′ start)))
+
 -- The three runs of cells of one frame, as the code meets them.
 module _ {s t₀ m₀ : List ℕ} {args start base top : ℕ} (h : BeforeFrame s t₀ m₀ args start base top) {stack : ℕ} (z : stack ≡ sbase s) where
   temporaries-are : Lent s (stack + base + 2) (stack + top) ≡ part s (sbase s + base + 2) (top - (base + 2))
@@ -164,9 +171,7 @@ module _ {s t₀ m₀ : List ℕ} {args start base top : ℕ} (h : BeforeFrame s
                 locals-number,
               )
 
-              pub frame-done : (r₃ ≡ frameTest s t₀ m₀ args start base top)
-                  × ((r₃ ≡ true → Gains m₁ m₀ (range start (base - start)))
-                  × ((r₃ ≡ true → Met t₀ t₃ (cellsOfFrame s start base top)) × (r₃ ≡ true → CanRise t₃ start)))
+              pub frame-done : FrameRan s t₀ m₀ args start base top t₃ m₁ r₃
               frame-done = (locals-left, (λ e. gone, (frame-met, room-left)))
 
 pub never : {A : Type 0} → false ≡ true → A

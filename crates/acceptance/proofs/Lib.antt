@@ -7,6 +7,7 @@ pub mod Meeting
 pub mod Tallies
 pub mod Compared
 pub mod Table
+pub mod Descent
 pub mod ChainTest
 pub mod Positions
 pub mod CellKinds

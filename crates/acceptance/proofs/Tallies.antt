@@ -15,7 +15,7 @@ use Rattle.storage.specs.Heap.{hit, count}
 use Rattle.storage_theorems.proofs.Counts.{count-append}
 use Rattle.segment.specs.Machine.{cellsOfFrames}
 use Rattle.segment.specs.View.{frameAt, framesFrom, words, owners}
-use Rattle.acceptance.specs.Tables.{Met}
+use Rattle.acceptance.specs.Tables.{CanRise, Met, cellsOfFrame, cellsOfStack}
 use Rattle.acceptance.proofs.Meeting.{met-then, still-marked}
 
 -- Words one after the other, in two parts.
@@ -66,21 +66,17 @@ module _ (s : List ℕ) (base n : ℕ) (pos : 0 < n) where
 pub record Down (s : List ℕ) (from upto : ℕ) (before table : List ℕ) (base top : ℕ) : Type 0 where
   pub depth : ℕ
   pub fuel : base < depth
-  pub room : (x : ℕ) → getD table x 0 + top < 65536
+  pub room : CanRise table top
   pub same : (x : ℕ) → leb 1 (getD table x 0) ≡ leb 1 (getD before x 0)
   pub sum : (x : ℕ) → x < 2 ^ 16 → 1 ≤ getD before x 0
       → getD table x 0 + (count (arrayWord x) (part s (sbase s + base + 2) (top - (base + 2))) + count (arrayWord x) (cellsOfFrames (framesFrom depth s base)))
       ≡ getD before x 0 + (count (arrayWord x) (part s (sbase s + from + 2) (upto - (from + 2))) + count (arrayWord x) (cellsOfFrames (framesFrom (suc from) s from)))
 
-pub down-start : (s : List ℕ) (from upto : ℕ) (table : List ℕ) → ((x : ℕ) → getD table x 0 + upto < 65536) → Down s from upto table table from upto
+pub down-start : (s : List ℕ) (from upto : ℕ) (table : List ℕ) → CanRise table upto → Down s from upto table table from upto
 down-start s from upto table r = record { depth = suc from; fuel = omega arith; room = r; same = λ x. refl; sum = λ x l j. refl }
 
--- The words that one frame adds.
-abbrev Frame : List ℕ → ℕ → ℕ → ℕ → List ℕ
-Frame s start base top = part s (sbase s + base + 2) (top - (base + 2)) ++ part s (sbase s + start) (base - start)
-
 module _ {s : List ℕ} {from upto : ℕ} {before table : List ℕ} {base top : ℕ} (h : Down s from upto before table base top)
-    (start : ℕ) {last : ℕ} (el : last ≡ lastLbaseAt s base) {after : List ℕ} (m : Met table after (Frame s start base top)) where
+    (start : ℕ) {last : ℕ} (el : last ≡ lastLbaseAt s base) {after : List ℕ} (m : Met table after (cellsOfFrame s start base top)) where
   pos : 0 < h .depth
   pos = omega (arith, h .fuel)
 
@@ -90,8 +86,7 @@ module _ {s : List ℕ} {from upto : ℕ} {before table : List ℕ} {base top : 
       m .sum x l (still-marked before table (h .same) x j)
       ∙ ap (λ (n : ℕ). getD table x 0 + n) (count-append (arrayWord x) (part s (sbase s + base + 2) (top - (base + 2))) (part s (sbase s + start) (base - start)))
 
-  pub down-bottom : start ≡ 0 → base ≤ last
-      → Met before after (part s (sbase s + from + 2) (upto - (from + 2)) ++ cellsOfFrames (framesFrom (suc from) s from))
+  pub down-bottom : start ≡ 0 → base ≤ last → Met before after (cellsOfStack s from upto)
   down-bottom z l = record { same = λ x. m .same x ∙ h .same x; sum = total }
     where
       all : (w : ℕ) → count w (cellsOfFrames (framesFrom (h .depth) s base)) ≡ count w (part s (sbase s + start) (base - start))
@@ -102,7 +97,7 @@ module _ {s : List ℕ} {from upto : ℕ} {before table : List ℕ} {base top : 
           (omega (arith, count-append w (downward s (sbase s) base) [], downward-count w s (sbase s) base))
 
       total : (x : ℕ) → x < 2 ^ 16 → 1 ≤ getD before x 0 → getD after x 0
-          ≡ getD before x 0 + count (arrayWord x) (part s (sbase s + from + 2) (upto - (from + 2)) ++ cellsOfFrames (framesFrom (suc from) s from))
+          ≡ getD before x 0 + count (arrayWord x) (cellsOfStack s from upto)
       total x u j = omega (
         arith,
         more x u j,
@@ -111,7 +106,7 @@ module _ {s : List ℕ} {from upto : ℕ} {before table : List ℕ} {base top : 
         count-append (arrayWord x) (part s (sbase s + from + 2) (upto - (from + 2))) (cellsOfFrames (framesFrom (suc from) s from)),
       )
 
-  pub down-on : last + 2 ≤ start → start ≤ base → ((x : ℕ) → getD after x 0 + start < 65536) → Down s from upto before after last start
+  pub down-on : last + 2 ≤ start → start ≤ base → CanRise after start → Down s from upto before after last start
   down-on l k r = record {
     depth = h .depth - 1;
     fuel = omega (arith, h .fuel);
@@ -140,7 +135,7 @@ module _ {s : List ℕ} {from upto : ℕ} {before table : List ℕ} {base top : 
 
 -- All cells: the globals, the temporaries, the frames' cells.
 pub owners-met : (s : List ℕ) {before between after : List ℕ} → Met before between (part s 8 (blockptr s - 8))
-    → Met between after (part s (sbase s + lbase s + 2) (ltop s + 1 - (lbase s + 2)) ++ cellsOfFrames (framesFrom (suc (lbase s)) s (lbase s)))
+    → Met between after (cellsOfStack s (lbase s) (ltop s + 1))
     → Met before after (owners s)
 unfolding words
 owners-met s {before} {between} {after} h k =

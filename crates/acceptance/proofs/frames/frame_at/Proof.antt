@@ -1,3 +1,6 @@
+use Prim.Native.Nat.{ℕ, _+_}
+use mathlib.Core.Path.{_∙_, ap}
+use lib.ListN.{getD}
 use borrow.Author.Needs.{needs}
 use Rattle.acceptance.proofs.Chain.{header-arguments, header-variables}
 use Rattle.acceptance.proofs.frames.frame_at.Statement.{statement}
@@ -34,7 +37,16 @@ add-t14 : tie.Need-add-t14
 add-t14 c = search needs
 
 returns : tie.Need-returns
-returns c = record { last = (cc); code = (cc); arguments = header-arguments _ _ (c .before .before .before .before .before .word .result) (c .before .before .before .before .header-of .ensures) (cc); variables = header-variables _ _ (c .before .before .before .before .before .word .result) (c .before .before .before .before .header-of .ensures) (cc) }
+returns c =
+    let a = c .before .before .before .before .before .before .before .before .before .before .before .args in
+    let at = c .before .before .before .before .before .before .index .ensures ∙ ap (λ (n : ℕ). n + a .base .0) (c .before .before .before .before .before .before .before .sbase .ensures) in
+    let code = c .before .before .before .before .before .word .ensures ∙ ap (λ (i : ℕ). getD (a .seg .now) (i + 1) 0) at in
+    record {
+      last = c .before .before .of .ensures ∙ c .before .before .before .word2 .ensures ∙ ap (λ (i : ℕ). getD (a .seg .now) i 0) at;
+      code = code;
+      arguments = header-arguments _ _ (c .before .before .before .before .before .word .result) (c .before .before .before .before .header-of .ensures) code;
+      variables = header-variables _ _ (c .before .before .before .before .before .word .result) (c .before .before .before .before .header-of .ensures) code;
+    }
 
 pub frame-at-spec : {M : Type 1} → statement M
 frame-at-spec =

@@ -14,6 +14,14 @@ frames-test-spec =
     (λ c κs. search needs)
     (λ c κs. search needs)
     (λ c. omega (arith, (c .before .before .before .before .before .before .shared-slice-known .given) 1))
-    (λ c. sym (short (c .before .before .before .before .before .before .before .before .args .seg .now) (c .before .before .before .before .before .before .before .before .args .regular .now) (c .before .before .before .before .before .before .before .before .args .alternate .now) (omega arith)))
+    (λ c.
+    let a = c .before .before .before .before .before .before .before .before .args in
+    let base = c .before .before .before .number .ensures ∙ c .before .before .before .before .lbase .ensures in
+    let top = c .before .number2 .ensures ∙ c .before .before .ltop .ensures in
+    sym (short (a .seg .now) (a .regular .now) (a .alternate .now) base top (c .if1 .taken)))
     (λ c κs. search needs)
-    (λ c. (cc) ∙ sym (long (c .before .before .before .before .before .before .before .before .before .args .seg .now) (c .before .before .before .before .before .before .before .before .before .args .regular .now) (c .before .before .before .before .before .before .before .before .before .args .alternate .now) (omega arith))))
+    (λ c.
+    let a = c .before .before .before .before .before .before .before .before .before .args in
+    let base = c .before .before .before .before .number .ensures ∙ c .before .before .before .before .before .lbase .ensures in
+    let top = c .before .before .number2 .ensures ∙ c .before .before .before .ltop .ensures in
+    c .frames-from .ensures ∙ sym (long (a .seg .now) (a .regular .now) (a .alternate .now) base top (c .before .if1 .left))))
