@@ -17,7 +17,7 @@ same-length : tie.Need-same-length
 same-length c = search needs
 
 returns : tie.Need-returns
-returns c = rw (eq-eqb _ _ (c .before .before .before .before .before .before .before .before .before .if1 .taken)) (cc)
+returns c = rw (eq-eqb _ _ (c .before .before .before .before .before .before .before .before .before .if1 .taken), c .before .before .jump .ensures, c .before .before .before .before .before .before .replace-by-word .ensures)
 
 replace-by-new-requires : tie.Need-replace-by-new-requires
 replace-by-new-requires c κs = search needs

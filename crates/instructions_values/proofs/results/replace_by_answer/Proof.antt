@@ -22,7 +22,7 @@ same-length : tie.Need-same-length
 same-length c = search needs
 
 returns-2 : tie.Need-returns-2
-returns-2 c = rw (c .before .before .before .before .before .before .before .before .before .answer2 .given .1) (cc)
+returns-2 c = rw (c .before .before .before .before .before .before .before .before .before .answer2 .given .1, c .before .before .jump .ensures, c .before .before .before .before .before .before .replace-by-word .ensures)
 
 pub replace-by-answer-spec : {M : Type 1} → statement M
 replace-by-answer-spec =

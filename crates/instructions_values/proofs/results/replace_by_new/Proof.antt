@@ -1,6 +1,6 @@
 use native.Mathlib.Omega.{arith}
 use mathlib.Core.List.{[], _∷_}
-use mathlib.Core.Path.{_∙_}
+use mathlib.Core.Path.{sym, _∙_}
 use Rattle.manual.specs.Effects.{made, replaces, jumps}
 use Rattle.effects_code.proofs.Carrying.{carry-refused, carry-served}
 use borrow.Author.Needs.{needs}
@@ -25,7 +25,7 @@ same-length c = search needs
 returns : tie.Need-returns
 returns c =
     let a = c .before .before .before .before .before .before .before .before .before .args in
-    (cc) ∙ carry-refused (a .seg .now) (replaces (a .n) (made (a .lengths .now) (a .ravel .now))) (jumps (a .next .0) ∷ []) (cc)
+    rw (c .before .before .before .before .replace-by-array .ensures .1) (carry-refused (a .seg .now) (replaces (a .n) (made (a .lengths .now) (a .ravel .now))) (jumps (a .next .0) ∷ []) (sym (c .enum-told .given .1) ∙ c .before .before .before .before .replace-by-array .ensures .0))
 
 same-length-2 : tie.Need-same-length-2
 same-length-2 c = search needs
@@ -33,7 +33,7 @@ same-length-2 c = search needs
 returns-2 : tie.Need-returns-2
 returns-2 c =
     let a = c .before .before .before .before .before .before .before .before .before .before .before .before .before .args in
-    (cc) ∙ carry-served (a .seg .now) (replaces (a .n) (made (a .lengths .now) (a .ravel .now))) (jumps (a .next .0) ∷ []) (cc)
+    rw (c .before .before .jump .ensures, c .before .before .before .before .before .before .before .before .replace-by-array .ensures .1) (carry-served (a .seg .now) (replaces (a .n) (made (a .lengths .now) (a .ravel .now))) (jumps (a .next .0) ∷ []) (sym (c .before .before .before .before .enum-told2 .given .1) ∙ c .before .before .before .before .before .before .before .before .replace-by-array .ensures .0))
 
 pub replace-by-new-spec : {M : Type 1} → statement M
 replace-by-new-spec =

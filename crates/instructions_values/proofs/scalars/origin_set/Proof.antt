@@ -22,7 +22,7 @@ same-length : tie.Need-same-length
 same-length c = search needs
 
 returns : tie.Need-returns
-returns c = cc
+returns c = rw (c .before .before .jump .ensures, c .before .before .before .before .before .before .replace-by-word .ensures, c .before .before .before .before .before .before .before .before .before .before .set-iorg .ensures, c .before .before .before .before .before .before .before .before .before .before .before .origin-of .ensures .0, c .before .before .before .before .before .before .before .before .before .before .before .before .before .iorg .ensures)
 
 pub origin-set-spec : {M : Type 1} → statement M
 origin-set-spec =

@@ -68,7 +68,7 @@ same-length-3 c = search needs
 returns-3 : tie.Need-returns-3
 returns-3 c =
     let a = c .before .before .before .before .before .before .before .before .before .before .before .before .before .before .before .before .before .before .before .before .before .args in
-    rw (← indexed-at (iorg (flags (a .seg .now))) (a .next .0) (a .subscripts .now) (held (a .seg .now) (Array (a .block))) (c .before .before .before .before .before .before .before .before .before .before .before .before .before .before .before .before .if1 .left ∙ ap length (c .before .before .before .before .before .before .before .before .before .before .before .before .before .before .before .before .before .lengths-of .ensures)) _ (rw (c .before .before .before .before .before .before .before .before .before .before .before .before .k .given .1, c .before .before .before .before .before .before .before .before .before .before .before .before .before .before .before .iorg .ensures, c .before .before .before .before .before .before .before .before .before .before .before .before .before .before .before .before .before .lengths-of .ensures) at (c .before .before .before .before .before .before .before .before .before .before .before .before .before .before .place .ensures))) (cc)
+    rw (← indexed-at (iorg (flags (a .seg .now))) (a .next .0) (a .subscripts .now) (held (a .seg .now) (Array (a .block))) (c .before .before .before .before .before .before .before .before .before .before .before .before .before .before .before .before .if1 .left ∙ ap length (c .before .before .before .before .before .before .before .before .before .before .before .before .before .before .before .before .before .lengths-of .ensures)) _ (rw (c .before .before .before .before .before .before .before .before .before .before .before .before .k .given .1, c .before .before .before .before .before .before .before .before .before .before .before .before .before .before .before .iorg .ensures, c .before .before .before .before .before .before .before .before .before .before .before .before .before .before .before .before .before .lengths-of .ensures) at (c .before .before .before .before .before .before .before .before .before .before .before .before .before .before .place .ensures)), c .before .before .jump .ensures, c .before .before .before .before .before .before .replace-by-word .ensures, c .before .before .before .before .before .before .before .before .word .ensures, c .before .before .before .before .before .before .before .before .before .elements-of .ensures)
 
 pub element-spec : {M : Type 1} → statement M
 element-spec =
