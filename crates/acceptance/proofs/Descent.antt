@@ -16,7 +16,8 @@ use Rattle.acceptance.specs.Cells.{inTable, plainCell, range, variablesF
 use Rattle.acceptance.specs.Tables.{CanRise, lacking, Met, chainVariables, stackTest, cellsOfStack, frameTest}
 use Rattle.acceptance.specs.Before.{BeforeCells, BeforeStack, BeforeFrame}
 use Rattle.acceptance.proofs.Chain.{chainFrom, few-arguments, low-enough, at-bottom, above, long}
-use Rattle.acceptance.proofs.FrameCells.{Lent, Ran, FrameRan, lent, lent-length, cells-none, own-marked, frame-alike, frame-fails, frame-bottom, frame-on, older-marked, globals-fail, globals-pass}
+use Rattle.acceptance.proofs.FrameCells.{Lent, Ran, FrameRan, lent, lent-length, cells-none, own-marked, frame-alike, frame-fails, frame-bottom, frame-on}
+use Rattle.acceptance.proofs.FrameCells.{older-marked, globals-fail, globals-pass}
 use Rattle.acceptance.proofs.Tallies.{Down, down-start, down-bottom, down-on, owners-met}
 use Rattle.acceptance.proofs.Compared.{marks-few}
 use Rattle.acceptance.proofs.Table.{frames-top}
@@ -140,7 +141,8 @@ module _ {s regular alternate arrays marks : List ℕ} (h : BeforeCells s regula
       )
 
       module _ {first : ℕ} (e : first ≡ base) {top : ℕ} (t : top ≡ ltop s) where
-        pub before-stack : {marks′ : List ℕ} → Tally marks′ (chainVariables s regular alternate base) → BeforeStack s regular alternate after marks′ first (top + 1)
+        pub before-stack : {marks′ : List ℕ} → Tally marks′ (chainVariables s regular alternate base)
+            → BeforeStack s regular alternate after marks′ first (top + 1)
         before-stack v = record {
           over = omega (arith, top-over);
           inside = omega (arith, h .head .top);
