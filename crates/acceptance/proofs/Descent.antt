@@ -93,8 +93,8 @@ module _ {s regular alternate before marks₀ : List ℕ} {from upto : ℕ} (g :
         descent-bottom low =
             let size = at-bottom s regular alternate base left more read (d .chain) (omega arith) in (
               sym (d .same
-              ∙ frame-bottom (arguments regular alternate) (variables regular alternate) s (inTable before) base top left more start-is
-              (read .arguments) last-is marks (d .marked) judged yes low),
+                  ∙ frame-bottom (arguments regular alternate) (variables regular alternate) s (inTable before) base top left more start-is
+                  (read .arguments) last-is marks (d .marked) judged yes low),
               λ t. down-bottom (d .met) (base - frame .variables) last-is (ran .1 .1 .0 yes) (omega (arith, size)) low,
             )
 

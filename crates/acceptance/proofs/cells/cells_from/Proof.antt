@@ -89,9 +89,12 @@ loop-again c =
     let on = descent-on (earlier .before .before .before .before .before .before .before .before .before .before .pre)
     (earlier .before .before .before .before .loop .inv .2) (earlier .before .before .before .loop-test .taken) (earlier .before .before .of .ensures)
     (earlier .before .frame-at .ensures)
-    (c .before .before .before .before .before .before .frame-cells .ensures) (not-false _ (c .before .if1 .left)) (earlier .number .ensures) (c .if2 .left) in
-    (c .before .before .before .before .before .arrays .given ∙ earlier .before .before .before .before .loop .inv .0, c .before .before .before .marks .given
-    ∙ earlier .before .before .before .before .loop .inv .1, on)
+    (c .before .before .before .before .before .before .frame-cells .ensures) (not-false _ (c .before .if1 .left)) (earlier .number .ensures) (c .if2 .left) in (
+      c .before .before .before .before .before .arrays .given ∙ earlier .before .before .before .before .loop .inv .0,
+      c .before .before .before .marks .given
+          ∙ earlier .before .before .before .before .loop .inv .1,
+      on,
+    )
 
 same-length-5 : tie.Need-same-length-5 Inv-loop μ-loop
 same-length-5 c = c .before .loop .inv .0

@@ -31,9 +31,11 @@ same-length c = c .before .before .arrays .given
 
 returns : tie.Need-returns
 returns c =
-    let earlier = c .before .before .before .before .before .before in
-    (sym (globals-wrong (earlier .before .before .before .before .before .before .before .pre) (earlier .index .ensures ∙ earlier .before .blockptr .ensures)
-    (c .before .before .before .plain-cells .ensures) (not-true _ (c .if1 .taken))), never)
+    let earlier = c .before .before .before .before .before .before in (
+      sym (globals-wrong (earlier .before .before .before .before .before .before .before .pre) (earlier .index .ensures ∙ earlier .before .blockptr .ensures)
+          (c .before .before .before .plain-cells .ensures) (not-true _ (c .if1 .taken))),
+      never,
+    )
 
 lbase-requires : tie.Need-lbase-requires
 lbase-requires c κs = search needs

@@ -51,9 +51,11 @@ same-length-2 c = refl
 
 returns : tie.Need-returns
 returns c =
-    let earlier = c .before .before .before .before .before .before .before in
-    (temporaries-fail (earlier .before .before .before .before .before .pre) (earlier .index .ensures ∙ earlier .before .sbase .ensures)
-    (c .before .before .before .free-cells .ensures) (not-true _ (c .if1 .taken)), (never, (never, never)))
+    let earlier = c .before .before .before .before .before .before .before in (
+      temporaries-fail (earlier .before .before .before .before .before .pre) (earlier .index .ensures ∙ earlier .before .sbase .ensures)
+          (c .before .before .before .free-cells .ensures) (not-true _ (c .if1 .taken)),
+      (never, (never, never)),
+    )
 
 of-requires : tie.Need-of-requires
 of-requires c κs = search needs
@@ -97,7 +99,8 @@ returns-2 : tie.Need-returns-2
 returns-2 c =
     let earlier = c .before .before .before .before .before .before .before .before .before in
     let fails = arguments-fail (earlier .before .before .before .before .before .before .before .before .before .before .before .before .before .before .before .before .pre)
-    (earlier .before .before .before .before .before .before .before .before .before .before .before .index .ensures ∙ earlier .before .before .before .before .before .before .before .before .before .before .before .before .sbase .ensures)
+    (earlier .before .before .before .before .before .before .before .before .before .before .before .index .ensures
+    ∙ earlier .before .before .before .before .before .before .before .before .before .before .before .before .sbase .ensures)
     (earlier .before .before .before .before .before .before .before .free-cells .ensures) (not-false _ (earlier .before .before .before .before .if1 .left))
     (earlier .before .before .of .ensures) (earlier .before .of2 .ensures) (earlier .unmark .ensures) (c .before .before .before .free-cells2 .ensures)
     (not-true _ (c .if2 .taken)) in
@@ -128,7 +131,8 @@ plain-cells-requires c κs =
 same-length-5 : tie.Need-same-length-5
 same-length-5 c =
     let earlier = c .before .before .before .before .before .before .before in
-    c .before .arrays3 .given ∙ earlier .arrays2 .given ∙ earlier .before .before .before .before .before .before .before .before .before .before .before .before .before .arrays .given
+    c .before .arrays3 .given ∙ earlier .arrays2 .given
+    ∙ earlier .before .before .before .before .before .before .before .before .before .before .before .before .before .arrays .given
 
 same-length-6 : tie.Need-same-length-6
 same-length-6 c = c .before .before .before .before .before .before .before .before .before .before .before .before .before .marks .given

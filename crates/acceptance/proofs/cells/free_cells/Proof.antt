@@ -35,10 +35,12 @@ same-length c = search needs
 
 returns : tie.Need-returns Inv-loop μ-loop
 returns c =
-    let earlier = c .before .before .before .before .before .before .before .before .before .before .before .before in
-    (meeting-bad (c .before .before .before .before .before .before .before .loop .inv .1)
-    (c .before .before .before .before .before .before .loop-test .taken) (free-alike (earlier .args .seg .now) (inTable (earlier .args .variables .now)))
-    (c .before .before .before .is-proper .ensures .0) (not-true _ (c .if1 .taken)), (never, never))
+    let earlier = c .before .before .before .before .before .before .before .before .before .before .before .before in (
+      meeting-bad (c .before .before .before .before .before .before .before .loop .inv .1)
+          (c .before .before .before .before .before .before .loop-test .taken) (free-alike (earlier .args .seg .now) (inTable (earlier .args .variables .now)))
+          (c .before .before .before .is-proper .ensures .0) (not-true _ (c .if1 .taken)),
+      (never, never),
+    )
 
 add-i : tie.Need-add-i Inv-loop μ-loop
 add-i c = search needs
@@ -48,10 +50,12 @@ loop-less c = search needs
 
 loop-again : tie.Need-loop-again Inv-loop μ-loop
 loop-again c =
-    let earlier = c .before .before .before .before .before .before .before .before .before .before .before .before in
-    (search needs, meeting-on (c .before .before .before .before .before .before .before .loop .inv .1)
-    (c .before .before .before .before .before .before .loop-test .taken) (free-alike (earlier .args .seg .now) (inTable (earlier .args .variables .now)))
-    (c .before .before .before .is-proper .ensures .0) (not-false _ (c .if1 .left)) (c .before .before .before .is-proper .ensures .1))
+    let earlier = c .before .before .before .before .before .before .before .before .before .before .before .before in (
+      search needs,
+      meeting-on (c .before .before .before .before .before .before .before .loop .inv .1)
+          (c .before .before .before .before .before .before .loop-test .taken) (free-alike (earlier .args .seg .now) (inTable (earlier .args .variables .now)))
+          (c .before .before .before .is-proper .ensures .0) (not-false _ (c .if1 .left)) (c .before .before .before .is-proper .ensures .1),
+    )
 
 same-length-2 : tie.Need-same-length-2 Inv-loop μ-loop
 same-length-2 c = search needs

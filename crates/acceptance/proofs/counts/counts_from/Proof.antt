@@ -54,14 +54,16 @@ loop-less : tie.Need-loop-less Inv-loop μ-loop
 loop-less c = search needs
 
 loop-again : tie.Need-loop-again Inv-loop μ-loop
-loop-again c =
-    (c .before .before .before .before .before .before .loop .inv .0
-    ∙ rw (c .span-at .ensures, c .before .before .before .of .ensures)
-    (array-passes _ _ _ _ _ (c .before .before .before .before .before .loop-test .taken) (c .before .before .before .before .if1 .left)
-    (rw (c .before .before .before .of .ensures) at (c .before .before .is-counted .ensures)) (not-false _ (c .before .if2 .left))), rw
-    (c .span-at .ensures, c .before .before .before .of .ensures)
-    (λ x k. c .before .before .before .before .before .before .loop .inv .1 x
-    (later-among _ _ _ _ (c .before .before .before .before .before .loop-test .taken) (c .before .before .before .before .if1 .left) x k)))
+loop-again c = (
+  c .before .before .before .before .before .before .loop .inv .0
+      ∙ rw (c .span-at .ensures, c .before .before .before .of .ensures)
+      (array-passes _ _ _ _ _ (c .before .before .before .before .before .loop-test .taken) (c .before .before .before .before .if1 .left)
+      (rw (c .before .before .before .of .ensures) at (c .before .before .is-counted .ensures)) (not-false _ (c .before .if2 .left))),
+  rw
+      (c .span-at .ensures, c .before .before .before .of .ensures)
+      (λ x k. c .before .before .before .before .before .before .loop .inv .1 x
+      (later-among _ _ _ _ (c .before .before .before .before .before .loop-test .taken) (c .before .before .before .before .if1 .left) x k)),
+)
 
 returns-3 : tie.Need-returns-3 Inv-loop μ-loop
 returns-3 c = sym (c .before .loop .inv .0 ∙ arrays-none _ _ _ _ _ (c .loop-test .left))

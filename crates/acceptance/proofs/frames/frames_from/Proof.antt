@@ -75,12 +75,15 @@ loop-less c = search needs
 
 loop-again : tie.Need-loop-again Inv-loop μ-loop
 loop-again c =
-    let earlier = c .before .before .before .before .before in
-    (omega arith, earlier .before .before .before .before .loop .inv .1
-    ∙ rw (c .before .before .before .number .ensures)
-    (further _ _ _ _ _ (earlier .before .before .before .loop-test .taken) (rw (earlier .before .before .of .ensures) at (earlier .before .frame-at .ensures))
-    (sym (earlier .in-its-directory .ensures) ∙ not-false _ (c .before .before .before .before .if1 .left))
-    (λ z. c .before .before .if2 .left (c .before .before .before .number .ensures ∙ z)) (omega arith)))
+    let earlier = c .before .before .before .before .before in (
+      omega arith,
+      earlier .before .before .before .before .loop .inv .1
+          ∙ rw (c .before .before .before .number .ensures)
+          (further _ _ _ _ _ (earlier .before .before .before .loop-test .taken)
+          (rw (earlier .before .before .of .ensures) at (earlier .before .frame-at .ensures))
+          (sym (earlier .in-its-directory .ensures) ∙ not-false _ (c .before .before .before .before .if1 .left))
+          (λ z. c .before .before .if2 .left (c .before .before .before .number .ensures ∙ z)) (omega arith)),
+    )
 
 returns-4 : tie.Need-returns-4 Inv-loop μ-loop
 returns-4 c = sym (c .before .loop .inv .1 ∙ frames-none _ _ _ _ _ (c .loop-test .left))

@@ -57,12 +57,14 @@ loop-less c = search needs
 
 loop-again : tie.Need-loop-again Inv-loop μ-loop
 loop-again c =
-    let earlier = c .before .before .before .before .before .before .before in
-    (omega arith, marked-on (earlier .before .before .before .loop .inv .1) (earlier .before .before .loop-test .taken)
-    (c .before .before .before .before .before .before .minus .ensures
-    ∙ ap (λ (v : ℕ). earlier .before .before .before .loop .base - v) ((rw (earlier .before .of .ensures) at (earlier .frame-at .ensures)) .variables))
-    (c .before .number2 .ensures ∙ (rw (earlier .before .of .ensures) at (earlier .frame-at .ensures)) .last)
-    (c .before .before .before .before .mark .ensures) (c .if1 .left) (search needs))
+    let earlier = c .before .before .before .before .before .before .before in (
+      omega arith,
+      marked-on (earlier .before .before .before .loop .inv .1) (earlier .before .before .loop-test .taken)
+          (c .before .before .before .before .before .before .minus .ensures
+          ∙ ap (λ (v : ℕ). earlier .before .before .before .loop .base - v) ((rw (earlier .before .of .ensures) at (earlier .frame-at .ensures)) .variables))
+          (c .before .number2 .ensures ∙ (rw (earlier .before .of .ensures) at (earlier .frame-at .ensures)) .last)
+          (c .before .before .before .before .mark .ensures) (c .if1 .left) (search needs),
+    )
 
 same-length-2 : tie.Need-same-length-2 Inv-loop μ-loop
 same-length-2 c = c .before .loop .inv .1 .long

@@ -38,10 +38,13 @@ loop-less c = search needs
 
 loop-again : tie.Need-loop-again Inv-loop μ-loop
 loop-again c =
-    let earlier = c .before .before .before .before in
-    (omega arith, rw (c .before .before .lower .ensures)
-    (unmarking-on (earlier .before .loop .inv .1) (earlier .loop-test .taken)
-    (rw (earlier .before .before .before .number .ensures, earlier .before .before .number2 .ensures) (earlier .before .before .before .before .before .pre))))
+    let earlier = c .before .before .before .before in (
+      omega arith,
+      rw (c .before .before .lower .ensures)
+          (unmarking-on (earlier .before .loop .inv .1) (earlier .loop-test .taken)
+          (rw (earlier .before .before .before .number .ensures, earlier .before .before .number2 .ensures)
+          (earlier .before .before .before .before .before .pre))),
+    )
 
 same-length : tie.Need-same-length Inv-loop μ-loop
 same-length c = c .before .loop .inv .1 .long

@@ -26,8 +26,13 @@ returns-3 c = sym (freeSpan-no _ _ _ _ (c .before .before .before .before .befor
 
 returns-4 : tie.Need-returns-4
 returns-4 c =
-    sym (freeSpan-yes _ _ _ _ (record { alone = c .before .before .before .if1 .left; least = c .before .before .if2 .left; first = omega arith; end = sym
-    (c .before .word .ensures) ∙ c .if3 .left }))
+    sym (freeSpan-yes _ _ _ _ (record {
+      alone = c .before .before .before .if1 .left;
+      least = c .before .before .if2 .left;
+      first = omega arith;
+      end = sym
+          (c .before .word .ensures) ∙ c .if3 .left;
+    }))
 
 pub free-span-spec : {M : Type 1} → statement M
 free-span-spec =

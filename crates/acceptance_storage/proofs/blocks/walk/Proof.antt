@@ -87,10 +87,16 @@ add-found : tie.Need-add-found Inv-loop μ-loop
 add-found c =
     let earlier = c .before .before .before .before .before .before .before .before .before .before .before .before .before .before .before in
     record {
-  fits = omega (arith, c .before .before .before .before .mark .ensures .0, one-at-most
-  (c .before .before .before .before .before .before .before .free-at .result), walking-found (earlier .before .before .before .before .pre)
-  (earlier .loop .inv .2), earlier .before .before .before .before .pre .longest)
-}
+      fits = omega (
+        arith,
+        c .before .before .before .before .mark .ensures .0,
+        one-at-most
+            (c .before .before .before .before .before .before .before .free-at .result),
+        walking-found (earlier .before .before .before .before .pre)
+            (earlier .loop .inv .2),
+        earlier .before .before .before .before .pre .longest,
+      );
+    }
 
 add-a : tie.Need-add-a Inv-loop μ-loop
 add-a c = search needs

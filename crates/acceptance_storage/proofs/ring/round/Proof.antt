@@ -29,9 +29,11 @@ same-length c = search needs
 
 returns : tie.Need-returns Inv-loop μ-loop
 returns c =
-    let unlinked = sym (c .before .linked-to .ensures) ∙ not-true _ (c .if1 .taken) in
-    (sym (round-bad _ _ _ _ _ _ (c .before .before .before .before .loop .inv .1) (c .before .before .before .loop-test .taken) _
-    (c .before .before .next-at .ensures .0) unlinked), λ t. absurd (never t))
+    let unlinked = sym (c .before .linked-to .ensures) ∙ not-true _ (c .if1 .taken) in (
+      sym (round-bad _ _ _ _ _ _ (c .before .before .before .before .loop .inv .1) (c .before .before .before .loop-test .taken) _
+          (c .before .before .next-at .ensures .0) unlinked),
+      λ t. absurd (never t),
+    )
 
 index-requires : tie.Need-index-requires Inv-loop μ-loop
 index-requires c κs = search needs
@@ -78,9 +80,11 @@ same-length-3 : tie.Need-same-length-3 Inv-loop μ-loop
 same-length-3 c = search needs
 
 returns-3 : tie.Need-returns-3 Inv-loop μ-loop
-returns-3 c =
-    (c .linked-to2 .ensures ∙ sym (round-last _ _ _ _ _ _ (c .before .before .loop .inv .1) (omega arith)), λ t. round-clear _ _ _ _ _ _
-    (c .before .before .loop .inv .1) (omega arith))
+returns-3 c = (
+  c .linked-to2 .ensures ∙ sym (round-last _ _ _ _ _ _ (c .before .before .loop .inv .1) (omega arith)),
+  λ t. round-clear _ _ _ _ _ _
+      (c .before .before .loop .inv .1) (omega arith),
+)
 
 pub round-spec : {M : Type 1} → statement M
 round-spec =
