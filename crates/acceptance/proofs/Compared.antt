@@ -24,7 +24,7 @@ use Rattle.acceptance_storage.proofs.Starts.{starts-few, starts-end, array-hit,
 use Rattle.acceptance_storage.proofs.Tiling.{Tiled, walk-starts}
 use Rattle.acceptance_storage.proofs.Structure.{blocks-facts, walk-tiles}
 use Rattle.acceptance.specs.Counts.{countTest, countsTest}
-use Rattle.acceptance.specs.Tables.{Tallied, Met}
+use Rattle.acceptance.specs.Tables.{Tallied, arraysFrom, Met}
 
 module _ (test : ℕ → Bool) (s : List ℕ) (a end n : ℕ) where
   pub arrays-none : n ≤ 0 → every test (startsFrom false n s a end) ≡ true
@@ -129,6 +129,6 @@ all-tallied s {before} {after} h l t z m x k =
     omega (arith, o .0, z x, m .sum x (o .1) (omega (arith, o .0, z x)))
 
 pub counts-are : (s : List ℕ) (from end : ℕ) → from ≡ blockptr s → end ≡ dummy s
-    → every (countTest s (owners s)) (startsFrom false (length s) s from end) ≡ countsTest s
+    → every (countTest s (owners s)) (arraysFrom s from end) ≡ countsTest s
 unfolding countsTest arrayStarts
 counts-are s from end p q = rw (p, q)

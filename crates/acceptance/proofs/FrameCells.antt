@@ -21,7 +21,7 @@ use Rattle.acceptance_storage.specs.Blocks.{arrayStarts}
 use Rattle.acceptance_storage.specs.Marks.{Tally}
 use Rattle.acceptance.specs.Frames.{arguments, variables}
 use Rattle.acceptance.specs.Cells.{range, inTable, inList, direct, plainCell, freeCell, variablesFrom, frameCells, cellsFrom, cellsTest}
-use Rattle.acceptance.specs.Tables.{Gains, CanRise, lacking, Met, cellsOfFrame, frameTest}
+use Rattle.acceptance.specs.Tables.{Gains, CanRise, lacking, Met, stackTest, cellsOfFrame, frameTest}
 use Rattle.acceptance.specs.Before.{BeforeFrame}
 use Rattle.acceptance.proofs.Meeting.{direct-alike, free-alike, met-then}
 use Rattle.acceptance.proofs.Tallies.{part-join}
@@ -76,7 +76,8 @@ module _ {s t₀ m₀ : List ℕ} {args start base top : ℕ} (h : BeforeFrame s
       lent s (stack + base + 2) (stack + top) (sbase s + base + 2) (top - (base + 2)) (omega arith) (omega (arith, h .over)) (omega (arith, h .inside))
 
   arguments-are : Lent s (stack + start) (stack + start + args) ≡ part s (sbase s + start) args
-  arguments-are = lent s (stack + start) (stack + start + args) (sbase s + start) args (omega arith) (omega arith) (omega (arith, h .arguments, h .over, h .inside))
+  arguments-are =
+      lent s (stack + start) (stack + start + args) (sbase s + start) args (omega arith) (omega arith) (omega (arith, h .arguments, h .over, h .inside))
 
   locals-are : Lent s (stack + start + args) (stack + base) ≡ part s (sbase s + start + args) (base - (start + args))
   locals-are =
@@ -146,7 +147,8 @@ module _ {s t₀ m₀ : List ℕ} {args start base top : ℕ} (h : BeforeFrame s
               unfolding frameCells
               locals-left =
                   f₃ .0
-                  ∙ every-alike (direct (inTable t₂)) (direct (inTable t₀)) (direct-alike (inTable t₀) (inTable t₂) (λ x. f₂ .1 .0 yes₂ .same x ∙ f₁ .1 .0 yes₁ .same x))
+                  ∙ every-alike (direct (inTable t₂)) (direct (inTable t₀))
+                  (direct-alike (inTable t₀) (inTable t₂) (λ x. f₂ .1 .0 yes₂ .same x ∙ f₁ .1 .0 yes₁ .same x))
                   (Lent s (stack + start + args) (stack + base))
                   ∙ sym (simp (temporaries-pass yes₁, arguments-pass yes₂)
                   (words-every (base - (start + args)) (direct (inTable t₀)) s (sbase s + start + args) ∙ ap (every (direct (inTable t₀))) (sym locals-are)))
@@ -155,7 +157,8 @@ module _ {s t₀ m₀ : List ℕ} {args start base top : ℕ} (h : BeforeFrame s
               frame-met e =
                   let n : base - start ≡ args + (base - (start + args)) = omega (arith, h .arguments) in
                   met-then (rw temporaries-are at (f₁ .1 .0 yes₁))
-                  (rw (n, ← part-join s (sbase s + start) args (base - (start + args))) (met-then (rw arguments-are at (f₂ .1 .0 yes₂)) (rw locals-are at (f₃ .1 .0 e))))
+                  (rw (n, ← part-join s (sbase s + start) args (base - (start + args)))
+                  (met-then (rw arguments-are at (f₂ .1 .0 yes₂)) (rw locals-are at (f₃ .1 .0 e))))
 
               room-left : r₃ ≡ true → CanRise t₃ start
               room-left e x = omega (
@@ -281,9 +284,10 @@ module _ (s regular alternate arrays : List ℕ) (marked : Tally arrays (arraySt
     globals-fail e = simp (sym globals ∙ run (direct (inTable arrays)) s 8 (blockptr s - 8) p e)
 
     pub globals-pass : every (plainCell (inTable arrays)) l ≡ true → {after : List ℕ} → Met arrays after l
-        → cellsTest s regular alternate ≡ cellsFrom (length s) (arguments regular alternate) (variables regular alternate) s (inTable after) (lbase s) (ltop s + 1)
+        → cellsTest s regular alternate ≡ stackTest s regular alternate (inTable after) (lbase s) (ltop s + 1)
     unfolding cellsTest
     globals-pass e {after} m =
         simp (sym globals ∙ run (direct (inTable arrays)) s 8 (blockptr s - 8) p e)
-        (sym (ap (λ (h : ℕ → ℕ). cellsFrom (length s) (arguments regular alternate) (variables regular alternate) s h (lbase s) (ltop s + 1)) (same-answers arrays (arrayStarts s) marked))
-        ∙ sym (cells-alike (inTable arrays) (inTable after) (m .same) (length s) (arguments regular alternate) (variables regular alternate) s (lbase s) (ltop s + 1)))
+        (sym (ap (λ (h : ℕ → ℕ). stackTest s regular alternate h (lbase s) (ltop s + 1)) (same-answers arrays (arrayStarts s) marked))
+        ∙ sym (cells-alike (inTable arrays) (inTable after) (m .same) (length s) (arguments regular alternate) (variables regular alternate) s
+        (lbase s) (ltop s + 1)))

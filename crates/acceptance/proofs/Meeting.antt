@@ -1,7 +1,7 @@
 -- Cells met one after the other: each is one mark more at the array that it points to.
 use Prim.Native.Nat.{ℕ, _+_, _/_, _%_, _^_, _<_, _≤_}
-use mathlib.Core.Path.{_≡_, refl, sym, _∙_}
-use mathlib.Core.Bool.{Bool, true, false, cond, _&&_}
+use mathlib.Core.Path.{_≡_, refl, sym, _∙_, ap}
+use mathlib.Core.Bool.{Bool, true, false, cond, not, _&&_}
 use mathlib.Core.List.{List, [], _∷_, _++_}
 use mathlib.Core.Logic.{⊎-elim}
 use native.Mathlib.Numerals.{add-one}
@@ -9,17 +9,19 @@ use native.Mathlib.Omega.{arith}
 use lib.ListN.{getD, set, length, drop, drop-of-length-le, List·getD-eq-default}
 use lib.Seq.{drop-cons}
 use lib.Dec.{leb, eqb}
-use borrow.Author.Tests.{leb-true, leb-false, eqb-true, eqb-false, le-leb, lt-leb, eq-eqb, ne-eqb}
+use borrow.Author.Tests.{leb-true, leb-false, eqb-true, eqb-false, le-leb, lt-leb, le-ltb, lt-ltb, eq-eqb, ne-eqb}
 use Rattle.descriptor.specs.Fields.{integerLimit, isArray, address, arrayWord, undefinedWord}
 use Rattle.descriptor.specs.Kinds.{isScalar}
 use Rattle.descriptor.proofs.Scalars.{small-scalar, large-scalar}
+use Rattle.segment.specs.State.{blockptr}
+use Rattle.segment.specs.Stack.{stackAt}
 use Rattle.storage.specs.Heap.{hit, count}
 use Rattle.storage_theorems.proofs.Counts.{hit-cases, hit-not, count-append}
 use Rattle.acceptance_storage.specs.Tests.{every}
 use Rattle.acceptance_storage.proofs.Tests.{every-on, every-bad, every-end}
 use Rattle.acceptance_storage.proofs.Tallies.{inside-table, raise-at}
-use Rattle.acceptance.specs.Cells.{inTable, direct, freeCell}
-use Rattle.acceptance.specs.Tables.{meet, Met}
+use Rattle.acceptance.specs.Cells.{inTable, isIndirect, direct, pointing, freeCell}
+use Rattle.acceptance.specs.Tables.{CanRise, meet, Met}
 
 -- A word is the array's at `x` where it is an array's word and that is its address.
 module _ (x w : ℕ) (small : x < 2 ^ 16) where
@@ -142,7 +144,7 @@ module _ {test : (ℕ → ℕ) → ℕ → Bool} {before table cells : List ℕ}
   )
 
   module _ (l : i < length cells) where
-    pub meeting-room : ((x : ℕ) → getD before x 0 + length cells < 65536) → (x : ℕ) → getD table x 0 < 65535
+    pub meeting-room : CanRise before (length cells) → (x : ℕ) → getD table x 0 < 65535
     meeting-room r x = omega (arith, r x, h .most x)
 
     module _ (marks : ByMarks test) {r : Bool} (q : r ≡ test (inTable table) (getD cells i 0)) where
@@ -198,3 +200,37 @@ module _ (arrays : ℕ → ℕ) (w : ℕ) (fits : w < 2 ^ 32) where
       go : (b : Bool) → b ≡ cond b true (cond (eqb w undefinedWord) true (isArray w && leb 1 (arrays (address w))))
       go true = refl
       go false = simp (ne-eqb w undefinedWord u, ne-eqb (w / 2 ^ 16) 0x200 k)
+
+-- An indirect word in the order of the code: `r` and `t` say what is indirect, the word and the one that it names.
+module _ (s : List ℕ) (variable : ℕ → ℕ) (w : ℕ) {r : Bool} (i : r ≡ isIndirect w) where
+  pub pointing-not : r ≡ false → false ≡ pointing s variable w
+  unfolding pointing
+  pointing-not e = simp (sym i ∙ e)
+
+  module _ (yes : r ≡ true) where
+    module _ (g : w / 2 ^ 16 % 2 ≡ 1) where
+      pub pointing-low : address w < 8 → false ≡ pointing s variable w
+      unfolding pointing
+      pointing-low l = simp (sym i ∙ yes, eq-eqb (w / 2 ^ 16 % 2) 1 g, lt-leb 8 (address w) l)
+
+      module _ (l : 8 ≤ address w) {end : ℕ} (e : end ≡ blockptr s) where
+        pub pointing-high : end ≤ address w → false ≡ pointing s variable w
+        unfolding pointing
+        pointing-high h = simp (sym i ∙ yes, eq-eqb (w / 2 ^ 16 % 2) 1 g, le-leb 8 (address w) l, le-ltb (address w) (blockptr s) (rw e at h))
+
+        pub pointing-global : address w < end → {at word : ℕ} {t : Bool} → at ≡ address w → word ≡ getD s at 0 → t ≡ isIndirect word → not t ≡ pointing s variable w
+        unfolding pointing
+        pointing-global h a b q =
+            ap not (q ∙ ap isIndirect (b ∙ ap (λ (k : ℕ). getD s k 0) a))
+            ∙ sym (simp (sym i ∙ yes, eq-eqb (w / 2 ^ 16 % 2) 1 g, le-leb 8 (address w) l, lt-ltb (address w) (blockptr s) (rw e at h)))
+
+    module _ (g : w / 2 ^ 16 % 2 ≡ 1 → ⊥) {mark : ℕ} (m : mark ≡ variable (address w)) where
+      pub pointing-unmarked : mark < 1 → false ≡ pointing s variable w
+      unfolding pointing
+      pointing-unmarked l = simp (sym i ∙ yes, ne-eqb (w / 2 ^ 16 % 2) 1 g, lt-leb 1 (variable (address w)) (rw m at l))
+
+      pub pointing-variable : 1 ≤ mark → {at word : ℕ} {t : Bool} → at ≡ address w → word ≡ stackAt s at → t ≡ isIndirect word → not t ≡ pointing s variable w
+      unfolding pointing
+      pointing-variable l a b q =
+          ap not (q ∙ ap isIndirect (b ∙ ap (stackAt s) a))
+          ∙ sym (simp (sym i ∙ yes, ne-eqb (w / 2 ^ 16 % 2) 1 g, le-leb 1 (variable (address w)) (rw m at l)))

@@ -173,4 +173,6 @@ module _ (s : List ℕ) (a : ℕ) where
           ap (every isScalar) (elements-is z) ∙ sym (array-inside ∙ array-open s a (sym e ∙ rank-is) (omega (arith, rank-is)) (k .0) z)
         where
           elements-is : sizeAt s a ≡ 2 + rankAt s a + product (shapeAt s a) → take (a + sizeAt s a - (a + 2 + rank)) (drop (a + 2 + rank) s) ≡ elementsAt s a
-          elements-is z = part-of s (a + 2 + rank) (a + sizeAt s a) (product (shapeAt s a)) (omega (arith, rank-is)) fits ∙ elements-at s a (a + 2 + rank) (ap (λ (n : ℕ). a + 2 + n) rank-is)
+          elements-is z =
+              part-of s (a + 2 + rank) (a + sizeAt s a) (product (shapeAt s a)) (omega (arith, rank-is)) fits
+              ∙ elements-at s a (a + 2 + rank) (ap (λ (n : ℕ). a + 2 + n) rank-is)

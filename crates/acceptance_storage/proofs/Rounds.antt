@@ -119,7 +119,8 @@ module _ (marks : List ℕ) (at end : ℕ) where
   on-mark e = let k : getD marks at 0 ≡ hit at end + getD marks at 0 = omega (arith, hit-not at end e) in ap (leb 1) k
 
 -- test 15, with the values that the code has in hand
-pub on-round : (s : List ℕ) → leb 1 (count (rover s) (dummy s ∷ freeStarts s)) ≡ true → ringTest s ≡ roundFrom (length (freeStarts s)) s (dummy s) (dummy s) (freeStarts s)
+pub on-round : (s : List ℕ) → leb 1 (count (rover s) (dummy s ∷ freeStarts s)) ≡ true
+    → ringTest s ≡ roundFrom (length (freeStarts s)) s (dummy s) (dummy s) (freeStarts s)
 unfolding ringTest
 on-round s e = rw e (and-true (roundFrom (length (freeStarts s)) s (dummy s) (dummy s) (freeStarts s)))
 

@@ -35,7 +35,16 @@ head-sound s h =
 pub head-complete : (s : List ℕ) → Head s → headTest s ≡ true
 unfolding headTest
 head-complete s h =
-    simp (lt-ltb _ _ (h .flagBits), lt-ltb _ _ (h .trapBits), le-leb _ _ (h .low), eq-eqb _ _ (h .word5), eq-eqb _ _ (h .word6), eq-eqb _ _ (h .word7), le-leb _ _ (h .room), lt-ltb _ _ (h .top))
+    simp (
+      lt-ltb _ _ (h .flagBits),
+      lt-ltb _ _ (h .trapBits),
+      le-leb _ _ (h .low),
+      eq-eqb _ _ (h .word5),
+      eq-eqb _ _ (h .word6),
+      eq-eqb _ _ (h .word7),
+      le-leb _ _ (h .room),
+      lt-ltb _ _ (h .top),
+    )
 
 pub head-fails : (s : List ℕ) → (Head s → ⊥) → false ≡ headTest s
 head-fails s h = sym (fails (headTest s) (λ t. h (head-sound s t)))

@@ -32,7 +32,8 @@ module _ (s arrays frees : List ℕ) where
   unfolding blocksAnswer
   improper e = (simp e, λ t. absurd (never (sym e ∙ t)))
 
-  pub proper : (found : ℕ) → blocksTest s ≡ true → found ≡ length (freeStarts s) → Marked s arrays frees → (Proper found ≡ blocksAnswer s) × (blocksTest s ≡ true → Marked s arrays frees)
+  pub proper : (found : ℕ) → blocksTest s ≡ true → found ≡ length (freeStarts s) → Marked s arrays frees
+      → (Proper found ≡ blocksAnswer s) × (blocksTest s ≡ true → Marked s arrays frees)
   unfolding blocksAnswer
   proper found e n m = (rw n (simp e), λ t. m)
 
@@ -41,7 +42,8 @@ unfolding blocksTest
 dummy-bad s end e h = simp (ne-eqb (getD s (dummy s + 2) 0) 0 (rw e at h), and-false (walkTest s))
 
 -- a block that fits is stepped over by its SIZE and SLOP
-pub steps : (s : List ℕ) (a : ℕ) (before : Bool) (end : ℕ) → (blockSpan s a before ≡ 0 → ⊥) → a + blockSpan s a before ≤ end → end < 2 ^ 16 → spanAt s a ≡ blockSpan s a before
+pub steps : (s : List ℕ) (a : ℕ) (before : Bool) (end : ℕ) → (blockSpan s a before ≡ 0 → ⊥) → a + blockSpan s a before ≤ end → end < 2 ^ 16
+    → spanAt s a ≡ blockSpan s a before
 steps s a before end h l m = let b = a-block s a before h (omega arith) in b .2 .steps ∙ sym (b .2 .covers)
 
 pub record Walking (s arrays frees : List ℕ) (a : ℕ) (before : Bool) (found : ℕ) : Type 0 where
@@ -228,7 +230,8 @@ module _ {s arrays₀ frees₀ : List ℕ} {from end : ℕ} (g : BeforeWalk s ar
                 }
 
             marked : (free : Bool) → freeAt s a ≡ free
-                → Walking s (cond free arrays (set arrays a (getD arrays a 0 + 1))) (cond free (set frees a (getD frees a 0 + 1)) frees) (a + span) free (found + cond free 1 0)
+                → Walking s (cond free arrays (set arrays a (getD arrays a 0 + 1))) (cond free (set frees a (getD frees a 0 + 1)) frees)
+                (a + span) free (found + cond free 1 0)
             marked true f = free-on f
             marked false f = let e : found + 0 ≡ found = omega arith in rw e (array-on f)
 

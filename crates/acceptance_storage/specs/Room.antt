@@ -1,6 +1,6 @@
 -- Whether array storage can serve a request: "no free block long enough" (document 01's table, 24), "full with a long block
 -- free" (its Agreement, where blocks are those that "the walk from BLOCKPTR" reaches). It is HasRoom of the blocks that are
--- stored (heap/specs/Words.antt); proofs/Room.antt proves that. A reader must believe: `longEnough`. Assumes nothing.
+-- stored (storage_theorems/specs/Words.antt); proofs/Room.antt proves that. A reader must believe: `longEnough`. Assumes nothing.
 use Prim.Native.Nat.{ℕ}
 use mathlib.Core.Bool.{Bool, true, false, cond}
 use mathlib.Core.List.{List, [], _∷_}

@@ -10,10 +10,15 @@ judge-data-spec =
     tie.close
     (tie.spec
     (λ c κs. search needs)
-    (λ c. table-13 (c .before .before .before .before .before .args .seg .now) (c .before .before .before .before .before .args .regular .now) (c .before .before .before .before .before .args .alternate .now) (sym (c .before .head-test .ensures) ∙ not-true _ (c .if1 .taken)))
+    (λ c. table-13 (c .before .before .before .before .before .args .seg .now) (c .before .before .before .before .before .args .regular .now)
+    (c .before .before .before .before .before .args .alternate .now) (sym (c .before .head-test .ensures) ∙ not-true _ (c .if1 .taken)))
     (λ c κs. (sym (c .before .before .head-test .ensures) ∙ not-false _ (c .before .if1 .left), (c .if2 .taken)))
     (λ c. search needs)
     (λ c κs. (sym (c .before .before .before .head-test .ensures) ∙ not-false _ (c .before .before .if1 .left), (c .if3 .taken)))
     (λ c. search needs)
-    (λ c κs. (sym (c .before .before .before .head-test .ensures) ∙ not-false _ (c .before .before .if1 .left), (c .before .before .before .before .before .before .before .pre)))
+    (λ c κs. (
+      sym (c .before .before .before .head-test .ensures)
+          ∙ not-false _ (c .before .before .if1 .left),
+      (c .before .before .before .before .before .before .before .pre),
+    ))
     (λ c. search needs))

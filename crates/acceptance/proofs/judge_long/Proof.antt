@@ -10,5 +10,12 @@ judge-long-spec =
     (tie.spec
     (λ c. search needs)
     (λ c. search needs)
-    (λ c κs. ((c .before .before .before .before .before .pre .0), omega (arith, (c .before .before .before .before .before .pre .1)), record { long = omega (arith, (c .before .before .before .before .before .pre .1)); empty = zeros 16384 }, record { long = omega (arith, (c .before .before .before .before .before .pre .1)); empty = zeros 16384 }))
+    (λ c κs. (
+      (c .before .before .before .before .before .pre .0),
+      omega (arith, (c .before .before .before .before .before .pre .1)),
+      record
+          { long = omega (arith, (c .before .before .before .before .before .pre .1)); empty = zeros 16384 },
+      record
+          { long = omega (arith, (c .before .before .before .before .before .pre .1)); empty = zeros 16384 },
+    ))
     (λ c. search needs))

@@ -16,9 +16,11 @@ same-length c = search needs
 
 returns : tie.Need-returns
 returns c =
-    let a = c .before .before .before .before .before .before .before .before .before .before .args in
-    let h = c .before .before .before .before .before .before .before .before .before .before .pre in
-    table-15 (a .seg .now) (a .regular .now) (a .alternate .now) (h .head) (h .blocks) (sym (c .before .before .before .ring-test .ensures .0) ∙ not-true _ (c .if1 .taken))
+    let earlier = c .before .before .before .before .before .before .before .before .before .before in
+    let a = earlier .args in
+    let h = earlier .pre in
+    table-15 (a .seg .now) (a .regular .now) (a .alternate .now) (h .head) (h .blocks)
+    (sym (c .before .before .before .ring-test .ensures .0) ∙ not-true _ (c .if1 .taken))
 
 frames-test-requires : tie.Need-frames-test-requires
 frames-test-requires c κs = search needs
@@ -28,18 +30,21 @@ same-length-2 c = search needs
 
 returns-2 : tie.Need-returns-2
 returns-2 c =
-    let a = c .before .before .before .before .before .before .before .before .before .before .before .before .args in
-    let h = c .before .before .before .before .before .before .before .before .before .before .before .before .pre in
+    let earlier = c .before .before .before .before .before .before .before .before .before .before .before .before in
+    let a = earlier .args in
+    let h = earlier .pre in
     let ringed = sym (c .before .before .before .before .before .ring-test .ensures .0) ∙ not-false _ (c .before .before .if1 .left) in
-    table-16 (a .seg .now) (a .regular .now) (a .alternate .now) (h .head) (h .blocks) ringed (sym (c .before .frames-test .ensures) ∙ not-true _ (c .if2 .taken))
+    table-16 (a .seg .now) (a .regular .now) (a .alternate .now) (h .head) (h .blocks) ringed
+    (sym (c .before .frames-test .ensures) ∙ not-true _ (c .if2 .taken))
 
 cells-test-requires : tie.Need-cells-test-requires
 cells-test-requires c κs =
-    let a = c .before .before .before .before .before .before .before .before .before .before .before .before .before .before .args in
-    let h = c .before .before .before .before .before .before .before .before .before .before .before .before .before .before .pre in
-    let ringed = sym (c .before .before .before .before .before .before .before .ring-test .ensures .0) ∙ not-false _ (c .before .before .before .before .if1 .left) in
+    let earlier = c .before .before .before .before .before .before .before in
+    let a = earlier .before .before .before .before .before .before .before .args in
+    let h = earlier .before .before .before .before .before .before .before .pre in
+    let ringed = sym (earlier .ring-test .ensures .0) ∙ not-false _ (c .before .before .before .before .if1 .left) in
     let framed = sym (c .before .before .before .frames-test .ensures) ∙ not-false _ (c .before .before .if2 .left) in
-    let clear = c .before .before .before .before .before .before .before .ring-test .ensures .1 ringed in
+    let clear = earlier .ring-test .ensures .1 ringed in
     record {
       head = head-sound (a .seg .now) (h .head);
       longest = h .longest;
@@ -56,17 +61,21 @@ same-length-4 c = search needs
 
 returns-3 : tie.Need-returns-3
 returns-3 c =
-    let a = c .before .before .before .before .before .before .before .before .before .before .before .before .before .before .before .before .before .before .before .before .args in
-    let h = c .before .before .before .before .before .before .before .before .before .before .before .before .before .before .before .before .before .before .before .before .pre in
-    let ringed = sym (c .before .before .before .before .before .before .before .before .before .before .before .before .before .ring-test .ensures .0) ∙ not-false _ (c .before .before .before .before .before .before .before .before .before .before .if1 .left) in
-    let framed = sym (c .before .before .before .before .before .before .before .before .before .frames-test .ensures) ∙ not-false _ (c .before .before .before .before .before .before .before .before .if2 .left) in
-    table-17 (a .seg .now) (a .regular .now) (a .alternate .now) (h .head) (h .blocks) ringed framed (sym (c .before .before .before .before .before .cells-test .ensures .0) ∙ not-true _ (c .if3 .taken))
+    let earlier = c .before .before .before .before .before .before .before .before in
+    let a = earlier .before .before .before .before .before .before .before .before .before .before .before .before .args in
+    let h = earlier .before .before .before .before .before .before .before .before .before .before .before .before .pre in
+    let ringed = sym (earlier .before .before .before .before .before .ring-test .ensures .0) ∙ not-false _ (earlier .before .before .if1 .left) in
+    let framed = sym (earlier .before .frames-test .ensures) ∙ not-false _ (earlier .if2 .left) in
+    table-17 (a .seg .now) (a .regular .now) (a .alternate .now) (h .head) (h .blocks) ringed framed
+    (sym (c .before .before .before .before .before .cells-test .ensures .0) ∙ not-true _ (c .if3 .taken))
 
 counts-test-requires : tie.Need-counts-test-requires
 counts-test-requires c κs =
-    let a = c .before .before .before .before .before .before .before .before .before .before .before .before .before .before .before .before .before .before .before .before .before .args in
-    let h = c .before .before .before .before .before .before .before .before .before .before .before .before .before .before .before .before .before .before .before .before .before .pre in
-    all-tallied (a .seg .now) (head-sound (a .seg .now) (h .head)) (h .longest) (h .blocks) (h .marked .arrayMarks) (c .before .before .before .before .before .before .cells-test .ensures .1 (not-false _ (c .before .if3 .left)))
+    let tested = c .before .before .before .before .before .before in
+    let a = tested .before .before .before .before .before .before .before .before .before .before .before .before .before .before .before .args in
+    let h = tested .before .before .before .before .before .before .before .before .before .before .before .before .before .before .before .pre in
+    let met = tested .cells-test .ensures .1 (not-false _ (c .before .if3 .left)) in
+    all-tallied (a .seg .now) (head-sound (a .seg .now) (h .head)) (h .longest) (h .blocks) (h .marked .arrayMarks) met
 
 same-length-5 : tie.Need-same-length-5
 same-length-5 c = search needs
@@ -76,12 +85,15 @@ same-length-6 c = search needs
 
 returns-4 : tie.Need-returns-4
 returns-4 c =
-    let a = c .before .before .before .before .before .before .before .before .before .before .before .before .before .before .before .before .before .before .before .before .before .before .before .args in
-    let h = c .before .before .before .before .before .before .before .before .before .before .before .before .before .before .before .before .before .before .before .before .before .before .before .pre in
-    let ringed = sym (c .before .before .before .before .before .before .before .before .before .before .before .before .before .before .before .before .ring-test .ensures .0) ∙ not-false _ (c .before .before .before .before .before .before .before .before .before .before .before .before .before .if1 .left) in
-    let framed = sym (c .before .before .before .before .before .before .before .before .before .before .before .before .frames-test .ensures) ∙ not-false _ (c .before .before .before .before .before .before .before .before .before .before .before .if2 .left) in
-    let celled = sym (c .before .before .before .before .before .before .before .before .cells-test .ensures .0) ∙ not-false _ (c .before .before .before .if3 .left) in
-    table-18 (a .seg .now) (a .regular .now) (a .alternate .now) (h .head) (h .blocks) ringed framed celled (sym (c .before .counts-test .ensures) ∙ not-true _ (c .if4 .taken))
+    let earlier = c .before .before .before .before .before .before .before .before .before .before .before in
+    let a = earlier .before .before .before .before .before .before .before .before .before .before .before .before .args in
+    let h = earlier .before .before .before .before .before .before .before .before .before .before .before .before .pre in
+    let ringed = sym (earlier .before .before .before .before .before .ring-test .ensures .0) ∙ not-false _ (earlier .before .before .if1 .left) in
+    let framed = sym (earlier .before .frames-test .ensures) ∙ not-false _ (earlier .if2 .left) in
+    let celled = sym (c .before .before .before .before .before .before .before .before .cells-test .ensures .0)
+    ∙ not-false _ (c .before .before .before .if3 .left) in
+    table-18 (a .seg .now) (a .regular .now) (a .alternate .now) (h .head) (h .blocks) ringed framed celled
+    (sym (c .before .counts-test .ensures) ∙ not-true _ (c .if4 .taken))
 
 same-length-7 : tie.Need-same-length-7
 same-length-7 c = search needs
@@ -91,12 +103,15 @@ same-length-8 c = search needs
 
 returns-5 : tie.Need-returns-5
 returns-5 c =
-    let a = c .before .before .before .before .before .before .before .before .before .before .before .before .before .before .before .before .before .before .before .before .before .before .before .args in
-    let h = c .before .before .before .before .before .before .before .before .before .before .before .before .before .before .before .before .before .before .before .before .before .before .before .pre in
-    let ringed = sym (c .before .before .before .before .before .before .before .before .before .before .before .before .before .before .before .before .ring-test .ensures .0) ∙ not-false _ (c .before .before .before .before .before .before .before .before .before .before .before .before .before .if1 .left) in
-    let framed = sym (c .before .before .before .before .before .before .before .before .before .before .before .before .frames-test .ensures) ∙ not-false _ (c .before .before .before .before .before .before .before .before .before .before .before .if2 .left) in
-    let celled = sym (c .before .before .before .before .before .before .before .before .cells-test .ensures .0) ∙ not-false _ (c .before .before .before .if3 .left) in
-    table-0 (a .seg .now) (a .regular .now) (a .alternate .now) (h .head) (h .blocks) ringed framed celled (sym (c .before .counts-test .ensures) ∙ not-false _ (c .if4 .left))
+    let earlier = c .before .before .before .before .before .before .before .before .before .before .before in
+    let a = earlier .before .before .before .before .before .before .before .before .before .before .before .before .args in
+    let h = earlier .before .before .before .before .before .before .before .before .before .before .before .before .pre in
+    let ringed = sym (earlier .before .before .before .before .before .ring-test .ensures .0) ∙ not-false _ (earlier .before .before .if1 .left) in
+    let framed = sym (earlier .before .frames-test .ensures) ∙ not-false _ (earlier .if2 .left) in
+    let celled = sym (c .before .before .before .before .before .before .before .before .cells-test .ensures .0)
+    ∙ not-false _ (c .before .before .before .if3 .left) in
+    table-0 (a .seg .now) (a .regular .now) (a .alternate .now) (h .head) (h .blocks) ringed framed celled
+    (sym (c .before .counts-test .ensures) ∙ not-false _ (c .if4 .left))
 
 pub judge-marked-spec : {M : Type 1} → statement M
 judge-marked-spec =

@@ -19,16 +19,17 @@ enum-known-frees c = search needs
 
 judge-marked-requires : tie.Need-judge-marked-requires
 judge-marked-requires c κs =
-    let a = c .before .before .before .before .before .before .before .before .before .before .before .before .before .before .before .before .before .args in
-    let h = c .before .before .before .before .before .before .before .before .before .before .before .before .before .before .before .before .before .pre in
-    let k = proper (a .seg .now) (c .before .before .before .before .before .before .before .before .before .blocks-test .ensures .0) _ (c .before .before .before .frees .given .1) in
+    let earlier = c .before .before .before .before .before .before .before .before .before in
+    let a = earlier .before .before .before .before .before .before .before .before .args in
+    let h = earlier .before .before .before .before .before .before .before .before .pre in
+    let k = proper (a .seg .now) (earlier .blocks-test .ensures .0) _ (c .before .before .before .frees .given .1) in
     record {
       head = h .0;
       blocks = k .0;
       longest = h .1;
       long = omega (arith, h .3 .long);
       frees = k .1;
-      marked = c .before .before .before .before .before .before .before .before .before .blocks-test .ensures .1 (k .0);
+      marked = earlier .blocks-test .ensures .1 (k .0);
     }
 
 same-length : tie.Need-same-length
@@ -39,9 +40,11 @@ same-length-2 c = search needs
 
 returns : tie.Need-returns
 returns c =
-    let a = c .before .before .before .before .before .before .before .before .before .before .before .before .before .before .args in
-    let h = c .before .before .before .before .before .before .before .before .before .before .before .before .before .before .pre in
-    table-14 (a .seg .now) (a .regular .now) (a .alternate .now) (h .0) (improper (a .seg .now) (c .before .before .before .before .before .before .blocks-test .ensures .0) (c .enum-told .given .1))
+    let earlier = c .before .before .before .before .before .before .before .before .before .before .before .before .before .before in
+    let a = earlier .args in
+    let h = earlier .pre in
+    table-14 (a .seg .now) (a .regular .now) (a .alternate .now) (h .0)
+    (improper (a .seg .now) (c .before .before .before .before .before .before .blocks-test .ensures .0) (c .enum-told .given .1))
 
 same-length-3 : tie.Need-same-length-3
 same-length-3 c = search needs

@@ -27,36 +27,55 @@ number-requires : tie.Need-number-requires Inv-loop μ-loop
 number-requires c κs = search needs
 
 sub-start : tie.Need-sub-start Inv-loop μ-loop
-sub-start c = descent-low (c .before .before .before .before .before .before .before .before .before .before .before .pre) (c .before .before .before .before .before .loop .inv .2) (c .before .before .before .before .loop-test .taken) (c .before .before .before .of .ensures) (c .before .before .frame-at .ensures)
+sub-start c =
+    descent-low (c .before .before .before .before .before .before .before .before .before .before .before .pre)
+    (c .before .before .before .before .before .loop .inv .2) (c .before .before .before .before .loop-test .taken) (c .before .before .before .of .ensures)
+    (c .before .before .frame-at .ensures)
 
 cast-frame-cells : tie.Need-cast-frame-cells Inv-loop μ-loop
 cast-frame-cells c = search needs
 
 frame-cells-requires : tie.Need-frame-cells-requires Inv-loop μ-loop
-frame-cells-requires c κs = descent-frame (c .before .before .before .before .before .before .before .before .before .before .before .before .before .before .pre) (c .before .before .before .before .before .before .before .before .loop .inv .2) (c .before .before .before .before .before .before .before .loop-test .taken) (c .before .before .before .before .before .before .of .ensures) (c .before .before .before .before .before .frame-at .ensures)
+frame-cells-requires c κs =
+    let earlier = c .before .before .before .before .before in
+    descent-frame (earlier .before .before .before .before .before .before .before .before .before .pre) (earlier .before .before .before .loop .inv .2)
+    (earlier .before .before .loop-test .taken) (earlier .before .of .ensures) (earlier .frame-at .ensures)
 
 same-length : tie.Need-same-length Inv-loop μ-loop
-same-length c = c .before .before .before .before .arrays .given ∙ c .before .before .before .before .before .before .before .before .before .before .before .before .before .before .loop .inv .0
+same-length c =
+    c .before .before .before .before .arrays .given
+    ∙ c .before .before .before .before .before .before .before .before .before .before .before .before .before .before .loop .inv .0
 
 same-length-2 : tie.Need-same-length-2 Inv-loop μ-loop
-same-length-2 c = c .before .before .marks .given ∙ c .before .before .before .before .before .before .before .before .before .before .before .before .before .before .loop .inv .1
+same-length-2 c =
+    c .before .before .marks .given
+    ∙ c .before .before .before .before .before .before .before .before .before .before .before .before .before .before .loop .inv .1
 
 returns : tie.Need-returns Inv-loop μ-loop
 returns c =
-    let fails = descent-fails (c .before .before .before .before .before .before .before .before .before .before .before .before .before .before .before .before .before .before .before .before .pre) (c .before .before .before .before .before .before .before .before .before .before .before .before .before .before .loop .inv .2) (c .before .before .before .before .before .before .before .before .before .before .before .before .before .loop-test .taken) (c .before .before .before .before .before .before .before .before .before .before .before .before .of .ensures) (c .before .before .before .before .before .before .before .before .before .before .before .frame-at .ensures)
+    let earlier = c .before .before .before .before .before .before .before .before .before .before .before in
+    let fails = descent-fails (earlier .before .before .before .before .before .before .before .before .before .pre)
+    (earlier .before .before .before .loop .inv .2) (earlier .before .before .loop-test .taken) (earlier .before .of .ensures) (earlier .frame-at .ensures)
     (c .before .before .before .before .before .frame-cells .ensures) (not-true _ (c .if1 .taken)) in
     (sym fails, never)
 
 same-length-3 : tie.Need-same-length-3 Inv-loop μ-loop
-same-length-3 c = c .before .before .before .before .before .arrays .given ∙ c .before .before .before .before .before .before .before .before .before .before .before .before .before .before .before .loop .inv .0
+same-length-3 c =
+    c .before .before .before .before .before .arrays .given
+    ∙ c .before .before .before .before .before .before .before .before .before .before .before .before .before .before .before .loop .inv .0
 
 same-length-4 : tie.Need-same-length-4 Inv-loop μ-loop
-same-length-4 c = c .before .before .before .marks .given ∙ c .before .before .before .before .before .before .before .before .before .before .before .before .before .before .before .loop .inv .1
+same-length-4 c =
+    c .before .before .before .marks .given
+    ∙ c .before .before .before .before .before .before .before .before .before .before .before .before .before .before .before .loop .inv .1
 
 returns-2 : tie.Need-returns-2 Inv-loop μ-loop
 returns-2 c =
-    descent-bottom (c .before .before .before .before .before .before .before .before .before .before .before .before .before .before .before .before .before .before .before .before .before .pre) (c .before .before .before .before .before .before .before .before .before .before .before .before .before .before .before .loop .inv .2) (c .before .before .before .before .before .before .before .before .before .before .before .before .before .before .loop-test .taken) (c .before .before .before .before .before .before .before .before .before .before .before .before .before .of .ensures) (c .before .before .before .before .before .before .before .before .before .before .before .before .frame-at .ensures)
-    (c .before .before .before .before .before .before .frame-cells .ensures) (not-false _ (c .before .if1 .left)) (c .before .before .before .before .before .before .before .before .before .before .before .number .ensures) (c .if2 .taken)
+    let earlier = c .before .before .before .before .before .before .before .before .before .before .before in
+    descent-bottom (earlier .before .before .before .before .before .before .before .before .before .before .pre)
+    (earlier .before .before .before .before .loop .inv .2) (earlier .before .before .before .loop-test .taken) (earlier .before .before .of .ensures)
+    (earlier .before .frame-at .ensures)
+    (c .before .before .before .before .before .before .frame-cells .ensures) (not-false _ (c .before .if1 .left)) (earlier .number .ensures) (c .if2 .taken)
 
 sub-left : tie.Need-sub-left Inv-loop μ-loop
 sub-left c = search needs
@@ -66,9 +85,16 @@ loop-less c = search needs
 
 loop-again : tie.Need-loop-again Inv-loop μ-loop
 loop-again c =
-    let on = descent-on (c .before .before .before .before .before .before .before .before .before .before .before .before .before .before .before .before .before .before .before .before .before .pre) (c .before .before .before .before .before .before .before .before .before .before .before .before .before .before .before .loop .inv .2) (c .before .before .before .before .before .before .before .before .before .before .before .before .before .before .loop-test .taken) (c .before .before .before .before .before .before .before .before .before .before .before .before .before .of .ensures) (c .before .before .before .before .before .before .before .before .before .before .before .before .frame-at .ensures)
-    (c .before .before .before .before .before .before .frame-cells .ensures) (not-false _ (c .before .if1 .left)) (c .before .before .before .before .before .before .before .before .before .before .before .number .ensures) (c .if2 .left) in
-    (c .before .before .before .before .before .arrays .given ∙ c .before .before .before .before .before .before .before .before .before .before .before .before .before .before .before .loop .inv .0, c .before .before .before .marks .given ∙ c .before .before .before .before .before .before .before .before .before .before .before .before .before .before .before .loop .inv .1, on)
+    let earlier = c .before .before .before .before .before .before .before .before .before .before .before in
+    let on = descent-on (earlier .before .before .before .before .before .before .before .before .before .before .pre)
+    (earlier .before .before .before .before .loop .inv .2) (earlier .before .before .before .loop-test .taken) (earlier .before .before .of .ensures)
+    (earlier .before .frame-at .ensures)
+    (c .before .before .before .before .before .before .frame-cells .ensures) (not-false _ (c .before .if1 .left)) (earlier .number .ensures) (c .if2 .left) in (
+      c .before .before .before .before .before .arrays .given ∙ earlier .before .before .before .before .loop .inv .0,
+      c .before .before .before .marks .given
+          ∙ earlier .before .before .before .before .loop .inv .1,
+      on,
+    )
 
 same-length-5 : tie.Need-same-length-5 Inv-loop μ-loop
 same-length-5 c = c .before .loop .inv .0

@@ -22,19 +22,29 @@ part-plain-cells-end : tie.Need-part-plain-cells-end
 part-plain-cells-end c = search needs
 
 plain-cells-requires : tie.Need-plain-cells-requires
-plain-cells-requires c κs = globals-room (c .before .before .before .before .before .before .before .before .before .pre) (c .before .before .index .ensures ∙ c .before .before .before .blockptr .ensures)
+plain-cells-requires c κs =
+    globals-room (c .before .before .before .before .before .before .before .before .before .pre)
+    (c .before .before .index .ensures ∙ c .before .before .before .blockptr .ensures)
 
 same-length : tie.Need-same-length
 same-length c = c .before .before .arrays .given
 
 returns : tie.Need-returns
-returns c = (sym (globals-wrong (c .before .before .before .before .before .before .before .before .before .before .before .before .before .pre) (c .before .before .before .before .before .before .index .ensures ∙ c .before .before .before .before .before .before .before .blockptr .ensures) (c .before .before .before .plain-cells .ensures) (not-true _ (c .if1 .taken))), never)
+returns c =
+    let earlier = c .before .before .before .before .before .before in (
+      sym (globals-wrong (earlier .before .before .before .before .before .before .before .pre) (earlier .index .ensures ∙ earlier .before .blockptr .ensures)
+          (c .before .before .before .plain-cells .ensures) (not-true _ (c .if1 .taken))),
+      never,
+    )
 
 lbase-requires : tie.Need-lbase-requires
 lbase-requires c κs = search needs
 
 mark-variables-requires : tie.Need-mark-variables-requires
-mark-variables-requires c κs = base-low (c .before .before .before .before .before .before .before .before .before .before .before .before .before .before .before .pre) (c .before .before .before .before .before .before .before .before .index .ensures ∙ c .before .before .before .before .before .before .before .before .before .blockptr .ensures) (c .before .before .before .before .before .plain-cells .ensures) (not-false _ (c .before .before .if1 .left)) (c .before .lbase .ensures)
+mark-variables-requires c κs =
+    let earlier = c .before .before .before .before .before .before .before .before in
+    base-low (earlier .before .before .before .before .before .before .before .pre) (earlier .index .ensures ∙ earlier .before .blockptr .ensures)
+    (c .before .before .before .before .before .plain-cells .ensures) (not-false _ (c .before .before .if1 .left)) (c .before .lbase .ensures)
 
 ltop-requires : tie.Need-ltop-requires
 ltop-requires c κs = search needs
@@ -50,19 +60,32 @@ number-requires-2 c κs = search needs
 
 cells-from-requires : tie.Need-cells-from-requires
 cells-from-requires c κs =
-    before-stack (c .before .before .before .before .before .before .before .before .before .before .before .before .before .before .before .before .before .before .before .before .before .before .before .pre) (c .before .before .before .before .before .before .before .before .before .before .before .before .before .before .before .before .index .ensures ∙ c .before .before .before .before .before .before .before .before .before .before .before .before .before .before .before .before .before .blockptr .ensures) (c .before .before .before .before .before .before .before .before .before .before .before .before .before .plain-cells .ensures) (not-false _ (c .before .before .before .before .before .before .before .before .before .before .if1 .left)) (c .before .before .before .before .before .before .before .before .before .lbase .ensures)
-    (c .before .before .number2 .ensures) (c .before .before .before .number .ensures ∙ c .before .before .before .before .ltop .ensures) (c .before .before .before .before .before .before .before .mark-variables .ensures)
+    let earlier = c .before .before .before .before .before .before .before .before .before in
+    before-stack (earlier .before .before .before .before .before .before .before .before .before .before .before .before .before .before .pre)
+    (earlier .before .before .before .before .before .before .before .index .ensures
+    ∙ earlier .before .before .before .before .before .before .before .before .blockptr .ensures)
+    (earlier .before .before .before .before .plain-cells .ensures) (not-false _ (earlier .before .if1 .left)) (earlier .lbase .ensures)
+    (c .before .before .number2 .ensures) (c .before .before .before .number .ensures ∙ c .before .before .before .before .ltop .ensures)
+    (c .before .before .before .before .before .before .before .mark-variables .ensures)
 
 same-length-2 : tie.Need-same-length-2
-same-length-2 c = c .before .before .before .arrays2 .given ∙ c .before .before .before .before .before .before .before .before .before .before .before .before .before .before .before .before .before .arrays .given
+same-length-2 c =
+    c .before .before .before .arrays2 .given
+    ∙ c .before .before .before .before .before .before .before .before .before .before .before .before .before .before .before .before .before .arrays .given
 
 same-length-3 : tie.Need-same-length-3
 same-length-3 c = c .before .marks2 .given ∙ c .before .before .before .before .before .before .before .before .before .before .before .marks .given
 
 returns-2 : tie.Need-returns-2
 returns-2 c =
-    all-cells (c .before .before .before .before .before .before .before .before .before .before .before .before .before .before .before .before .before .before .before .before .before .before .before .before .before .before .before .before .pre) (c .before .before .before .before .before .before .before .before .before .before .before .before .before .before .before .before .before .before .before .before .before .index .ensures ∙ c .before .before .before .before .before .before .before .before .before .before .before .before .before .before .before .before .before .before .before .before .before .before .blockptr .ensures) (c .before .before .before .before .before .before .before .before .before .before .before .before .before .before .before .before .before .before .plain-cells .ensures) (not-false _ (c .before .before .before .before .before .before .before .before .before .before .before .before .before .before .before .if1 .left)) (c .before .before .before .before .before .before .before .before .before .before .before .before .before .before .lbase .ensures)
-    (c .before .before .before .before .before .before .before .number2 .ensures) (c .before .before .before .before .before .before .before .before .number .ensures ∙ c .before .before .before .before .before .before .before .before .before .ltop .ensures) (c .before .before .before .before .cells-from .ensures)
+    let earlier = c .before .before .before .before .before .before .before .before .before .before .before .before .before .before in
+    all-cells (earlier .before .before .before .before .before .before .before .before .before .before .before .before .before .before .pre)
+    (earlier .before .before .before .before .before .before .before .index .ensures
+    ∙ earlier .before .before .before .before .before .before .before .before .blockptr .ensures)
+    (earlier .before .before .before .before .plain-cells .ensures) (not-false _ (earlier .before .if1 .left)) (earlier .lbase .ensures)
+    (c .before .before .before .before .before .before .before .number2 .ensures)
+    (c .before .before .before .before .before .before .before .before .number .ensures
+    ∙ c .before .before .before .before .before .before .before .before .before .ltop .ensures) (c .before .before .before .before .cells-from .ensures)
 
 pub cells-test-spec : {M : Type 1} → statement M
 cells-test-spec =

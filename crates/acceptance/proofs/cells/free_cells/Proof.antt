@@ -10,7 +10,8 @@ use Rattle.acceptance.proofs.cells.free_cells.Statement.{statement}
 use Rattle.acceptance.proofs.cells.free_cells.Tie as tie
 
 abbrev Inv-loop : tie.InvT-loop
-Inv-loop seg cells variables arrays₀ i₀ arrays i = (length arrays ≡ length arrays₀) × Meeting (λ table. freeCell seg table (inTable variables)) arrays₀ arrays cells i
+Inv-loop seg cells variables arrays₀ i₀ arrays i =
+    (length arrays ≡ length arrays₀) × Meeting (λ table. freeCell seg table (inTable variables)) arrays₀ arrays cells i
 
 abbrev μ-loop : tie.MeasureT-loop
 μ-loop seg cells variables arrays₀ i₀ arrays i = length cells - i
@@ -25,13 +26,21 @@ shared-slice-read-is-proper : tie.Need-shared-slice-read-is-proper Inv-loop μ-l
 shared-slice-read-is-proper c = search needs
 
 is-proper-requires : tie.Need-is-proper-requires Inv-loop μ-loop
-is-proper-requires c κs = meeting-room (c .before .before .before .loop .inv .1) (c .before .before .loop-test .taken) (c .before .before .before .before .before .before .before .before .pre)
+is-proper-requires c κs =
+    meeting-room (c .before .before .before .loop .inv .1) (c .before .before .loop-test .taken)
+    (c .before .before .before .before .before .before .before .before .pre)
 
 same-length : tie.Need-same-length Inv-loop μ-loop
 same-length c = search needs
 
 returns : tie.Need-returns Inv-loop μ-loop
-returns c = (meeting-bad (c .before .before .before .before .before .before .before .loop .inv .1) (c .before .before .before .before .before .before .loop-test .taken) (free-alike (c .before .before .before .before .before .before .before .before .before .before .before .before .args .seg .now) (inTable (c .before .before .before .before .before .before .before .before .before .before .before .before .args .variables .now))) (c .before .before .before .is-proper .ensures .0) (not-true _ (c .if1 .taken)), (never, never))
+returns c =
+    let earlier = c .before .before .before .before .before .before .before .before .before .before .before .before in (
+      meeting-bad (c .before .before .before .before .before .before .before .loop .inv .1)
+          (c .before .before .before .before .before .before .loop-test .taken) (free-alike (earlier .args .seg .now) (inTable (earlier .args .variables .now)))
+          (c .before .before .before .is-proper .ensures .0) (not-true _ (c .if1 .taken)),
+      (never, never),
+    )
 
 add-i : tie.Need-add-i Inv-loop μ-loop
 add-i c = search needs
@@ -40,7 +49,13 @@ loop-less : tie.Need-loop-less Inv-loop μ-loop
 loop-less c = search needs
 
 loop-again : tie.Need-loop-again Inv-loop μ-loop
-loop-again c = (search needs, meeting-on (c .before .before .before .before .before .before .before .loop .inv .1) (c .before .before .before .before .before .before .loop-test .taken) (free-alike (c .before .before .before .before .before .before .before .before .before .before .before .before .args .seg .now) (inTable (c .before .before .before .before .before .before .before .before .before .before .before .before .args .variables .now))) (c .before .before .before .is-proper .ensures .0) (not-false _ (c .if1 .left)) (c .before .before .before .is-proper .ensures .1))
+loop-again c =
+    let earlier = c .before .before .before .before .before .before .before .before .before .before .before .before in (
+      search needs,
+      meeting-on (c .before .before .before .before .before .before .before .loop .inv .1)
+          (c .before .before .before .before .before .before .loop-test .taken) (free-alike (earlier .args .seg .now) (inTable (earlier .args .variables .now)))
+          (c .before .before .before .is-proper .ensures .0) (not-false _ (c .if1 .left)) (c .before .before .before .is-proper .ensures .1),
+    )
 
 same-length-2 : tie.Need-same-length-2 Inv-loop μ-loop
 same-length-2 c = search needs

@@ -1,4 +1,5 @@
-use mathlib.Core.Path.{_∙_}
+use mathlib.Core.Path.{_∙_, ap}
+use Rattle.descriptor.specs.Kinds.{isScalar}
 use native.Mathlib.Omega.{arith}
 use borrow.Author.Needs.{needs}
 use Rattle.acceptance.specs.Cells.{inTable}
@@ -7,7 +8,11 @@ use Rattle.acceptance.proofs.cells.is_direct.Statement.{statement}
 use Rattle.acceptance.proofs.cells.is_direct.Tie as tie
 
 returns : tie.Need-returns
-returns c = (direct-small (inTable (c .before .before .args .arrays .now)) (c .before .before .args .w) (search needs) (c .if1 .taken), meet-other (c .before .before .args .arrays .now) (c .before .before .args .w) (λ z. omega arith))
+returns c = (
+  direct-small (inTable (c .before .before .args .arrays .now)) (c .before .before .args .w) (search needs) (c .if1 .taken),
+  meet-other
+      (c .before .before .args .arrays .now) (c .before .before .args .w) (λ z. omega arith),
+)
 
 mul-if2 : tie.Need-mul-if2
 mul-if2 c = search needs
@@ -22,10 +27,22 @@ same-length : tie.Need-same-length
 same-length c = search needs
 
 returns-2 : tie.Need-returns-2
-returns-2 c = (c .before .before .raise-marked .ensures .0 ∙ direct-array (inTable (c .before .before .before .before .before .before .before .args .arrays .now)) (c .before .before .before .before .before .before .before .args .w) (search needs) (c .before .before .before .before .if2 .taken), c .before .before .raise-marked .ensures .1 ∙ meet-array (c .before .before .before .before .before .before .before .args .arrays .now) (c .before .before .before .before .before .before .before .args .w) (c .before .before .before .before .if2 .taken))
+returns-2 c =
+    let earlier = c .before .before .before .before .before .before .before in (
+      c .before .before .raise-marked .ensures .0
+          ∙ direct-array (inTable (earlier .args .arrays .now)) (earlier .args .w) (search needs)
+          (c .before .before .before .before .if2 .taken),
+      c .before .before .raise-marked .ensures .1
+          ∙ meet-array (earlier .args .arrays .now) (earlier .args .w) (c .before .before .before .before .if2 .taken),
+    )
 
 returns-3 : tie.Need-returns-3
-returns-3 c = (direct-undefined (inTable (c .before .before .before .before .args .arrays .now)) (c .before .before .before .before .args .w) (search needs) (c .if3 .taken), meet-other (c .before .before .before .before .args .arrays .now) (c .before .before .before .before .args .w) (c .before .if2 .left))
+returns-3 c =
+    let earlier = c .before .before .before .before in (
+      direct-undefined (inTable (earlier .args .arrays .now)) (earlier .args .w) (search needs) (c .if3 .taken),
+      meet-other (earlier .args .arrays .now)
+          (earlier .args .w) (c .before .if2 .left),
+    )
 
 of-requires : tie.Need-of-requires
 of-requires c κs = search needs
@@ -34,7 +51,13 @@ is-scalar-requires : tie.Need-is-scalar-requires
 is-scalar-requires c κs = search needs
 
 returns-4 : tie.Need-returns-4
-returns-4 c = ((cc) ∙ direct-scalar (inTable (c .before .before .before .before .before .before .args .arrays .now)) (c .before .before .before .before .before .before .args .w) (search needs) (c .before .before .before .if2 .left) (c .before .before .if3 .left), meet-other (c .before .before .before .before .before .before .args .arrays .now) (c .before .before .before .before .before .before .args .w) (c .before .before .before .if2 .left))
+returns-4 c =
+    let earlier = c .before .before .before .before .before .before in (
+      c .is-scalar .ensures ∙ ap isScalar (c .before .of .ensures)
+          ∙ direct-scalar (inTable (earlier .args .arrays .now)) (earlier .args .w) (search needs) (c .before .before .before .if2 .left)
+          (c .before .before .if3 .left),
+      meet-other (earlier .args .arrays .now) (earlier .args .w) (c .before .before .before .if2 .left),
+    )
 
 pub is-direct-spec : {M : Type 1} → statement M
 is-direct-spec =

@@ -21,7 +21,9 @@ same-length-2 c = search needs
 
 returns-2 : tie.Need-returns-2
 unfolding freeCell
-returns-2 c = (simp (← (c .before .before .before .before .is-direct .ensures .0), c .before .if1 .left, ← (c .is-pointing .ensures)), c .before .before .before .before .is-direct .ensures .1)
+returns-2 c =
+    let earlier = c .before .before .before .before in
+    (simp (← (earlier .is-direct .ensures .0), c .before .if1 .left, ← (c .is-pointing .ensures)), earlier .is-direct .ensures .1)
 
 pub is-proper-spec : {M : Type 1} → statement M
 is-proper-spec =

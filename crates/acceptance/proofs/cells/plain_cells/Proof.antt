@@ -25,13 +25,19 @@ shared-slice-read-is-direct : tie.Need-shared-slice-read-is-direct Inv-loop μ-l
 shared-slice-read-is-direct c = search needs
 
 is-direct-requires : tie.Need-is-direct-requires Inv-loop μ-loop
-is-direct-requires c κs = meeting-room (c .before .before .before .loop .inv .1) (c .before .before .loop-test .taken) (c .before .before .before .before .before .before .pre)
+is-direct-requires c κs =
+    meeting-room (c .before .before .before .loop .inv .1) (c .before .before .loop-test .taken) (c .before .before .before .before .before .before .pre)
 
 same-length : tie.Need-same-length Inv-loop μ-loop
 same-length c = search needs
 
 returns : tie.Need-returns Inv-loop μ-loop
-returns c = (meeting-bad (c .before .before .before .before .before .before .before .loop .inv .1) (c .before .before .before .before .before .before .loop-test .taken) direct-alike (c .before .before .before .is-direct .ensures .0) (not-true _ (c .if1 .taken)), (never, never))
+returns c =
+    let earlier = c .before .before .before .before .before .before in (
+      meeting-bad (earlier .before .loop .inv .1) (earlier .loop-test .taken) direct-alike (c .before .before .before .is-direct .ensures .0)
+          (not-true _ (c .if1 .taken)),
+      (never, never),
+    )
 
 add-i : tie.Need-add-i Inv-loop μ-loop
 add-i c = search needs
@@ -40,7 +46,12 @@ loop-less : tie.Need-loop-less Inv-loop μ-loop
 loop-less c = search needs
 
 loop-again : tie.Need-loop-again Inv-loop μ-loop
-loop-again c = (search needs, meeting-on (c .before .before .before .before .before .before .before .loop .inv .1) (c .before .before .before .before .before .before .loop-test .taken) direct-alike (c .before .before .before .is-direct .ensures .0) (not-false _ (c .if1 .left)) (c .before .before .before .is-direct .ensures .1))
+loop-again c = (
+  search needs,
+  meeting-on (c .before .before .before .before .before .before .before .loop .inv .1)
+      (c .before .before .before .before .before .before .loop-test .taken) direct-alike (c .before .before .before .is-direct .ensures .0)
+      (not-false _ (c .if1 .left)) (c .before .before .before .is-direct .ensures .1),
+)
 
 same-length-2 : tie.Need-same-length-2 Inv-loop μ-loop
 same-length-2 c = search needs

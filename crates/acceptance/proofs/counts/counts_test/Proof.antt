@@ -19,10 +19,16 @@ number-requires-2 c κs = search needs
 
 counts-from-requires : tie.Need-counts-from-requires
 unfolding arrayStarts
-counts-from-requires c κs = (search needs, rw (c .number2 .ensures, c .before .dummy .ensures .0, c .before .before .number .ensures, c .before .before .before .blockptr .ensures) (c .before .before .before .before .before .before .pre))
+counts-from-requires c κs = (
+  search needs,
+  rw (c .number2 .ensures, c .before .dummy .ensures .0, c .before .before .number .ensures, c .before .before .before .blockptr .ensures)
+      (c .before .before .before .before .before .before .pre),
+)
 
 returns : tie.Need-returns
-returns c = c .counts-from .ensures ∙ counts-are _ _ _ (c .before .before .before .number .ensures ∙ c .before .before .before .before .blockptr .ensures) (c .before .number2 .ensures ∙ c .before .before .dummy .ensures .0)
+returns c =
+    c .counts-from .ensures ∙ counts-are _ _ _ (c .before .before .before .number .ensures ∙ c .before .before .before .before .blockptr .ensures)
+    (c .before .number2 .ensures ∙ c .before .before .dummy .ensures .0)
 
 pub counts-test-spec : {M : Type 1} → statement M
 counts-test-spec =

@@ -36,8 +36,10 @@ cast-result-2 c = search needs
 
 returns-3 : tie.Need-returns-3
 returns-3 c =
+    let earlier = c .before .before .before .before .before .before .before .before in
     let f = sym (c .before .before .before .before .before .free-at .ensures) ∙ c .before .before .before .before .if1 .left in
-    counted (c .before .before .before .before .before .before .before .before .args .seg .now) (c .before .before .before .before .before .before .before .before .args .block .0) (c .before .before .before .count .result) (c .mark-at .result) f (c .before .before .before .count .ensures) (c .before .before .if2 .left) (c .mark-at .ensures ∙ rw (c .before .index .ensures) (c .before .before .before .before .before .before .before .before .pre f))
+    counted (earlier .args .seg .now) (earlier .args .block .0) (c .before .before .before .count .result) (c .mark-at .result) f
+    (c .before .before .before .count .ensures) (c .before .before .if2 .left) (c .mark-at .ensures ∙ rw (c .before .index .ensures) (earlier .pre f))
 
 pub is-counted-spec : {M : Type 1} → statement M
 is-counted-spec =

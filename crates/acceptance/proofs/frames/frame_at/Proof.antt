@@ -38,14 +38,15 @@ add-t14 c = search needs
 
 returns : tie.Need-returns
 returns c =
-    let a = c .before .before .before .before .before .before .before .before .before .before .before .args in
-    let at = c .before .before .before .before .before .before .index .ensures ∙ ap (λ (n : ℕ). n + a .base .0) (c .before .before .before .before .before .before .before .sbase .ensures) in
-    let code = c .before .before .before .before .before .word .ensures ∙ ap (λ (i : ℕ). getD (a .seg .now) (i + 1) 0) at in
+    let earlier = c .before .before .before .before in
+    let a = earlier .before .before .before .before .before .before .before .args in
+    let at = earlier .before .before .index .ensures ∙ ap (λ (n : ℕ). n + a .base .0) (earlier .before .before .before .sbase .ensures) in
+    let code = earlier .before .word .ensures ∙ ap (λ (i : ℕ). getD (a .seg .now) (i + 1) 0) at in
     record {
       last = c .before .before .of .ensures ∙ c .before .before .before .word2 .ensures ∙ ap (λ (i : ℕ). getD (a .seg .now) i 0) at;
       code = code;
-      arguments = header-arguments _ _ (c .before .before .before .before .before .word .result) (c .before .before .before .before .header-of .ensures) code;
-      variables = header-variables _ _ (c .before .before .before .before .before .word .result) (c .before .before .before .before .header-of .ensures) code;
+      arguments = header-arguments _ _ (earlier .before .word .result) (earlier .header-of .ensures) code;
+      variables = header-variables _ _ (earlier .before .word .result) (earlier .header-of .ensures) code;
     }
 
 pub frame-at-spec : {M : Type 1} → statement M

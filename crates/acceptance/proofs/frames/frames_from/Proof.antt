@@ -27,13 +27,22 @@ in-its-directory-requires : tie.Need-in-its-directory-requires Inv-loop μ-loop
 in-its-directory-requires c κs = search needs
 
 returns : tie.Need-returns Inv-loop μ-loop
-returns c = sym (c .before .before .before .before .before .loop .inv .1 ∙ absent _ _ _ _ _ (c .before .before .before .before .loop-test .taken) (rw (c .before .before .before .of .ensures) at (c .before .before .frame-at .ensures)) (sym (c .before .in-its-directory .ensures) ∙ not-true _ (c .if1 .taken)))
+returns c =
+    sym (c .before .before .before .before .before .loop .inv .1
+    ∙ absent _ _ _ _ _ (c .before .before .before .before .loop-test .taken)
+    (rw (c .before .before .before .of .ensures) at (c .before .before .frame-at .ensures))
+    (sym (c .before .in-its-directory .ensures) ∙ not-true _ (c .if1 .taken)))
 
 number-requires : tie.Need-number-requires Inv-loop μ-loop
 number-requires c κs = search needs
 
 returns-2 : tie.Need-returns-2 Inv-loop μ-loop
-returns-2 c = sym (c .before .before .before .before .before .before .before .before .loop .inv .1 ∙ bottom _ _ _ _ _ (c .before .before .before .before .before .before .before .loop-test .taken) (rw (c .before .before .before .before .before .before .of .ensures) at (c .before .before .before .before .before .frame-at .ensures)) (sym (c .before .before .before .before .in-its-directory .ensures) ∙ not-false _ (c .before .before .before .if1 .left)) (sym (c .before .before .number .ensures) ∙ c .before .if2 .taken))
+returns-2 c =
+    let earlier = c .before .before .before .before in
+    sym (earlier .before .before .before .before .loop .inv .1
+    ∙ bottom _ _ _ _ _ (earlier .before .before .before .loop-test .taken) (rw (earlier .before .before .of .ensures) at (earlier .before .frame-at .ensures))
+    (sym (earlier .in-its-directory .ensures) ∙ not-false _ (c .before .before .before .if1 .left))
+    (sym (c .before .before .number .ensures) ∙ c .before .if2 .taken))
 
 cast-if3 : tie.Need-cast-if3 Inv-loop μ-loop
 cast-if3 c = search needs
@@ -51,7 +60,12 @@ add-if3-2 : tie.Need-add-if3-2 Inv-loop μ-loop
 add-if3-2 c = search needs
 
 returns-3 : tie.Need-returns-3 Inv-loop μ-loop
-returns-3 c = sym (c .before .before .before .before .before .before .before .before .before .loop .inv .1 ∙ low _ _ _ _ _ (c .before .before .before .before .before .before .before .before .loop-test .taken) (rw (c .before .before .before .before .before .before .before .of .ensures) at (c .before .before .before .before .before .before .frame-at .ensures)) (sym (c .before .before .before .before .before .in-its-directory .ensures) ∙ not-false _ (c .before .before .before .before .if1 .left)) (λ z. c .before .before .if2 .left (c .before .before .before .number .ensures ∙ z)) (omega arith))
+returns-3 c =
+    let earlier = c .before .before .before .before .before in
+    sym (earlier .before .before .before .before .loop .inv .1
+    ∙ low _ _ _ _ _ (earlier .before .before .before .loop-test .taken) (rw (earlier .before .before .of .ensures) at (earlier .before .frame-at .ensures))
+    (sym (earlier .in-its-directory .ensures) ∙ not-false _ (c .before .before .before .before .if1 .left))
+    (λ z. c .before .before .if2 .left (c .before .before .before .number .ensures ∙ z)) (omega arith))
 
 sub-left : tie.Need-sub-left Inv-loop μ-loop
 sub-left c = search needs
@@ -60,7 +74,16 @@ loop-less : tie.Need-loop-less Inv-loop μ-loop
 loop-less c = search needs
 
 loop-again : tie.Need-loop-again Inv-loop μ-loop
-loop-again c = (omega arith, c .before .before .before .before .before .before .before .before .before .loop .inv .1 ∙ rw (c .before .before .before .number .ensures) (further _ _ _ _ _ (c .before .before .before .before .before .before .before .before .loop-test .taken) (rw (c .before .before .before .before .before .before .before .of .ensures) at (c .before .before .before .before .before .before .frame-at .ensures)) (sym (c .before .before .before .before .before .in-its-directory .ensures) ∙ not-false _ (c .before .before .before .before .if1 .left)) (λ z. c .before .before .if2 .left (c .before .before .before .number .ensures ∙ z)) (omega arith)))
+loop-again c =
+    let earlier = c .before .before .before .before .before in (
+      omega arith,
+      earlier .before .before .before .before .loop .inv .1
+          ∙ rw (c .before .before .before .number .ensures)
+          (further _ _ _ _ _ (earlier .before .before .before .loop-test .taken)
+          (rw (earlier .before .before .of .ensures) at (earlier .before .frame-at .ensures))
+          (sym (earlier .in-its-directory .ensures) ∙ not-false _ (c .before .before .before .before .if1 .left))
+          (λ z. c .before .before .if2 .left (c .before .before .before .number .ensures ∙ z)) (omega arith)),
+    )
 
 returns-4 : tie.Need-returns-4 Inv-loop μ-loop
 returns-4 c = sym (c .before .loop .inv .1 ∙ frames-none _ _ _ _ _ (c .loop-test .left))

@@ -23,6 +23,15 @@ mark-spec =
     (λ c κs. marking-room (c .before .before .loop .inv .1) (c .before .loop-test .taken) (c .before .before .before .before .pre .1))
     (λ c. search needs)
     (λ c. search needs)
-    (λ c. (omega arith, rw (c .before .before .raise .ensures) (marking-on (c .before .before .before .before .before .loop .inv .1) (c .before .before .before .before .loop-test .taken) (omega (arith, (c .before .before .before .before .before .loop .inv .1 .long), (c .before .before .before .before .before .before .before .pre .0))))))
+    (λ c. (
+      omega arith,
+      rw (c .before .before .raise .ensures)
+          (marking-on (c .before .before .before .before .before .loop .inv .1) (c .before .before .before .before .loop-test .taken)
+          (omega (
+            arith,
+            (c .before .before .before .before .before .loop .inv .1 .long),
+            (c .before .before .before .before .before .before .before .pre .0),
+          ))),
+    ))
     (λ c. (c .before .loop .inv .1 .long))
     (λ c. marking-done (c .before .loop .inv .1) (c .loop-test .left)))

@@ -29,7 +29,9 @@ minus-requires : tie.Need-minus-requires Inv-loop μ-loop
 minus-requires c κs = search needs
 
 mark-requires : tie.Need-mark-requires Inv-loop μ-loop
-mark-requires c κs = (omega (arith, c .before .before .before .before .before .loop .inv .1 .low), λ x. omega (arith, c .before .before .before .before .before .loop .inv .1 .room x))
+mark-requires c κs =
+    let earlier = c .before .before .before .before .before in
+    (omega (arith, earlier .loop .inv .1 .low), λ x. omega (arith, earlier .loop .inv .1 .room x))
 
 number-requires-2 : tie.Need-number-requires-2 Inv-loop μ-loop
 number-requires-2 c κs = search needs
@@ -38,7 +40,14 @@ same-length : tie.Need-same-length Inv-loop μ-loop
 same-length c = omega (arith, c .before .before .before .before .before .before .before .before .before .before .loop .inv .1 .long)
 
 returns : tie.Need-returns Inv-loop μ-loop
-returns c = rw (← (c .before .before .before .before .before .before .before .before .before .before .before .number .ensures)) (marked-bottom (c .before .before .before .before .before .before .before .before .before .before .loop .inv .1) (c .before .before .before .before .before .before .before .before .before .loop-test .taken) (c .before .before .before .before .before .before .minus .ensures ∙ ap (λ (v : ℕ). c .before .before .before .before .before .before .before .before .before .before .loop .base - v) ((rw (c .before .before .before .before .before .before .before .before .of .ensures) at (c .before .before .before .before .before .before .before .frame-at .ensures)) .variables)) (c .before .number2 .ensures ∙ (rw (c .before .before .before .before .before .before .before .before .of .ensures) at (c .before .before .before .before .before .before .before .frame-at .ensures)) .last) (c .before .before .before .before .mark .ensures) (c .if1 .taken))
+returns c =
+    let earlier = c .before .before .before .before .before .before .before in
+    rw (← (earlier .before .before .before .before .number .ensures))
+    (marked-bottom (earlier .before .before .before .loop .inv .1) (earlier .before .before .loop-test .taken)
+    (c .before .before .before .before .before .before .minus .ensures
+    ∙ ap (λ (v : ℕ). earlier .before .before .before .loop .base - v) ((rw (earlier .before .of .ensures) at (earlier .frame-at .ensures)) .variables))
+    (c .before .number2 .ensures ∙ (rw (earlier .before .of .ensures) at (earlier .frame-at .ensures)) .last)
+    (c .before .before .before .before .mark .ensures) (c .if1 .taken))
 
 sub-left : tie.Need-sub-left Inv-loop μ-loop
 sub-left c = search needs
@@ -47,7 +56,15 @@ loop-less : tie.Need-loop-less Inv-loop μ-loop
 loop-less c = search needs
 
 loop-again : tie.Need-loop-again Inv-loop μ-loop
-loop-again c = (omega arith, marked-on (c .before .before .before .before .before .before .before .before .before .before .loop .inv .1) (c .before .before .before .before .before .before .before .before .before .loop-test .taken) (c .before .before .before .before .before .before .minus .ensures ∙ ap (λ (v : ℕ). c .before .before .before .before .before .before .before .before .before .before .loop .base - v) ((rw (c .before .before .before .before .before .before .before .before .of .ensures) at (c .before .before .before .before .before .before .before .frame-at .ensures)) .variables)) (c .before .number2 .ensures ∙ (rw (c .before .before .before .before .before .before .before .before .of .ensures) at (c .before .before .before .before .before .before .before .frame-at .ensures)) .last) (c .before .before .before .before .mark .ensures) (c .if1 .left) (search needs))
+loop-again c =
+    let earlier = c .before .before .before .before .before .before .before in (
+      omega arith,
+      marked-on (earlier .before .before .before .loop .inv .1) (earlier .before .before .loop-test .taken)
+          (c .before .before .before .before .before .before .minus .ensures
+          ∙ ap (λ (v : ℕ). earlier .before .before .before .loop .base - v) ((rw (earlier .before .of .ensures) at (earlier .frame-at .ensures)) .variables))
+          (c .before .number2 .ensures ∙ (rw (earlier .before .of .ensures) at (earlier .frame-at .ensures)) .last)
+          (c .before .before .before .before .mark .ensures) (c .if1 .left) (search needs),
+    )
 
 same-length-2 : tie.Need-same-length-2 Inv-loop μ-loop
 same-length-2 c = c .before .loop .inv .1 .long

@@ -25,7 +25,10 @@ cast-lower : tie.Need-cast-lower Inv-loop μ-loop
 cast-lower c = search needs
 
 lower-requires : tie.Need-lower-requires Inv-loop μ-loop
-lower-requires c κs = unmarking-room (c .before .before .loop .inv .1) (c .before .loop-test .taken) (rw (c .before .before .before .before .number .ensures, c .before .before .before .number2 .ensures) (c .before .before .before .before .before .before .pre))
+lower-requires c κs =
+    unmarking-room (c .before .before .loop .inv .1) (c .before .loop-test .taken)
+    (rw (c .before .before .before .before .number .ensures, c .before .before .before .number2 .ensures)
+    (c .before .before .before .before .before .before .pre))
 
 add-a : tie.Need-add-a Inv-loop μ-loop
 add-a c = search needs
@@ -34,13 +37,21 @@ loop-less : tie.Need-loop-less Inv-loop μ-loop
 loop-less c = search needs
 
 loop-again : tie.Need-loop-again Inv-loop μ-loop
-loop-again c = (omega arith, rw (c .before .before .lower .ensures) (unmarking-on (c .before .before .before .before .before .loop .inv .1) (c .before .before .before .before .loop-test .taken) (rw (c .before .before .before .before .before .before .before .number .ensures, c .before .before .before .before .before .before .number2 .ensures) (c .before .before .before .before .before .before .before .before .before .pre))))
+loop-again c =
+    let earlier = c .before .before .before .before in (
+      omega arith,
+      rw (c .before .before .lower .ensures)
+          (unmarking-on (earlier .before .loop .inv .1) (earlier .loop-test .taken)
+          (rw (earlier .before .before .before .number .ensures, earlier .before .before .number2 .ensures)
+          (earlier .before .before .before .before .before .pre))),
+    )
 
 same-length : tie.Need-same-length Inv-loop μ-loop
 same-length c = c .before .loop .inv .1 .long
 
 returns : tie.Need-returns Inv-loop μ-loop
-returns c = rw (← (c .before .before .before .number .ensures), ← (c .before .before .number2 .ensures)) (unmarking-done (c .before .loop .inv .1) (c .loop-test .left))
+returns c =
+    rw (← (c .before .before .before .number .ensures), ← (c .before .before .number2 .ensures)) (unmarking-done (c .before .loop .inv .1) (c .loop-test .left))
 
 pub unmark-spec : {M : Type 1} → statement M
 unmark-spec =

@@ -30,7 +30,15 @@ cast-cap : tie.Need-cast-cap Inv-loop μ-loop
 cast-cap c = search needs
 
 mul-cap : tie.Need-mul-cap Inv-loop μ-loop
-mul-cap c = record { fits = omega (arith, mul-le-mul {n₁ = c .before .before .before .loop .count} {m₁ = getD (c .before .before .before .before .before .args .shape .now) (c .before .before .before .loop .i) 0} {n₂ = 65536} {m₂ = integerLimit} (counting-le _ _ _ (c .before .before .before .loop .inv .1)) (omega arith)) }
+mul-cap c =
+    record {
+      fits = omega (
+        arith,
+        mul-le-mul {n₁ = c .before .before .before .loop .count}
+            {m₁ = getD (c .before .before .before .before .before .args .shape .now) (c .before .before .before .loop .i) 0} {n₂ = 65536} {m₂ = integerLimit}
+            (counting-le _ _ _ (c .before .before .before .loop .inv .1)) (omega arith),
+      );
+    }
 
 cap-requires : tie.Need-cap-requires Inv-loop μ-loop
 cap-requires c κs = search needs

@@ -30,16 +30,22 @@ cast-rank : tie.Need-cast-rank
 cast-rank c = search needs
 
 returns-2 : tie.Need-returns-2
-returns-2 c = inside-fails (c .before .before .before .before .before .args .seg .now) (c .before .before .before .before .before .args .a) (omega arith) (λ h. omega arith)
+returns-2 c =
+    let earlier = c .before .before .before .before .before in
+    inside-fails (earlier .args .seg .now) (earlier .args .a) (omega arith) (λ h. omega arith)
 
 returns-3 : tie.Need-returns-3
-returns-3 c = inside-fails (c .before .before .before .before .before .before .args .seg .now) (c .before .before .before .before .before .before .args .a) (omega arith) (λ h. omega arith)
+returns-3 c =
+    let earlier = c .before .before .before .before .before .before in
+    inside-fails (earlier .args .seg .now) (earlier .args .a) (omega arith) (λ h. omega arith)
 
 add-if4 : tie.Need-add-if4
 add-if4 c = search needs
 
 returns-4 : tie.Need-returns-4
-returns-4 c = inside-fails (c .before .before .before .before .before .before .before .args .seg .now) (c .before .before .before .before .before .before .before .args .a) (omega arith) (λ h. omega arith)
+returns-4 c =
+    let earlier = c .before .before .before .before .before .before .before in
+    inside-fails (earlier .args .seg .now) (earlier .args .a) (omega arith) (λ h. omega arith)
 
 add-lengths : tie.Need-add-lengths
 add-lengths c = search needs
@@ -70,10 +76,13 @@ sub-if5 c = search needs
 
 returns-5 : tie.Need-returns-5
 returns-5 c =
-    let a = c .before .before .before .before .before .before .before .before .before .before .args in
-    let array = c .before .before .before .before .before .before .before .if1 .left in
+    let earlier = c .before .before .before .before .before .before .before in
+    let a = earlier .before .before .before .args in
+    let array = earlier .if1 .left in
     inside-fails (a .seg .now) (a .a) array
-    (λ h. c .if5 .taken (c .before .element-count .ensures ∙ inside-count (a .seg .now) (a .a) array (c .before .before .before .before .before .before .before .before .before .before .pre .1) refl (c .before .before .before .before .before .if2 .left) (c .before .before .before .before .if3 .left) (c .before .before .before .if4 .left) h))
+    (λ h. c .if5 .taken (c .before .element-count .ensures
+    ∙ inside-count (a .seg .now) (a .a) array (earlier .before .before .before .pre .1) refl (c .before .before .before .before .before .if2 .left)
+    (c .before .before .before .before .if3 .left) (c .before .before .before .if4 .left) h))
 
 add-scalars-test : tie.Need-add-scalars-test
 add-scalars-test c = search needs
@@ -95,10 +104,13 @@ scalars-test-requires c κs = search needs
 
 returns-6 : tie.Need-returns-6
 returns-6 c =
-    let a = c .before .before .before .before .before .before .before .before .before .before .before .before .args in
+    let earlier = c .before .before .before .before .before in
+    let a = earlier .before .before .before .before .before .before .before .args in
     let counted = sym (c .before .before .before .element-count .ensures) ∙ c .before .before .if5 .left in
     c .scalars-test .ensures
-    ∙ inside-elements (a .seg .now) (a .a) (c .before .before .before .before .before .before .before .before .before .if1 .left) (c .before .before .before .before .before .before .before .before .before .before .before .before .pre .1) refl (c .before .before .before .before .before .before .before .if2 .left) (c .before .before .before .before .before .before .if3 .left) (c .before .before .before .before .before .if4 .left) counted
+    ∙ inside-elements (a .seg .now) (a .a) (earlier .before .before .before .before .if1 .left)
+    (earlier .before .before .before .before .before .before .before .pre .1) refl (earlier .before .before .if2 .left) (earlier .before .if3 .left)
+    (earlier .if4 .left) counted
 
 pub inside-at-spec : {M : Type 1} → statement M
 inside-at-spec =

@@ -32,7 +32,10 @@ is-scalar-requires : tie.Need-is-scalar-requires Inv-loop μ-loop
 is-scalar-requires c κs = search needs
 
 returns : tie.Need-returns Inv-loop μ-loop
-returns c = sym (c .before .before .before .before .before .loop .inv ∙ every-bad isScalar (c .before .before .before .before .before .before .before .args .elements .now) (c .before .before .before .before .before .loop .i) (omega arith) (ap isScalar (sym (c .before .before .of .ensures)) ∙ sym (c .before .is-scalar .ensures) ∙ not-true _ (c .if1 .taken)))
+returns c =
+    let earlier = c .before .before .before .before .before in
+    sym (earlier .loop .inv ∙ every-bad isScalar (earlier .before .before .args .elements .now) (earlier .loop .i) (omega arith)
+    (ap isScalar (sym (c .before .before .of .ensures)) ∙ sym (c .before .is-scalar .ensures) ∙ not-true _ (c .if1 .taken)))
 
 add-i : tie.Need-add-i Inv-loop μ-loop
 add-i c = search needs
@@ -41,7 +44,10 @@ loop-less : tie.Need-loop-less Inv-loop μ-loop
 loop-less c = search needs
 
 loop-again : tie.Need-loop-again Inv-loop μ-loop
-loop-again c = c .before .before .before .before .before .loop .inv ∙ every-on isScalar (c .before .before .before .before .before .before .before .args .elements .now) (c .before .before .before .before .before .loop .i) (omega arith) (ap isScalar (sym (c .before .before .of .ensures)) ∙ sym (c .before .is-scalar .ensures) ∙ not-false _ (c .if1 .left))
+loop-again c =
+    let earlier = c .before .before .before .before .before in
+    earlier .loop .inv ∙ every-on isScalar (earlier .before .before .args .elements .now) (earlier .loop .i) (omega arith)
+    (ap isScalar (sym (c .before .before .of .ensures)) ∙ sym (c .before .is-scalar .ensures) ∙ not-false _ (c .if1 .left))
 
 returns-2 : tie.Need-returns-2 Inv-loop μ-loop
 returns-2 c = sym (c .before .loop .inv ∙ every-end isScalar (c .before .before .before .args .elements .now) (c .before .loop .i) (omega arith))

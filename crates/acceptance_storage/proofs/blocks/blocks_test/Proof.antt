@@ -34,8 +34,10 @@ returns c =
 
 walk-requires : tie.Need-walk-requires
 walk-requires c κs =
-    let h = c .before .before .before .before .before .before .before .before .before .before .before .pre in
-    before-walk (h .0) (h .1) (h .2) (h .3) (c .before .before .before .before .before .before .index .ensures ∙ c .before .before .before .before .before .before .before .blockptr .ensures) (c .before .before .before .before .index2 .ensures ∙ c .before .before .before .before .before .sbase .ensures)
+    let earlier = c .before .before .before .before in
+    let h = earlier .before .before .before .before .before .before .before .pre in
+    before-walk (h .0) (h .1) (h .2) (h .3) (earlier .before .before .index .ensures ∙ earlier .before .before .before .blockptr .ensures)
+    (earlier .index2 .ensures ∙ earlier .before .sbase .ensures)
     (sym (c .before .before .before .word .ensures) ∙ c .before .before .if1 .left)
 
 same-length : tie.Need-same-length

@@ -25,7 +25,14 @@ returns-3 : tie.Need-returns-3
 returns-3 c = sym (freeSpan-no _ _ _ _ (c .before .before .before .before .before .pre .0) (λ h. c .if3 .taken (c .before .word .ensures ∙ h .end)))
 
 returns-4 : tie.Need-returns-4
-returns-4 c = sym (freeSpan-yes _ _ _ _ (record { alone = c .before .before .before .if1 .left; least = c .before .before .if2 .left; first = omega arith; end = sym (c .before .word .ensures) ∙ c .if3 .left }))
+returns-4 c =
+    sym (freeSpan-yes _ _ _ _ (record {
+      alone = c .before .before .before .if1 .left;
+      least = c .before .before .if2 .left;
+      first = omega arith;
+      end = sym
+          (c .before .word .ensures) ∙ c .if3 .left;
+    }))
 
 pub free-span-spec : {M : Type 1} → statement M
 free-span-spec =

@@ -9,7 +9,9 @@ same-length : tie.Need-same-length
 same-length c = search needs
 
 returns : tie.Need-returns
-returns c = (rw (c .before .before .before .before .if1 .taken), (rw (c .before .before .before .before .if1 .taken), rw (c .before .before .before .before .if1 .taken) (c .before .before .raise .ensures)))
+returns c =
+    let earlier = c .before .before .before .before in
+    (rw (earlier .if1 .taken), (rw (earlier .if1 .taken), rw (earlier .if1 .taken) (c .before .before .raise .ensures)))
 
 raise-requires-2 : tie.Need-raise-requires-2
 raise-requires-2 c κs = search needs
@@ -18,7 +20,9 @@ same-length-2 : tie.Need-same-length-2
 same-length-2 c = search needs
 
 returns-2 : tie.Need-returns-2
-returns-2 c = (rw (c .before .before .before .before .if1 .left), (rw (c .before .before .before .before .if1 .left) (c .before .before .raise2 .ensures), rw (c .before .before .before .before .if1 .left)))
+returns-2 c =
+    let earlier = c .before .before .before .before in
+    (rw (earlier .if1 .left), (rw (earlier .if1 .left) (c .before .before .raise2 .ensures), rw (earlier .if1 .left)))
 
 pub mark-spec : {M : Type 1} → statement M
 mark-spec =

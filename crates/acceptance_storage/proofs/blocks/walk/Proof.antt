@@ -31,7 +31,9 @@ same-length-2 : tie.Need-same-length-2 Inv-loop μ-loop
 same-length-2 c = search needs
 
 returns : tie.Need-returns Inv-loop μ-loop
-returns c = improper _ _ _ (walking-bad (c .before .before .before .before .before .before .before .pre) (c .before .before .before .loop .inv .2) (c .before .before .loop-test .taken) (c .before .block-span .ensures) (c .if1 .taken))
+returns c =
+    improper _ _ _ (walking-bad (c .before .before .before .before .before .before .before .pre) (c .before .before .before .loop .inv .2)
+    (c .before .before .loop-test .taken) (c .before .block-span .ensures) (c .if1 .taken))
 
 sub-if2 : tie.Need-sub-if2 Inv-loop μ-loop
 sub-if2 c = search needs
@@ -43,7 +45,9 @@ same-length-4 : tie.Need-same-length-4 Inv-loop μ-loop
 same-length-4 c = search needs
 
 returns-2 : tie.Need-returns-2 Inv-loop μ-loop
-returns-2 c = improper _ _ _ (walking-past (c .before .before .before .before .before .before .before .before .pre) (c .before .before .before .before .loop .inv .2) (c .before .before .before .loop-test .taken) (c .before .before .block-span .ensures) (c .before .if1 .left) (c .if2 .taken))
+returns-2 c =
+    improper _ _ _ (walking-past (c .before .before .before .before .before .before .before .before .pre) (c .before .before .before .before .loop .inv .2)
+    (c .before .before .before .loop-test .taken) (c .before .before .block-span .ensures) (c .before .if1 .left) (c .if2 .taken))
 
 cast-of : tie.Need-cast-of Inv-loop μ-loop
 cast-of c = search needs
@@ -53,7 +57,9 @@ of-requires c κs = search needs
 
 inside-test-requires : tie.Need-inside-test-requires Inv-loop μ-loop
 inside-test-requires c κs =
-    walking-fits (c .before .before .before .before .before .before .before .before .before .pre) (c .before .before .before .before .before .loop .inv .2) (c .before .before .before .before .loop-test .taken) (c .before .before .before .block-span .ensures) (c .before .before .if1 .left) (c .before .if2 .left) (c .of .ensures)
+    walking-fits (c .before .before .before .before .before .before .before .before .before .pre) (c .before .before .before .before .before .loop .inv .2)
+    (c .before .before .before .before .loop-test .taken) (c .before .before .before .block-span .ensures) (c .before .before .if1 .left)
+    (c .before .if2 .left) (c .of .ensures)
 
 same-length-5 : tie.Need-same-length-5 Inv-loop μ-loop
 same-length-5 c = search needs
@@ -63,20 +69,34 @@ same-length-6 c = search needs
 
 returns-3 : tie.Need-returns-3 Inv-loop μ-loop
 returns-3 c =
+    let earlier = c .before .before .before .before in
     improper _ _ _
-    (walking-inside (c .before .before .before .before .before .before .before .before .before .before .before .pre) (c .before .before .before .before .before .before .before .loop .inv .2) (c .before .before .before .before .before .before .loop-test .taken) (c .before .before .before .before .before .block-span .ensures) (c .before .before .before .before .if1 .left) (c .before .before .before .if2 .left)
+    (walking-inside (earlier .before .before .before .before .before .before .before .pre) (earlier .before .before .before .loop .inv .2)
+    (earlier .before .before .loop-test .taken) (earlier .before .block-span .ensures) (earlier .if1 .left) (c .before .before .before .if2 .left)
     (c .before .before .of .ensures) (c .before .inside-test .ensures) (not-true _ (c .if3 .taken)))
 
 free-at-requires : tie.Need-free-at-requires Inv-loop μ-loop
 free-at-requires c κs = search needs
 
 mark-requires : tie.Need-mark-requires Inv-loop μ-loop
-mark-requires c κs = walking-room (c .before .before .before .before .before .before .before .before .before .before .before .before .before .before .pre) (c .before .before .before .before .before .before .before .before .before .before .loop .inv .2)
+mark-requires c κs =
+    let earlier = c .before .before .before .before .before .before .before .before .before .before in
+    walking-room (earlier .before .before .before .before .pre) (earlier .loop .inv .2)
 
 add-found : tie.Need-add-found Inv-loop μ-loop
-add-found c = record {
-  fits = omega (arith, c .before .before .before .before .mark .ensures .0, one-at-most (c .before .before .before .before .before .before .before .free-at .result), walking-found (c .before .before .before .before .before .before .before .before .before .before .before .before .before .before .before .before .before .before .before .pre) (c .before .before .before .before .before .before .before .before .before .before .before .before .before .before .before .loop .inv .2), c .before .before .before .before .before .before .before .before .before .before .before .before .before .before .before .before .before .before .before .pre .longest);
-}
+add-found c =
+    let earlier = c .before .before .before .before .before .before .before .before .before .before .before .before .before .before .before in
+    record {
+      fits = omega (
+        arith,
+        c .before .before .before .before .mark .ensures .0,
+        one-at-most
+            (c .before .before .before .before .before .before .before .free-at .result),
+        walking-found (earlier .before .before .before .before .pre)
+            (earlier .loop .inv .2),
+        earlier .before .before .before .before .pre .longest,
+      );
+    }
 
 add-a : tie.Need-add-a Inv-loop μ-loop
 add-a c = search needs
@@ -86,9 +106,15 @@ loop-less c = search needs
 
 loop-again : tie.Need-loop-again Inv-loop μ-loop
 loop-again c =
-    let on = walking-on (c .before .before .before .before .before .before .before .before .before .before .before .before .before .before .before .before .before .before .before .pre) (c .before .before .before .before .before .before .before .before .before .before .before .before .before .before .before .loop .inv .2) (c .before .before .before .before .before .before .before .before .before .before .before .before .before .before .loop-test .taken) (c .before .before .before .before .before .before .before .before .before .before .before .before .before .block-span .ensures) (c .before .before .before .before .before .before .before .before .before .before .before .before .if1 .left) (c .before .before .before .before .before .before .before .before .before .before .before .if2 .left)
-    (c .before .before .before .before .before .before .before .before .before .before .of .ensures) (c .before .before .before .before .before .before .before .before .before .inside-test .ensures) (not-false _ (c .before .before .before .before .before .before .before .before .if3 .left)) (c .before .before .before .before .before .before .before .free-at .ensures)
-    (c .before .before .before .before .mark .ensures .0) (c .before .before .before .before .mark .ensures .1 .0) (c .before .before .before .before .mark .ensures .1 .1) in
+    let earlier = c .before .before .before .before .before .before .before .before in
+    let on = walking-on (earlier .before .before .before .before .before .before .before .before .before .before .before .pre)
+    (earlier .before .before .before .before .before .before .before .loop .inv .2) (earlier .before .before .before .before .before .before .loop-test .taken)
+    (earlier .before .before .before .before .before .block-span .ensures) (earlier .before .before .before .before .if1 .left)
+    (earlier .before .before .before .if2 .left)
+    (earlier .before .before .of .ensures) (earlier .before .inside-test .ensures) (not-false _ (earlier .if3 .left))
+    (c .before .before .before .before .before .before .before .free-at .ensures)
+    (c .before .before .before .before .mark .ensures .0) (c .before .before .before .before .mark .ensures .1 .0)
+    (c .before .before .before .before .mark .ensures .1 .1) in
     (search needs, search needs, on)
 
 mul-if4 : tie.Need-mul-if4 Inv-loop μ-loop
@@ -107,7 +133,9 @@ same-length-8 : tie.Need-same-length-8 Inv-loop μ-loop
 same-length-8 c = search needs
 
 returns-4 : tie.Need-returns-4 Inv-loop μ-loop
-returns-4 c = improper _ _ _ (walking-no (c .before .before .before .before .before .before .before .before .pre) (c .before .before .before .before .loop .inv .2) (c .before .before .before .loop-test .left) (c .before .prev-free-bit .ensures) (c .if4 .taken))
+returns-4 c =
+    improper _ _ _ (walking-no (c .before .before .before .before .before .before .before .before .pre) (c .before .before .before .before .loop .inv .2)
+    (c .before .before .before .loop-test .left) (c .before .prev-free-bit .ensures) (c .if4 .taken))
 
 same-length-9 : tie.Need-same-length-9 Inv-loop μ-loop
 same-length-9 c = search needs
@@ -116,7 +144,9 @@ same-length-10 : tie.Need-same-length-10 Inv-loop μ-loop
 same-length-10 c = search needs
 
 returns-5 : tie.Need-returns-5 Inv-loop μ-loop
-returns-5 c = walking-yes (c .before .before .before .before .before .before .before .before .pre) (c .before .before .before .before .loop .inv .2) (c .before .before .before .loop-test .left) (c .before .prev-free-bit .ensures) (c .if4 .left)
+returns-5 c =
+    walking-yes (c .before .before .before .before .before .before .before .before .pre) (c .before .before .before .before .loop .inv .2)
+    (c .before .before .before .loop-test .left) (c .before .prev-free-bit .ensures) (c .if4 .left)
 
 pub walk-spec : {M : Type 1} → statement M
 walk-spec =

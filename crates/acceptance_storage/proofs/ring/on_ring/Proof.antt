@@ -14,7 +14,8 @@ number-requires-2 : tie.Need-number-requires-2
 number-requires-2 c κs = search needs
 
 returns : tie.Need-returns
-returns c = on-dummy (c .before .before .before .before .args .marks .now) _ _ (sym (c .before .before .number .ensures) ∙ c .if1 .taken ∙ c .before .number2 .ensures)
+returns c =
+    on-dummy (c .before .before .before .before .args .marks .now) _ _ (sym (c .before .before .number .ensures) ∙ c .if1 .taken ∙ c .before .number2 .ensures)
 
 index-requires : tie.Need-index-requires
 index-requires c κs = search needs
@@ -26,7 +27,8 @@ returns-2 : tie.Need-returns-2
 returns-2 c =
     let marks = c .before .before .before .before .before .before .args .marks .now in
     ap (leb 1) (c .mark-at .ensures ∙ ap (λ (i : ℕ). getD marks i 0) (c .before .index .ensures))
-    ∙ on-mark marks _ _ (λ e. c .before .before .if1 .left (c .before .before .before .before .number .ensures ∙ e ∙ sym (c .before .before .before .number2 .ensures)))
+    ∙ on-mark marks _ _ (λ e. c .before .before .if1 .left
+    (c .before .before .before .before .number .ensures ∙ e ∙ sym (c .before .before .before .number2 .ensures)))
 
 pub on-ring-spec : {M : Type 1} → statement M
 on-ring-spec =

@@ -20,9 +20,11 @@ same-length c = search needs
 
 returns : tie.Need-returns
 returns c =
-    let a = c .before .before .before .before .before .before .before .args in
+    let earlier = c .before .before .before .before .before .before .before in
+    let a = earlier .args in
     let off = sym (c .before .on-ring .ensures) ∙ not-true _ (c .if1 .taken) in
-    let e = ring-off (a .seg .now) (a .marks .now) (c .before .before .before .before .before .before .before .pre .1) _ _ (c .before .before .before .rover .ensures) (c .before .before .before .before .dummy .ensures .0) off in
+    let e = ring-off (a .seg .now) (a .marks .now) (earlier .pre .1) _ _ (c .before .before .before .rover .ensures)
+    (c .before .before .before .before .dummy .ensures .0) off in
     (sym e, λ t. absurd (never (sym e ∙ t)))
 
 round-requires : tie.Need-round-requires
@@ -33,11 +35,12 @@ same-length-2 c = search needs
 
 returns-2 : tie.Need-returns-2
 returns-2 c =
-    let a = c .before .before .before .before .before .before .before .before .before .before .before .args in
-    let h = c .before .before .before .before .before .before .before .before .before .before .before .pre .1 in
+    let earlier = c .before .before .before .before .before .before .before in
+    let a = earlier .before .before .before .before .args in
+    let h = earlier .before .before .before .before .pre .1 in
     let on = sym (c .before .before .before .before .before .on-ring .ensures) ∙ not-false _ (c .before .before .before .before .if1 .left) in
     let round = c .before .before .round .ensures in
-    let e = ring-on (a .seg .now) (a .marks .now) h _ _ (c .before .before .before .before .before .before .before .rover .ensures) (c .before .before .before .before .before .before .before .before .dummy .ensures .0) on _ (round .0) in
+    let e = ring-on (a .seg .now) (a .marks .now) h _ _ (earlier .rover .ensures) (earlier .before .dummy .ensures .0) on _ (round .0) in
     (e, λ t. round .1 (e ∙ t))
 
 pub ring-test-spec : {M : Type 1} → statement M

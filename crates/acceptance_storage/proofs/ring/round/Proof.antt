@@ -29,8 +29,11 @@ same-length c = search needs
 
 returns : tie.Need-returns Inv-loop μ-loop
 returns c =
-    let unlinked = sym (c .before .linked-to .ensures) ∙ not-true _ (c .if1 .taken) in
-    (sym (round-bad _ _ _ _ _ _ (c .before .before .before .before .loop .inv .1) (c .before .before .before .loop-test .taken) _ (c .before .before .next-at .ensures .0) unlinked), λ t. absurd (never t))
+    let unlinked = sym (c .before .linked-to .ensures) ∙ not-true _ (c .if1 .taken) in (
+      sym (round-bad _ _ _ _ _ _ (c .before .before .before .before .loop .inv .1) (c .before .before .before .loop-test .taken) _
+          (c .before .before .next-at .ensures .0) unlinked),
+      λ t. absurd (never t),
+    )
 
 index-requires : tie.Need-index-requires Inv-loop μ-loop
 index-requires c κs = search needs
@@ -43,9 +46,10 @@ same-length-2 c = search needs
 
 returns-2 : tie.Need-returns-2 Inv-loop μ-loop
 returns-2 c =
-    let l = c .before .before .before .before .before .before .before .before .loop in
-    let linked = sym (c .before .before .before .before .before .linked-to .ensures) ∙ not-false _ (c .before .before .before .before .if1 .left) in
-    let none = round-missing _ _ _ _ _ _ (l .inv .1) (c .before .before .before .before .before .before .before .loop-test .taken) _ (c .before .before .before .before .before .before .next-at .ensures .0) linked
+    let earlier = c .before .before .before .before in
+    let l = earlier .before .before .before .before .loop in
+    let linked = sym (earlier .before .linked-to .ensures) ∙ not-false _ (earlier .if1 .left) in
+    let none = round-missing _ _ _ _ _ _ (l .inv .1) (earlier .before .before .before .loop-test .taken) _ (earlier .before .before .next-at .ensures .0) linked
     (c .before .before .before .index .ensures) (c .before .mark-at .ensures) (c .if2 .taken) in
     (sym none, λ t. absurd (never t))
 
@@ -60,10 +64,13 @@ loop-less c = search needs
 
 loop-again : tie.Need-loop-again Inv-loop μ-loop
 loop-again c =
-    let l = c .before .before .before .before .before .before .before .before .before .before .before .before .loop in
-    let linked = sym (c .before .before .before .before .before .before .before .before .before .linked-to .ensures) ∙ not-false _ (c .before .before .before .before .before .before .before .before .if1 .left) in
-    let on = round-on _ _ _ _ _ _ (l .inv .1) (c .before .before .before .before .before .before .before .before .before .before .before .loop-test .taken) _ (c .before .before .before .before .before .before .before .before .before .before .next-at .ensures .0) linked
-    (c .before .before .before .before .before .before .before .index .ensures) (c .before .before .before .before .before .mark-at .ensures) (c .before .before .before .before .if2 .left) (c .before .before .lower .ensures) in
+    let earlier = c .before .before .before .before .before .before .before in
+    let l = earlier .before .before .before .before .before .loop in
+    let linked = sym (earlier .before .before .linked-to .ensures) ∙ not-false _ (earlier .before .if1 .left) in
+    let on = round-on _ _ _ _ _ _ (l .inv .1) (earlier .before .before .before .before .loop-test .taken) _
+    (earlier .before .before .before .next-at .ensures .0) linked
+    (earlier .index .ensures) (c .before .before .before .before .before .mark-at .ensures) (c .before .before .before .before .if2 .left)
+    (c .before .before .lower .ensures) in
     (search needs, on)
 
 linked-to-requires-2 : tie.Need-linked-to-requires-2 Inv-loop μ-loop
@@ -73,7 +80,11 @@ same-length-3 : tie.Need-same-length-3 Inv-loop μ-loop
 same-length-3 c = search needs
 
 returns-3 : tie.Need-returns-3 Inv-loop μ-loop
-returns-3 c = (c .linked-to2 .ensures ∙ sym (round-last _ _ _ _ _ _ (c .before .before .loop .inv .1) (omega arith)), λ t. round-clear _ _ _ _ _ _ (c .before .before .loop .inv .1) (omega arith))
+returns-3 c = (
+  c .linked-to2 .ensures ∙ sym (round-last _ _ _ _ _ _ (c .before .before .loop .inv .1) (omega arith)),
+  λ t. round-clear _ _ _ _ _ _
+      (c .before .before .loop .inv .1) (omega arith),
+)
 
 pub round-spec : {M : Type 1} → statement M
 round-spec =
