@@ -21,7 +21,7 @@ use Rattle.acceptance_storage.specs.Blocks.{arrayStarts}
 use Rattle.acceptance_storage.specs.Marks.{Tally}
 use Rattle.acceptance.specs.Frames.{arguments, variables}
 use Rattle.acceptance.specs.Cells.{range, inTable, inList, direct, plainCell, freeCell, variablesFrom, frameCells, cellsFrom, cellsTest}
-use Rattle.acceptance.specs.Tables.{Gains, CanRise, lacking, Met, stackTest, cellsOfFrame, frameTest}
+use Rattle.acceptance.specs.Tables.{Gains, CanRise, lacking, Met, stackTest, temporariesOf, cellsOfFrame, frameTest}
 use Rattle.acceptance.specs.Before.{BeforeFrame}
 use Rattle.acceptance.proofs.Meeting.{direct-alike, free-alike, met-then}
 use Rattle.acceptance.proofs.Tallies.{part-join}
@@ -71,7 +71,7 @@ FrameRan s arrays marks args start base top arrays′ marks′ r =
 
 -- The three runs of cells of one frame, as the code meets them.
 module _ {s t₀ m₀ : List ℕ} {args start base top : ℕ} (h : BeforeFrame s t₀ m₀ args start base top) {stack : ℕ} (z : stack ≡ sbase s) where
-  temporaries-are : Lent s (stack + base + 2) (stack + top) ≡ part s (sbase s + base + 2) (top - (base + 2))
+  temporaries-are : Lent s (stack + base + 2) (stack + top) ≡ temporariesOf s base top
   temporaries-are =
       lent s (stack + base + 2) (stack + top) (sbase s + base + 2) (top - (base + 2)) (omega arith) (omega (arith, h .over)) (omega (arith, h .inside))
 
@@ -184,6 +184,11 @@ never e = absurd (false≢true e)
 olderOf : ℕ → (ℕ → ℕ) → List ℕ → ℕ → List ℕ
 olderOf n size s base = cond (leb base (lastLbaseAt s base)) [] (variablesFrom n size s (lastLbaseAt s base))
 
+-- The cells of the frame at `base`, with its variables and those of the older frames in lists.
+abbrev pub listed : (ℕ → ℕ) → (ℕ → ℕ) → List ℕ → (ℕ → ℕ) → List ℕ → List ℕ → ℕ → ℕ → Bool
+listed args size s arrays own older base top =
+    frameCells s arrays (inList own) (inList older) (args (codeWordAt s base)) (base - size (codeWordAt s base)) base top
+
 module _ (args size : ℕ → ℕ) (s : List ℕ) (arrays : ℕ → ℕ) (base top : ℕ) where
   pub cells-none : (n : ℕ) → n ≤ 0 → cellsFrom n args size s arrays base top ≡ false
   unfolding cellsFrom
@@ -191,7 +196,7 @@ module _ (args size : ℕ → ℕ) (s : List ℕ) (arrays : ℕ → ℕ) (base t
   cells-none (suc n) l = absurd (omega arith)
 
   step : (n : ℕ) → 0 < n → cellsFrom n args size s arrays base top
-      ≡ frameCells s arrays (inList (variablesFrom n size s base)) (inList (olderOf (n - 1) size s base)) (args (codeWordAt s base)) (base - size (codeWordAt s base)) base top
+      ≡ listed args size s arrays (variablesFrom n size s base) (olderOf (n - 1) size s base) base top
       && cond (leb base (lastLbaseAt s base)) true (cellsFrom (n - 1) args size s arrays (lastLbaseAt s base) (base - size (codeWordAt s base)))
   unfolding cellsFrom olderOf
   step zero l = absurd (omega arith)
@@ -199,12 +204,12 @@ module _ (args size : ℕ → ℕ) (s : List ℕ) (arrays : ℕ → ℕ) (base t
 
   -- The same as a list says it, at the bottom frame and above it.
   pub cells-at-bottom : (n : ℕ) → 0 < n → base ≤ lastLbaseAt s base → cellsFrom n args size s arrays base top
-      ≡ frameCells s arrays (inList (variablesFrom n size s base)) (inList []) (args (codeWordAt s base)) (base - size (codeWordAt s base)) base top && true
+      ≡ listed args size s arrays (variablesFrom n size s base) [] base top && true
   unfolding olderOf
   cells-at-bottom n pos l = step n pos ∙ simp (le-leb base (lastLbaseAt s base) l)
 
   pub cells-above : (n : ℕ) → 0 < n → {last : ℕ} → last ≡ lastLbaseAt s base → last < base → cellsFrom n args size s arrays base top
-      ≡ frameCells s arrays (inList (variablesFrom n size s base)) (inList (variablesFrom (n - 1) size s last)) (args (codeWordAt s base)) (base - size (codeWordAt s base)) base top
+      ≡ listed args size s arrays (variablesFrom n size s base) (variablesFrom (n - 1) size s last) base top
       && cellsFrom (n - 1) args size s arrays last (base - size (codeWordAt s base))
   unfolding olderOf
   cells-above n pos e l = step n pos ∙ rw e (simp (lt-leb base (lastLbaseAt s base) (rw e at l)))
@@ -220,15 +225,18 @@ module _ (args size : ℕ → ℕ) (s : List ℕ) (arrays : ℕ → ℕ) (base t
     unfolding olderOf
     older-answers = λ i. λ x. each x i
       where
-        each : (x : ℕ) → lacking table (range start (base - start)) x ≡ count x (cond (leb base (lastLbaseAt s base)) [] (variablesFrom (n - 1) size s (lastLbaseAt s base)))
+        each : (x : ℕ) → lacking table (range start (base - start)) x
+            ≡ count x (cond (leb base (lastLbaseAt s base)) [] (variablesFrom (n - 1) size s (lastLbaseAt s base)))
         each x = ⊎-elim
             (λ (l : base ≤ last). simp (le-leb base (lastLbaseAt s base) (rw el at l)) (omega (arith, t x, variables-bottom size s base es el n pos x l)))
-            (λ (l : last < base). simp (lt-leb base (lastLbaseAt s base) (rw el at l), ← el) (omega (arith, t x, variables-on size s base es el n pos x l))) (order base last)
+            (λ (l : last < base). simp (lt-leb base (lastLbaseAt s base) (rw el at l), ← el) (omega (arith, t x, variables-on size s base es el n pos x l)))
+            (order base last)
 
     frame : frameCells s arrays (inTable table) (lacking table (range start (base - start))) count₁ start base top
-        ≡ frameCells s arrays (inList (variablesFrom n size s base)) (inList (olderOf (n - 1) size s base)) (args (codeWordAt s base)) (base - size (codeWordAt s base)) base top
+        ≡ listed args size s arrays (variablesFrom n size s base) (olderOf (n - 1) size s base) base top
     frame =
-        ap (λ (g : ℕ → ℕ). frameCells s arrays g (lacking table (range start (base - start))) count₁ start base top) (same-answers table (variablesFrom n size s base) t)
+        ap (λ (g : ℕ → ℕ). frameCells s arrays g (lacking table (range start (base - start))) count₁ start base top)
+        (same-answers table (variablesFrom n size s base) t)
         ∙ ap (λ (g : ℕ → ℕ). frameCells s arrays (inList (variablesFrom n size s base)) g count₁ start base top) older-answers
         ∙ rw (ea, es)
 

@@ -218,7 +218,8 @@ module _ (s : List ℕ) (variable : ℕ → ℕ) (w : ℕ) {r : Bool} (i : r ≡
         unfolding pointing
         pointing-high h = simp (sym i ∙ yes, eq-eqb (w / 2 ^ 16 % 2) 1 g, le-leb 8 (address w) l, le-ltb (address w) (blockptr s) (rw e at h))
 
-        pub pointing-global : address w < end → {at word : ℕ} {t : Bool} → at ≡ address w → word ≡ getD s at 0 → t ≡ isIndirect word → not t ≡ pointing s variable w
+        pub pointing-global : address w < end → {at word : ℕ} {t : Bool} → at ≡ address w → word ≡ getD s at 0 → t ≡ isIndirect word
+            → not t ≡ pointing s variable w
         unfolding pointing
         pointing-global h a b q =
             ap not (q ∙ ap isIndirect (b ∙ ap (λ (k : ℕ). getD s k 0) a))
@@ -229,7 +230,8 @@ module _ (s : List ℕ) (variable : ℕ → ℕ) (w : ℕ) {r : Bool} (i : r ≡
       unfolding pointing
       pointing-unmarked l = simp (sym i ∙ yes, ne-eqb (w / 2 ^ 16 % 2) 1 g, lt-leb 1 (variable (address w)) (rw m at l))
 
-      pub pointing-variable : 1 ≤ mark → {at word : ℕ} {t : Bool} → at ≡ address w → word ≡ stackAt s at → t ≡ isIndirect word → not t ≡ pointing s variable w
+      pub pointing-variable : 1 ≤ mark → {at word : ℕ} {t : Bool} → at ≡ address w → word ≡ stackAt s at → t ≡ isIndirect word
+          → not t ≡ pointing s variable w
       unfolding pointing
       pointing-variable l a b q =
           ap not (q ∙ ap isIndirect (b ∙ ap (stackAt s) a))

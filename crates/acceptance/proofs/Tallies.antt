@@ -15,7 +15,7 @@ use Rattle.storage.specs.Heap.{hit, count}
 use Rattle.storage_theorems.proofs.Counts.{count-append}
 use Rattle.segment.specs.Machine.{cellsOfFrames}
 use Rattle.segment.specs.View.{frameAt, framesFrom, words, owners}
-use Rattle.acceptance.specs.Tables.{CanRise, Met, cellsOfFrame, cellsOfStack}
+use Rattle.acceptance.specs.Tables.{CanRise, Met, temporariesOf, cellsOfFrame, cellsOfStack}
 use Rattle.acceptance.proofs.Meeting.{met-then, still-marked}
 
 -- Words one after the other, in two parts.
@@ -40,11 +40,13 @@ downward-count w s a (suc n) = omega (arith, downward-count w s a n, part-last w
 
 -- The cells of the frames from the one at `base` down.
 module _ (s : List ℕ) (base n : ℕ) (pos : 0 < n) where
-  frames-step : framesFrom n s base ≡ cond (leb base (lastLbaseAt s base)) (frameAt s base 0 ∷ []) (frameAt s base (lastLbaseAt s base + 2) ∷ framesFrom (n - 1) s (lastLbaseAt s base))
+  frames-step : framesFrom n s base
+      ≡ cond (leb base (lastLbaseAt s base)) (frameAt s base 0 ∷ []) (frameAt s base (lastLbaseAt s base + 2) ∷ framesFrom (n - 1) s (lastLbaseAt s base))
   unfolding framesFrom
   frames-step = go n pos
     where
-      go : (n : ℕ) → 0 < n → framesFrom n s base ≡ cond (leb base (lastLbaseAt s base)) (frameAt s base 0 ∷ []) (frameAt s base (lastLbaseAt s base + 2) ∷ framesFrom (n - 1) s (lastLbaseAt s base))
+      go : (n : ℕ) → 0 < n → framesFrom n s base
+          ≡ cond (leb base (lastLbaseAt s base)) (frameAt s base 0 ∷ []) (frameAt s base (lastLbaseAt s base + 2) ∷ framesFrom (n - 1) s (lastLbaseAt s base))
       go zero h = absurd (omega arith)
       go (suc n) h = let e : suc n - 1 ≡ n = omega arith in rw e
 
@@ -69,8 +71,8 @@ pub record Down (s : List ℕ) (from upto : ℕ) (before table : List ℕ) (base
   pub room : CanRise table top
   pub same : (x : ℕ) → leb 1 (getD table x 0) ≡ leb 1 (getD before x 0)
   pub sum : (x : ℕ) → x < 2 ^ 16 → 1 ≤ getD before x 0
-      → getD table x 0 + (count (arrayWord x) (part s (sbase s + base + 2) (top - (base + 2))) + count (arrayWord x) (cellsOfFrames (framesFrom depth s base)))
-      ≡ getD before x 0 + (count (arrayWord x) (part s (sbase s + from + 2) (upto - (from + 2))) + count (arrayWord x) (cellsOfFrames (framesFrom (suc from) s from)))
+      → getD table x 0 + (count (arrayWord x) (temporariesOf s base top) + count (arrayWord x) (cellsOfFrames (framesFrom depth s base)))
+      ≡ getD before x 0 + (count (arrayWord x) (temporariesOf s from upto) + count (arrayWord x) (cellsOfFrames (framesFrom (suc from) s from)))
 
 pub down-start : (s : List ℕ) (from upto : ℕ) (table : List ℕ) → CanRise table upto → Down s from upto table table from upto
 down-start s from upto table r = record { depth = suc from; fuel = omega arith; room = r; same = λ x. refl; sum = λ x l j. refl }
@@ -81,10 +83,10 @@ module _ {s : List ℕ} {from upto : ℕ} {before table : List ℕ} {base top : 
   pos = omega (arith, h .fuel)
 
   more : (x : ℕ) → x < 2 ^ 16 → 1 ≤ getD before x 0 → getD after x 0
-      ≡ getD table x 0 + (count (arrayWord x) (part s (sbase s + base + 2) (top - (base + 2))) + count (arrayWord x) (part s (sbase s + start) (base - start)))
+      ≡ getD table x 0 + (count (arrayWord x) (temporariesOf s base top) + count (arrayWord x) (part s (sbase s + start) (base - start)))
   more x l j =
       m .sum x l (still-marked before table (h .same) x j)
-      ∙ ap (λ (n : ℕ). getD table x 0 + n) (count-append (arrayWord x) (part s (sbase s + base + 2) (top - (base + 2))) (part s (sbase s + start) (base - start)))
+      ∙ ap (λ (n : ℕ). getD table x 0 + n) (count-append (arrayWord x) (temporariesOf s base top) (part s (sbase s + start) (base - start)))
 
   pub down-bottom : start ≡ 0 → base ≤ last → Met before after (cellsOfStack s from upto)
   down-bottom z l = record { same = λ x. m .same x ∙ h .same x; sum = total }
@@ -103,7 +105,7 @@ module _ {s : List ℕ} {from upto : ℕ} {before table : List ℕ} {base top : 
         more x u j,
         all (arrayWord x),
         h .sum x u j,
-        count-append (arrayWord x) (part s (sbase s + from + 2) (upto - (from + 2))) (cellsOfFrames (framesFrom (suc from) s from)),
+        count-append (arrayWord x) (temporariesOf s from upto) (cellsOfFrames (framesFrom (suc from) s from)),
       )
 
   pub down-on : last + 2 ≤ start → start ≤ base → CanRise after start → Down s from upto before after last start
@@ -116,7 +118,7 @@ module _ {s : List ℕ} {from upto : ℕ} {before table : List ℕ} {base top : 
   }
     where
       all : (w : ℕ) → count w (cellsOfFrames (framesFrom (h .depth) s base))
-          ≡ count w (part s (sbase s + last + 2) (start - (last + 2))) + count w (part s (sbase s + start) (base - start)) + count w (cellsOfFrames (framesFrom (h .depth - 1) s last))
+          ≡ count w (temporariesOf s last start) + count w (part s (sbase s + start) (base - start)) + count w (cellsOfFrames (framesFrom (h .depth - 1) s last))
       all w =
           let a : sbase s + (last + 2) ≡ sbase s + last + 2 = omega arith in
           let b : base - (last + 2) ≡ start - (last + 2) + (base - start) = omega arith in

@@ -69,13 +69,16 @@ chainVariables s regular alternate base = variablesFrom (length s) (variables re
 abbrev pub stackTest : List ℕ → List ℕ → List ℕ → (ℕ → ℕ) → ℕ → ℕ → Bool
 stackTest s regular alternate arrays base top = cellsFrom (length s) (arguments regular alternate) (variables regular alternate) s arrays base top
 
--- The cells of one frame: its temporaries below `top`, and its arguments and locals from `start` on.
-abbrev pub cellsOfFrame : List ℕ → ℕ → ℕ → ℕ → List ℕ
-cellsOfFrame s start base top = part s (sbase s + base + 2) (top - (base + 2)) ++ part s (sbase s + start) (base - start)
+-- The temporaries of the frame at `base`, below `top`; all its cells, with its arguments and locals from `start` on; and those of
+-- the frames from it down.
+abbrev pub temporariesOf : List ℕ → ℕ → ℕ → List ℕ
+temporariesOf s base top = part s (sbase s + base + 2) (top - (base + 2))
 
--- The cells of the frames from the one at `base` down, with its temporaries below `top`.
+abbrev pub cellsOfFrame : List ℕ → ℕ → ℕ → ℕ → List ℕ
+cellsOfFrame s start base top = temporariesOf s base top ++ part s (sbase s + start) (base - start)
+
 abbrev pub cellsOfStack : List ℕ → ℕ → ℕ → List ℕ
-cellsOfStack s base top = part s (sbase s + base + 2) (top - (base + 2)) ++ cellsOfFrames (framesFrom (suc base) s base)
+cellsOfStack s base top = temporariesOf s base top ++ cellsOfFrames (framesFrom (suc base) s base)
 
 -- Test 17 of one frame, where `marks` has its variables and those of the older frames: its arguments may name these only.
 abbrev pub frameTest : List ℕ → List ℕ → List ℕ → ℕ → ℕ → ℕ → ℕ → Bool
