@@ -168,16 +168,17 @@ module _ (s : List ℕ) (f : Running) (place : ℕ) {r : Bool} {t : List ℕ} wh
             ∙ rw (on, is, upper, lower, ← third, ← end) (half-fetched code (place + 1 + 2) NoWord (λ l d. Word ((byteAt code (place + 1) * 2 ^ 8 + byteAt code (place + 1 + 1)) * 2 ^ 16 + l) d) (omega arith))
 
     -- GO, GO_TRUE and GO_FALSE, of a function with the header h
-    module _ {h : Header} {kind : Jump} {to next : ℕ} (of : headerOf f ≡ h) (inside : place + 1 + 1 < length code) (is : to ≡ getD code (place + 1) 0 * 2 ^ 8 + getD code (place + 1 + 1) 0) (behind : next ≡ (place + 3) % 2 ^ 32) where
+    module _ {h : Header} {kind : Jump} {at number to next : ℕ} (of : headerOf f ≡ h) (here : at ≡ place) (inside : at + 1 + 1 < length code) (is : number ≡ getD code (at + 1) 0 * 2 ^ 8 + getD code (at + 1 + 1) 0) (made : to ≡ number) (behind : next ≡ (place + 3) % 2 ^ 32) where
       planned : (jump : Jump) {p : Plan} → kind ≡ jump → p ≡ jumpPlan f (seen s) next jump to → DoneOrKept s p r t → Planned s f r t (jumpAt code (after place) kind)
       unfolding jumpAt planOf
       planned jump told same answer = went-as (rw (told, same) (sym (ap (planDecoded f (seen s)) stands))) answer
         where
           stands : withHalf (fetchHalf code (after place)) (D.Trap 3 1) (λ b c. decodedTo (I.Jump jump (codeAddress b)) c) ≡ D.Instruction (I.Jump jump (codeAddress to)) (codeAddress next)
           stands =
-              let on : place + 1 + 1 + 1 ≡ place + 3 = omega arith in
-              half-fetched code (place + 1) (D.Trap 3 1) (λ b c. decodedTo (I.Jump jump (codeAddress b)) c) inside
-              ∙ rw (on, behind, is)
+              let on : at + 1 + 1 + 1 ≡ at + 3 = omega arith in
+              rw (behind, ← here)
+              (half-fetched code (at + 1) (D.Trap 3 1) (λ b c. decodedTo (I.Jump jump (codeAddress b)) c) inside
+              ∙ rw (on, made, is))
 
       pub go-by : kind ≡ J.Go → DoneOrKept s (control.go h to) r t → Planned s f r t (jumpAt code (after place) kind)
       go-by told answer = planned J.Go told (rw of) answer
@@ -190,15 +191,15 @@ module _ (s : List ℕ) (f : Running) (place : ℕ) {r : Bool} {t : List ℕ} wh
 
 -- ---- the families
 
-module _ (s : List ℕ) (f : Running) (code : List ℕ) (place : ℕ) {first : ℕ} {family : Family} (low : 8 ≤ place) (inside : place < length code) (is : first ≡ getD code place 0) (found : family ≡ familyOf first) {r : Bool} {t : List ℕ} where
+module _ (s : List ℕ) (f : Running) (code : List ℕ) (place : ℕ) {at first : ℕ} {family : Family} (here : at ≡ place) (low : 8 ≤ at) (inside : at < length code) (is : first ≡ getD code at 0) (found : family ≡ familyOf first) {r : Bool} {t : List ℕ} where
   family-at : (k : Family) → family ≡ k → Planned s f r t (familyAt code (after place) first k) → Planned s f r t (instructionAt code place)
   unfolding instructionAt
   family-at k told answer = went-as (ap (planDecoded f (seen s)) (sym stands)) answer
     where
       stands : cond (ltb place 8) (D.Trap 3 1) (withByte (fetchByte code (cursorAt place)) (D.Trap 3 1) (λ b next. familyAt code next b (familyOf b))) ≡ familyAt code (after place) first k
       stands =
-          rw (le-ltb place 8 low)
-          (fetched code place (D.Trap 3 1) (λ b next. familyAt code next b (familyOf b)) inside
+          rw (← here, le-ltb at 8 low)
+          (fetched code at (D.Trap 3 1) (λ b next. familyAt code next b (familyOf b)) inside
           ∙ rw (← is, ← found, told))
 
   pub short-local-at : {variables next : ℕ} → family ≡ ShortLocal → variables ≡ variablesOf (headerOf f) → next ≡ (place + 1) % 2 ^ 32 → DoneOrKept s (loads.load (seen s) next (seen s .local variables (64 - first % 2 ^ 6))) r t → Planned s f r t (instructionAt code place)

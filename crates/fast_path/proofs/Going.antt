@@ -33,6 +33,9 @@ unfolding setPctr
 whole-jumped s place small done = done ∙ rw (mod-eq-of-lt small)
 
 -- To a place of the function's code.
+pub in-code : (h : Header) {number end to : ℕ} → to ≡ number → codeStart ≤ number → number < end → end ≡ codeEnd h → (codeStart ≤ to) × (to < codeEnd h)
+in-code h made low high ends = (rw made low, rw (made, ← ends) high)
+
 module _ (h : Header) (place : ℕ) (low : codeStart ≤ place) (high : place < codeEnd h) where
   jump-inside : (before : List Effect) → jumpTo h place before ≡ gives (before ++ (jumps place ∷ []))
   jump-inside before = rw (le-ltb place codeStart low, lt-leb (codeEnd h) place high)

@@ -1,7 +1,6 @@
 use mathlib.Core.Path.{refl}
 use mathlib.Core.Bool.{true, false}
-use native.Mathlib.Omega.{arith}
-use Rattle.fast_path.proofs.Going.{gone}
+use Rattle.fast_path.proofs.Going.{in-code, gone}
 use Rattle.fast_path.proofs.Decoding.{go-by, go-true-by, go-false-by}
 use Rattle.fast_path.proofs.Answers.{left, went}
 use borrow.Author.Needs.{needs}
@@ -78,19 +77,28 @@ same-length : tie.Need-same-length
 same-length c = search needs
 
 returns-4 : tie.Need-returns-4
-returns-4 c = λ f. λ of. go-by _ f _ _ of (omega arith) (cc) refl (c .before .before .before .before .enum-told .given .1) (went (c .before .before .go .ensures .0) (gone _ _ (omega arith) (omega arith) _ (c .before .before .go .ensures .1)))
+returns-4 c =
+    let k = c .before .before .before .before .before .before in
+    let inside = in-code (k .before .before .before .before .before .before .before .before .before .before .before .args .h) (k .of .ensures) (k .before .before .before .if2 .left) (k .before .if3 .left) (k .before .before .code-end .ensures) in
+    λ f. λ of. go-by _ f _ _ of (k .before .before .before .before .before .before .before .before .number .ensures) (k .before .before .before .before .before .before .before .if1 .left) (k .before .before .before .before .half .ensures) (k .of .ensures) refl (c .before .before .before .before .enum-told .given .1) (went (c .before .before .go .ensures .0) (gone _ _ (inside .0) (inside .1) _ (c .before .before .go .ensures .1)))
 
 same-length-2 : tie.Need-same-length-2
 same-length-2 c = search needs
 
 returns-5 : tie.Need-returns-5
-returns-5 c = λ f. λ of. go-true-by _ f _ _ of (omega arith) (cc) (c .before .before .before .after .ensures) (c .before .before .before .before .before .enum-told2 .given .1) (c .before .before .go-if .ensures _ true refl (omega arith) (omega arith))
+returns-5 c =
+    let k = c .before .before .before .before .before .before .before in
+    let inside = in-code (k .before .before .before .before .before .before .before .before .before .before .before .args .h) (k .of .ensures) (k .before .before .before .if2 .left) (k .before .if3 .left) (k .before .before .code-end .ensures) in
+    λ f. λ of. go-true-by _ f _ _ of (k .before .before .before .before .before .before .before .before .number .ensures) (k .before .before .before .before .before .before .before .if1 .left) (k .before .before .before .before .half .ensures) (k .of .ensures) (c .before .before .before .after .ensures) (c .before .before .before .before .before .enum-told2 .given .1) (c .before .before .go-if .ensures _ true refl (inside .0) (inside .1))
 
 same-length-3 : tie.Need-same-length-3
 same-length-3 c = search needs
 
 returns-6 : tie.Need-returns-6
-returns-6 c = λ f. λ of. go-false-by _ f _ _ of (omega arith) (cc) (c .before .before .before .after2 .ensures) (c .before .before .before .before .before .enum-told3 .given .1) (c .before .before .go-if2 .ensures _ false refl (omega arith) (omega arith))
+returns-6 c =
+    let k = c .before .before .before .before .before .before .before in
+    let inside = in-code (k .before .before .before .before .before .before .before .before .before .before .before .args .h) (k .of .ensures) (k .before .before .before .if2 .left) (k .before .if3 .left) (k .before .before .code-end .ensures) in
+    λ f. λ of. go-false-by _ f _ _ of (k .before .before .before .before .before .before .before .before .number .ensures) (k .before .before .before .before .before .before .before .if1 .left) (k .before .before .before .before .half .ensures) (k .of .ensures) (c .before .before .before .after2 .ensures) (c .before .before .before .before .before .enum-told3 .given .1) (c .before .before .go-if2 .ensures _ false refl (inside .0) (inside .1))
 
 pub jump-to-spec : {M : Type 1} → statement M
 jump-to-spec =
