@@ -4,3 +4,4 @@ pub mod Holding
 pub mod Locals
 pub mod Calling
 pub mod Lending
+pub mod Fields

@@ -18,8 +18,7 @@ use contract.Lifetimes.{AllOutlive}
 use contract.Monad.{Fun}
 use contract.Running.{givenOf, tables, tablesOf}
 use types.Kit.{Given, Item, ‵, raw, _⊛_, ⋆, runs, atRet, Sq, _$_, _∵_, !, qed, by, move, drop, use1, split, join, rewrite, fsplit, fsplit3, fjoin, fjoin3, feqI, suffices, frame, done}
-use types.Part.{whole, sub, look-in, store-in}
-use types.Run.{look, init, forget, stop, hop, fld, from, load, of-opd, and-then, no-more, assigns, land, returns, enter, alloc1, alloc0, params1, pass1, pass0, free1, free0}
+use types.Run.{look, init, forget, stop, from, load, of-opd, and-then, no-more, assigns, land, returns, enter, alloc1, alloc0, params1, pass1, pass0, free1, free0}
 use types.SemTy.{Body}
 use sound.WpLaws.{FmC, fmOf, WpFn-mono}
 use denote.RattleType.{owns}
@@ -52,6 +51,7 @@ use Rattle.reader.specs.Walking.{placeAfter, foundBy, readOnce}
 use Rattle.reader.specs.declared.Reader.{Reader}
 use Rattle.reader.proofs.Calling.{answers, answers-plain}
 use Rattle.reader.proofs.Holding.{lifetime, Held, own, codeVal, at, code-is, place-is, again, place-own, typed, code-own, moved}
+use Rattle.reader.proofs.Fields.{reads-field, stores-field}
 use Rattle.reader.proofs.Locals.{Typed, free}
 use Rattle.reader.proofs.Reader as T
 use Rattle.reader.proofs.Reader.Laws as T′
@@ -113,8 +113,8 @@ module _ {M : Type 1} (𝓤 : URA M) (H : Heap 𝓤) (A : Atoms 𝓤) (W : Given
           use1 W (‵ (fat fullShare (T′.mir erased) b o (T′.lowered h))) (W .laws .raw-at fullShare (T′.mir erased) b o (T′.lowered h)) $
           move ! (1 ∷ []) $ peeks ! (Held κ′) (Is (Held κ′)) (shows 𝓤 H A (Held κ′)) h (T′.lowered h ∷ []) (λ was. move ! (1 ∷ 0 ∷ []) $
           -- [the struct's cell; what a Reader owns; the open borrow; obs; auth; 'a's token; _5; …; _4; …; _3; …; _2; …; _1; …; room for _0; …]
-          assigns ! (of-opd ! (load ! (from ! (hop ! (look ! 14 refl) (fld ! refl (stop !)))) (look-in ! 0 (sub ! 1 refl (whole !))))) (from ! (stop !)) (init ! 12 refl (typed-p (h .place) _ (place-is κ′ h was))) $
-          assigns ! (of-opd ! (load ! (from ! (hop ! (look ! 14 refl) (fld ! refl (stop !)))) (look-in ! 0 (sub ! 0 refl (whole !))))) (from ! (stop !)) (init ! 8 refl (typed-c (h .code) _ (code-is κ′ h was))) $
+          reads-field ! 1 refl refl (look ! 14 refl) (from ! (stop !)) (init ! 12 refl (typed-p (h .place) _ (place-is κ′ h was))) $
+          reads-field ! 0 refl refl (look ! 14 refl) (from ! (stop !)) (init ! 8 refl (typed-c (h .code) _ (code-is κ′ h was))) $
           -- `instruction_at` is called
           move ! (1 ∷ []) $ use1 W (‵ (ShrSlice (named 0) κ′ u8 .own (h .code) (codeVal h ∷ [])) ⊛ ‵ (own κ′ h)) (code-own 𝓤 H A W κ′ h) $ split ! $
           nothing ! $ place-own ! (h .place) (place-is κ′ h was) $ fjoin ! $ move ! (1 ∷ 0 ∷ []) $ fjoin ! $
@@ -128,11 +128,11 @@ module _ {M : Type 1} (𝓤 : URA M) (H : Heap 𝓤) (A : Atoms 𝓤) (W : Given
           (and-then ! (load ! (from ! (stop !)) (look ! 13 refl)) (and-then ! (load ! (from ! (stop !)) (look ! 11 refl)) (no-more !))) (λ r. r ≡ placeAfter (h .place) d) (λ r ws. id⊢ 𝓤 _) (λ w r e′ is′.
           -- ['a's token; what a Reader owns; the struct's cell; the open borrow; obs; auth; room for _5; …; _4; …; _3; …; _2; …; _1; …; room for _0; …]
           land ! (from ! (stop !)) (init ! 6 refl (typed-p r _ is′)) $ rewrite ! 6 (λ (n : Val). ‵ (fat fullShare tp l₅ 0 n)) (ap only (LL.tells P.the-type P′.the-laws r _ is′)) refl $
-          assigns ! (of-opd ! (load ! (from ! (stop !)) (look ! 6 refl))) (from ! (hop ! (look ! 14 refl) (fld ! refl (stop !)))) (store-in ! 2 (sub ! 1 refl (whole !)) (typed 𝓤 H A W r (again r is′))) $
+          move ! (2 ∷ []) $ stores-field ! 1 refl (look ! 14 refl) (of-opd ! (load ! (from ! (stop !)) (look ! 6 refl))) (typed 𝓤 H A W r (again r is′)) $
           assigns ! (of-opd ! (load ! (from ! (stop !)) (look ! 10 refl))) (from ! (stop !)) (init ! 16 refl (typed-d d _ is)) $
           -- the borrow is closed at the new place
-          move ! (1 ∷ []) $ use1 W (‵ (own κ′ (at h r))) (moved 𝓤 H A W κ′ h r (again r is′)) $
-          move ! (2 ∷ []) $ use1 W (‵ (cellAt fullShare (Held κ′ .mir) (T′.lowered (at h r) ∷ []) b o)) (W .laws .at-raw fullShare (T′.mir erased) b o (T′.lowered (at h r))) $
+          move ! (2 ∷ []) $ use1 W (‵ (own κ′ (at h r))) (moved 𝓤 H A W κ′ h r (again r is′)) $
+          move ! (1 ∷ []) $ use1 W (‵ (cellAt fullShare (Held κ′ .mir) (T′.lowered (at h r) ∷ []) b o)) (W .laws .at-raw fullShare (T′.mir erased) b o (T′.lowered (at h r))) $
           move ! (0 ∷ 1 ∷ 3 ∷ 4 ∷ 5 ∷ []) $ closes ! tt (Held κ′) (at h r) (T′.lowered (at h r) ∷ []) b o $
           -- [obs; the borrow; its token; 'a's token; _5; …; _4; …; _3; …; _2; …; _1; …; _0; …]
           returns ! (look ! 14 refl) $ forget ! 4 refl $ forget ! 6 refl $ forget ! 8 refl $ forget ! 10 refl $ forget ! 12 refl $ forget ! 14 refl $
