@@ -13,7 +13,7 @@ use Rattle.acceptance_storage.specs.Marks.{Tally}
 use Rattle.acceptance.specs.declared.frames.Frame.{Frame}
 use Rattle.acceptance.specs.Frames.{arguments, variables, FrameAt}
 use Rattle.acceptance.specs.Cells.{inTable, plainCell, range, variablesFrom, frameCells, cellsFrom, cellsTest}
-use Rattle.acceptance.specs.Tables.{CanRise, lacking, Met, chainVariables, stackTest, cellsOfStack, frameTest}
+use Rattle.acceptance.specs.Tables.{CanRise, lacking, Met, chainVariables, stackTest, cellsOfStack}
 use Rattle.acceptance.specs.Before.{BeforeCells, BeforeStack, BeforeFrame}
 use Rattle.acceptance.proofs.Chain.{chainFrom, few-arguments, low-enough, at-bottom, above, long}
 use Rattle.acceptance.proofs.FrameCells.{Lent, Ran, FrameRan, lent, lent-length, cells-none, own-marked, frame-alike, frame-fails, frame-bottom, frame-on}
