@@ -95,18 +95,19 @@ module _ (s : List ℕ) (f : Running) (place : ℕ) {r : Bool} {t : List ℕ} wh
 
   module _ (code : List ℕ) where
     -- SHORTCONST
-    pub constant-by : (first : ℕ) {next half w : ℕ} → place + 1 < length code → half ≡ first * 2 ^ 8 + getD code (place + 1) 0 → w ≡ integerWord (bit (eqb (half / 2 ^ 12 % 2) 1)) (half % 2 ^ 12) → next ≡ (place + 2) % 2 ^ 32 → DoneOrKept s (loads.push (seen s) next (word w)) r t → Planned s f r t (shortConstantAt code (after place) first)
+    pub constant-by : (first : ℕ) {at next half w : ℕ} → at ≡ place → at + 1 < length code → half ≡ first * 2 ^ 8 + getD code (at + 1) 0 → w ≡ integerWord (bit (eqb (half / 2 ^ 12 % 2) 1)) (half % 2 ^ 12) → next ≡ (place + 2) % 2 ^ 32 → DoneOrKept s (loads.push (seen s) next (word w)) r t → Planned s f r t (shortConstantAt code (after place) first)
     unfolding shortConstantAt planOf loads.shortConstant
-    constant-by first {next} {half} inside whole is behind answer = went-as (rw (stands, is, short)) answer
+    constant-by first {at} {next} {half} here inside whole is behind answer = went-as (rw (stands, is, short)) answer
       where
         short : half % 2 ^ 12 % 2 ^ 12 ≡ half % 2 ^ 12
         short = omega arith
 
         stands : withByte (fetchByte code (after place)) (D.Trap 3 1) (λ b c. decodedTo (shortConstantOf (first * 2 ^ 8 + b)) c) ≡ D.Instruction (shortConstantOf half) (codeAddress next)
         stands =
-            let on : place + 1 + 1 ≡ place + 2 = omega arith in
-            fetched code (place + 1) (D.Trap 3 1) (λ b c. decodedTo (shortConstantOf (first * 2 ^ 8 + b)) c) inside
-            ∙ rw (on, behind, whole)
+            let on : at + 1 + 1 ≡ at + 2 = omega arith in
+            rw (behind, ← here)
+            (fetched code (at + 1) (D.Trap 3 1) (λ b c. decodedTo (shortConstantOf (first * 2 ^ 8 + b)) c) inside
+            ∙ rw (on, whole))
 
     -- An address starts at `at`, after the first byte.
     module _ {at : ℕ} (here : at ≡ place + 1) where
@@ -155,17 +156,18 @@ module _ (s : List ℕ) (f : Running) (place : ℕ) {r : Bool} {t : List ℕ} wh
       constant-in told answer = rw told answer
 
     -- CONSTANT_SCALAR
-    pub constant-scalar-by : {high low w next : ℕ} → place + 1 + 3 < length code → high ≡ getD code (place + 1) 0 * 2 ^ 8 + getD code (place + 1 + 1) 0 → low ≡ getD code (place + 1 + 2) 0 * 2 ^ 8 + getD code (place + 1 + 3) 0 → w ≡ high * 2 ^ 16 + low → next ≡ (place + 5) % 2 ^ 32 → isScalar w ≡ true → DoneOrKept s (loads.push (seen s) next (word w)) r t → Planned s f r t (constantScalarAt code (after place))
+    pub constant-scalar-by : {at high low w next : ℕ} → at ≡ place → at + 1 + 3 < length code → high ≡ getD code (at + 1) 0 * 2 ^ 8 + getD code (at + 1 + 1) 0 → low ≡ getD code (at + 1 + 2) 0 * 2 ^ 8 + getD code (at + 1 + 3) 0 → w ≡ high * 2 ^ 16 + low → next ≡ (place + 5) % 2 ^ 32 → isScalar w ≡ true → DoneOrKept s (loads.push (seen s) next (word w)) r t → Planned s f r t (constantScalarAt code (after place))
     unfolding constantScalarAt fetchWord planOf loads.constantScalar
-    constant-scalar-by {w = w} inside upper lower is behind scalar answer = went-as (rw (stands, scalar, behind)) answer
+    constant-scalar-by {at} {w = w} here inside upper lower is behind scalar answer = went-as (rw (stands, scalar, behind)) answer
       where
         stands : withHalf (fetchHalf code (after place)) NoWord (λ b c. withHalf (fetchHalf code c) NoWord (λ l d. Word (b * 2 ^ 16 + l) d)) ≡ Word w (cursorAt (place + 5))
         stands =
-            let on : place + 1 + 1 + 1 ≡ place + 1 + 2 = omega arith in
-            let third : place + 1 + 2 + 1 ≡ place + 1 + 3 = omega arith in
-            let end : place + 1 + 2 + 1 + 1 ≡ place + 5 = omega arith in
-            half-fetched code (place + 1) NoWord (λ b c. withHalf (fetchHalf code c) NoWord (λ l d. Word (b * 2 ^ 16 + l) d)) (omega arith)
-            ∙ rw (on, is, upper, lower, ← third, ← end) (half-fetched code (place + 1 + 2) NoWord (λ l d. Word ((byteAt code (place + 1) * 2 ^ 8 + byteAt code (place + 1 + 1)) * 2 ^ 16 + l) d) (omega arith))
+            let on : at + 1 + 1 + 1 ≡ at + 1 + 2 = omega arith in
+            let third : at + 1 + 2 + 1 ≡ at + 1 + 3 = omega arith in
+            let end : at + 1 + 2 + 1 + 1 ≡ at + 5 = omega arith in
+            rw (← here)
+            (half-fetched code (at + 1) NoWord (λ b c. withHalf (fetchHalf code c) NoWord (λ l d. Word (b * 2 ^ 16 + l) d)) (omega arith)
+            ∙ rw (on, is, upper, lower, ← third, ← end) (half-fetched code (at + 1 + 2) NoWord (λ l d. Word ((byteAt code (at + 1) * 2 ^ 8 + byteAt code (at + 1 + 1)) * 2 ^ 16 + l) d) (omega arith)))
 
     -- GO, GO_TRUE and GO_FALSE, of a function with the header h
     module _ {h : Header} {kind : Jump} {at number to next : ℕ} (of : headerOf f ≡ h) (here : at ≡ place) (inside : at + 1 + 1 < length code) (is : number ≡ getD code (at + 1) 0 * 2 ^ 8 + getD code (at + 1 + 1) 0) (made : to ≡ number) (behind : next ≡ (place + 3) % 2 ^ 32) where

@@ -87,8 +87,9 @@ module _ (s : List ℕ) (h : Header) (next to : ℕ) (wanted : Bool) (some : 1 �
   abbrev pub left : List ℕ
   left = setLtop s (ltop s - 1)
 
-  discards-one : (place : ℕ) → did Finished (perform left (jumps place)) ≡ carry s (gives (discards 1 ∷ jumps place ∷ []))
-  discards-one place = ap (λ (u : List ℕ). did Finished (perform u (jumps place))) (sym (discarded s (scalar-no-array (operandAt s 0) is-scalar)))
+  after-discard : (place : ℕ) {u t : List ℕ} → u ≡ left → t ≡ perform u (jumps place) → did Finished t ≡ carry s (gives (discards 1 ∷ jumps place ∷ []))
+  after-discard place dropped done =
+      ap (did Finished) (done ∙ ap (λ (v : List ℕ). perform v (jumps place)) (dropped ∙ sym (discarded s (scalar-no-array (operandAt s 0) is-scalar))))
 
   planned : goIf (seen s) h next wanted to ≡ cond (cond wanted held (not held)) (jumpTo h to (discards 1 ∷ [])) (gives (discards 1 ∷ jumps next ∷ []))
   unfolding goIf
@@ -98,14 +99,14 @@ module _ (s : List ℕ) (h : Header) (next to : ℕ) (wanted : Bool) (some : 1 �
       truth = ap truthOf is-bit ∙ bit-truth held
 
   module _ {number : ℕ} (named : number ≡ bit wanted) where
-    pub jump-taken : {t : List ℕ} → codeStart ≤ to → to < codeEnd h → operandAt s 0 ≡ number → t ≡ perform left (jumps to) → did Finished t ≡ carry s (goIf (seen s) h next wanted to)
-    jump-taken low high same done = ap (did Finished) done ∙ discards-one to ∙ ap (carry s) (sym taken)
+    pub jump-taken : {u t : List ℕ} → codeStart ≤ to → to < codeEnd h → operandAt s 0 ≡ number → u ≡ left → t ≡ perform u (jumps to) → did Finished t ≡ carry s (goIf (seen s) h next wanted to)
+    jump-taken low high same dropped done = after-discard to dropped done ∙ ap (carry s) (sym taken)
       where
         taken : goIf (seen s) h next wanted to ≡ gives (discards 1 ∷ jumps to ∷ [])
         taken = planned ∙ rw (same-bit wanted held (sym is-bit ∙ same ∙ named)) (jump-inside h to low high (discards 1 ∷ []))
 
-    pub jump-passed : {t : List ℕ} → (operandAt s 0 ≡ number → ⊥) → t ≡ perform left (jumps next) → did Finished t ≡ carry s (goIf (seen s) h next wanted to)
-    jump-passed other done = ap (did Finished) done ∙ discards-one next ∙ ap (carry s) (sym passed)
+    pub jump-passed : {u t : List ℕ} → (operandAt s 0 ≡ number → ⊥) → u ≡ left → t ≡ perform u (jumps next) → did Finished t ≡ carry s (goIf (seen s) h next wanted to)
+    jump-passed other dropped done = after-discard next dropped done ∙ ap (carry s) (sym passed)
       where
         passed : goIf (seen s) h next wanted to ≡ gives (discards 1 ∷ jumps next ∷ [])
         passed = planned ∙ rw (other-bit wanted held (λ e. other (is-bit ∙ e ∙ sym named)))

@@ -58,9 +58,9 @@ module _ (s : List ℕ) (some : 1 ≤ temporaries s) {x : ℕ} (top : x ≡ oper
       unfolding plan.monadic values.monadic values.each
       one-planned = rw (count-seen s, le-ltb (temporaries s) 1 some, scalar-operand s 0 (omega arith) one-scalar, one-result)
 
-      pub scalar-computed : {t : List ℕ} → t ≡ perform (finish s (bottomOf s 1) w) (jumps next) → did Finished t ≡ carry s (plan.monadic (seen s) next op)
-      scalar-computed done =
-          ap (did Finished) (done ∙ ap (λ (u : List ℕ). perform u (jumps next)) (one-taken w))
+      pub scalar-computed : {u t : List ℕ} → u ≡ finish s (bottomOf s 1) w → t ≡ perform u (jumps next) → did Finished t ≡ carry s (plan.monadic (seen s) next op)
+      scalar-computed replaced done =
+          ap (did Finished) (done ∙ ap (λ (v : List ℕ). perform v (jumps next)) (replaced ∙ one-taken w))
           ∙ ap (carry s) (sym one-planned)
 
     pub scalar-eaten : {u t : List ℕ} → u ≡ setLtop s (ltop s - 1) → t ≡ perform u (jumps next) → did Finished t ≡ carry s (eat (seen s) next)
@@ -97,7 +97,7 @@ module _ (s : List ℕ) (two : 2 ≤ temporaries s) {x y : ℕ} (top : x ≡ ope
     unfolding plan.dyadic values.dyadic values.conform values.pairwise
     planned = rw (count-seen s, le-ltb (temporaries s) 2 two, scalar-operand s 0 (omega arith) scalar-top, scalar-operand s 1 (omega arith) scalar-under, result)
 
-    pub scalars-combined : {t : List ℕ} → t ≡ perform (finish s (bottomOf s 2) w) (jumps next) → did Finished t ≡ carry s (plan.dyadic (seen s) next op)
-    scalars-combined done =
-        ap (did Finished) (done ∙ ap (λ (u : List ℕ). perform u (jumps next)) (taken w))
+    pub scalars-combined : {u t : List ℕ} → u ≡ finish s (bottomOf s 2) w → t ≡ perform u (jumps next) → did Finished t ≡ carry s (plan.dyadic (seen s) next op)
+    scalars-combined replaced done =
+        ap (did Finished) (done ∙ ap (λ (v : List ℕ). perform v (jumps next)) (replaced ∙ taken w))
         ∙ ap (carry s) (sym planned)

@@ -39,8 +39,10 @@ module _ (s : List ℕ) (next : ℕ) where
   abbrev pushed : Source → Plan
   pushed source = plan.push (seen s) next source
 
-  pub word-pushed : (w : ℕ) → 1 ≤ room s → did Finished (perform (replace s 0 (word w)) (jumps next)) ≡ carry s (pushed (word w))
-  word-pushed w some = rw (room-seen s, le-ltb (room s) 1 some)
+  pub word-pushed : (w : ℕ) {x u : List ℕ} → 1 ≤ room s → x ≡ replace s 0 (word w) → u ≡ perform x (jumps next) → did Finished u ≡ carry s (pushed (word w))
+  word-pushed w some placed jumped =
+      ap (did Finished) (jumped ∙ ap (λ (v : List ℕ). perform v (jumps next)) placed)
+      ∙ sym (rw (room-seen s, le-ltb (room s) 1 some))
 
 module _ (s : List ℕ) (next : ℕ) (t : Target) where
   pub array-pushed : {w : ℕ} {x u : List ℕ} → w ≡ heldAt s t → 1 ≤ room s → x ≡ replaceShared s 0 w → u ≡ perform x (jumps next) → did Finished u ≡ carry s (pushed s next (variable t))

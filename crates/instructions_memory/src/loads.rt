@@ -112,7 +112,8 @@ pub fn get_origin(seg: &mut [u32], next: CodeAddress) -> Outcome
 
 pub fn short_constant(seg: &mut [u32], negative: bool, magnitude: u32, next: CodeAddress) -> Outcome
     requires { ⌜ length (now seg) ≤ 16384 ⌝ }
-    ensures { λ r. ⌜ CarriesOut (now (seg .entry)) r (now (seg .exit)) (λ sees. plan.shortConstant sees (next .0) (integerWord (bit negative) (magnitude % 2 ^ 12))) ⌝ }
+    ensures { λ r. ⌜ CarriesOut (now (seg .entry)) r (now (seg .exit)) (λ sees.
+        plan.shortConstant sees (next .0) (integerWord (bit negative) (magnitude % 2 ^ 12))) ⌝ }
 {
     push_word(
         seg,
@@ -141,7 +142,8 @@ pub fn constant_vector(
     scratch: &mut [u32],
 ) -> Outcome
     requires { ⌜ (length (now seg) ≤ 16384) × (length (now scratch) ≡ 16384) ⌝ }
-    ensures { λ r. ⌜ CarriesOut (now (seg .entry)) r (now (seg .exit)) (λ sees. plan.constantVector sees (next .0) (wordsAt (count % 2 ^ 8) (now (code .entry)) (first .0))) ⌝ }
+    ensures { λ r. ⌜ CarriesOut (now (seg .entry)) r (now (seg .exit)) (λ sees.
+        plan.constantVector sees (next .0) (wordsAt (count % 2 ^ 8) (now (code .entry)) (first .0))) ⌝ }
 {
     let n = count as usize;
     read_words(code, first, &mut scratch[..n]);

@@ -61,7 +61,8 @@ fn assign_to(seg: &mut [u32], t: Target, next: CodeAddress) -> Outcome
 }
 
 pub fn assign_no_result(seg: &mut [u32], variable: Resolved, next: CodeAddress) -> Outcome
-    ensures { λ r. ⌜ CarriesOut (now (seg .entry)) r (now (seg .exit)) (λ sees. plan.assignNoResult sees (next .0) (variableSeen (now (seg .entry)) variable)) ⌝ }
+    ensures { λ r. ⌜ CarriesOut (now (seg .entry)) r (now (seg .exit)) (λ sees.
+        plan.assignNoResult sees (next .0) (variableSeen (now (seg .entry)) variable)) ⌝ }
 {
     match variable {
         Resolved::Trap(class, number) => Outcome::Trapped(class, number),
@@ -93,7 +94,8 @@ pub fn assign_indexed(
     scratch: &mut [u32],
 ) -> Outcome
     requires { ⌜ (length (now seg) ≤ 16384) × (length (now scratch) ≡ 16384) × Sure (now seg) variable ⌝ }
-    ensures { λ r. ⌜ CarriesOut (now (seg .entry)) r (now (seg .exit)) (λ sees. plan.assignIndexed sees (next .0) (rank % 2 ^ 4) (variableSeen (now (seg .entry)) variable)) ⌝ }
+    ensures { λ r. ⌜ CarriesOut (now (seg .entry)) r (now (seg .exit)) (λ sees.
+        plan.assignIndexed sees (next .0) (rank % 2 ^ 4) (variableSeen (now (seg .entry)) variable)) ⌝ }
 {
     match variable {
         Resolved::Trap(class, number) => Outcome::Trapped(class, number),

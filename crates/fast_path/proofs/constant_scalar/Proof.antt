@@ -1,5 +1,4 @@
 use mathlib.Core.Path.{refl, sym, _∙_}
-use native.Mathlib.Omega.{arith}
 use Rattle.fast_path.proofs.Answers.{left}
 use Rattle.fast_path.proofs.Decoding.{constant-scalar-by}
 use borrow.Author.Needs.{needs}
@@ -73,7 +72,7 @@ same-length : tie.Need-same-length
 same-length c = search needs
 
 returns-2 : tie.Need-returns-2
-returns-2 c = λ f. λ of. constant-scalar-by _ f _ _ (omega arith) (cc) (cc) refl (c .before .before .before .after .ensures) (sym (c .before .before .before .before .before .before .is-scalar .ensures) ∙ c .before .before .before .before .before .if2 .taken) (c .before .before .push .ensures)
+returns-2 c = λ f. λ of. constant-scalar-by _ f _ _ (c .before .before .before .before .before .before .before .before .before .before .before .before .before .before .number .ensures) (c .before .before .before .before .before .before .before .before .before .before .before .before .before .if1 .left) (c .before .before .before .before .before .before .before .before .before .before .half .ensures) (c .before .before .before .before .before .before .before .half2 .ensures) refl (c .before .before .before .after .ensures) (sym (c .before .before .before .before .before .before .is-scalar .ensures) ∙ c .before .before .before .before .before .if2 .taken) (c .before .before .push .ensures)
 
 returns-3 : tie.Need-returns-3
 returns-3 c = λ f. λ of. left

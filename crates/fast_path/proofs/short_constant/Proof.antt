@@ -1,5 +1,4 @@
 use mathlib.Core.Path.{_∙_}
-use native.Mathlib.Omega.{arith}
 use Rattle.fast_path.proofs.Answers.{left}
 use Rattle.fast_path.proofs.Decoding.{constant-by}
 use borrow.Author.Needs.{needs}
@@ -43,7 +42,7 @@ same-length : tie.Need-same-length
 same-length c = search needs
 
 returns-2 : tie.Need-returns-2
-returns-2 c = λ f. λ of. let k = c .before .before .before .before .before in constant-by _ f _ _ _ (omega arith) (k .before .before .half .ensures ∙ (cc)) (k .word .ensures ∙ k .before .integer .ensures) (c .before .before .before .after .ensures) (c .before .before .push .ensures)
+returns-2 c = λ f. λ of. constant-by _ f _ _ _ (c .before .before .before .before .before .before .before .before .before .before .number .ensures) (c .before .before .before .before .before .before .before .before .before .if1 .left) (c .before .before .before .before .before .before .before .half .ensures) (c .before .before .before .before .before .word .ensures ∙ c .before .before .before .before .before .before .integer .ensures) (c .before .before .before .after .ensures) (c .before .before .push .ensures)
 
 pub short-constant-spec : {M : Type 1} → statement M
 short-constant-spec =

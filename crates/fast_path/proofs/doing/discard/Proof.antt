@@ -1,3 +1,6 @@
+use Prim.Native.Nat.{ℕ, _-_}
+use mathlib.Core.Path.{ap, _∙_}
+use Rattle.segment.specs.State.{setLtop}
 use borrow.Author.Needs.{needs}
 use Rattle.fast_path.proofs.doing.discard.Statement.{statement}
 use Rattle.fast_path.proofs.doing.discard.Tie as tie
@@ -21,7 +24,7 @@ same-length : tie.Need-same-length
 same-length c = search needs
 
 returns : tie.Need-returns
-returns c = cc
+returns c = let a = c .before .before .before .before .before .before .before .before .before .before .args in c .before .before .set-ltop .ensures ∙ ap (setLtop (a .seg .now)) (c .before .before .before .of .ensures ∙ c .before .before .before .before .before .minus .ensures ∙ ap (λ (k : ℕ). k - a .n) (c .before .before .before .before .before .before .number .ensures ∙ c .before .before .before .before .before .before .before .ltop .ensures))
 
 pub discard-spec : {M : Type 1} → statement M
 discard-spec =

@@ -1,5 +1,5 @@
-use mathlib.Core.Path.{refl, sym, _∙_}
-use native.Mathlib.Omega.{arith}
+use Prim.Native.Nat.{_≤_}
+use mathlib.Core.Path.{refl, sym, subst, _∙_}
 use Rattle.fast_path.proofs.Operating.{scalars-combined}
 use Rattle.fast_path.proofs.Answers.{left, went}
 use borrow.Author.Tests.{not-false}
@@ -65,7 +65,7 @@ same-length-5 : tie.Need-same-length-5
 same-length-5 c = search needs
 
 returns-5 : tie.Need-returns-5
-returns-5 c = let k = c .before .before .before .before .before .before .before .before .before .before .before .before in let a = k .before .before .before .before in went refl (scalars-combined _ (omega arith) (a .before .before .operand-at .ensures) (sym (a .before .is-scalar .ensures) ∙ not-false _ (a .if2 .left)) (k .before .before .operand-at2 .ensures) (sym (k .before .is-scalar2 .ensures) ∙ not-false _ (k .if3 .left)) _ _ (c .before .before .before .before .before .before .before .before .before .before .before .dyadic .ensures) (c .before .before .before .before .before .before .before .before .before .w .given .1) (cc))
+returns-5 c = let k = c .before .before .before .before .before .before .before .before .before .before .before .before in let a = k .before .before .before .before in went refl (scalars-combined _ (subst (_≤_ 2) (a .before .before .before .before .before .count .ensures) (a .before .before .before .before .if1 .left)) (a .before .before .operand-at .ensures) (sym (a .before .is-scalar .ensures) ∙ not-false _ (a .if2 .left)) (k .before .before .operand-at2 .ensures) (sym (k .before .is-scalar2 .ensures) ∙ not-false _ (k .if3 .left)) _ _ (c .before .before .before .before .before .before .before .before .before .before .before .dyadic .ensures) (c .before .before .before .before .before .before .before .before .before .w .given .1) (c .before .before .before .before .before .before .replace .ensures) (c .before .before .jump .ensures))
 
 pub dyadic-spec : {M : Type 1} → statement M
 dyadic-spec =

@@ -1,5 +1,5 @@
-use mathlib.Core.Path.{refl, sym, _∙_}
-use native.Mathlib.Omega.{arith}
+use Prim.Native.Nat.{_≤_}
+use mathlib.Core.Path.{refl, sym, subst, _∙_}
 use Rattle.fast_path.proofs.Answers.{left, went}
 use Rattle.fast_path.proofs.Operating.{scalar-computed}
 use borrow.Author.Tests.{not-false}
@@ -53,7 +53,7 @@ same-length-4 : tie.Need-same-length-4
 same-length-4 c = search needs
 
 returns-4 : tie.Need-returns-4
-returns-4 c = went refl (scalar-computed _ (omega arith) (c .before .before .before .before .before .before .before .before .before .before .before .before .before .before .operand-at .ensures) (sym (c .before .before .before .before .before .before .before .before .before .before .before .before .before .is-scalar .ensures) ∙ not-false _ (c .before .before .before .before .before .before .before .before .before .before .before .before .if2 .left)) _ _ (c .before .before .before .before .before .before .before .before .before .before .before .monadic .ensures) (c .before .before .before .before .before .before .before .before .before .w .given .1) (cc))
+returns-4 c = let k = c .before .before .before .before .before .before .before .before .before .before .before .before in went refl (scalar-computed _ (subst (_≤_ 1) (k .before .before .before .before .before .count .ensures) (k .before .before .before .before .if1 .left)) (k .before .before .operand-at .ensures) (sym (k .before .is-scalar .ensures) ∙ not-false _ (k .if2 .left)) _ _ (c .before .before .before .before .before .before .before .before .before .before .before .monadic .ensures) (c .before .before .before .before .before .before .before .before .before .w .given .1) (c .before .before .before .before .before .before .replace .ensures) (c .before .before .jump .ensures))
 
 pub monadic-spec : {M : Type 1} → statement M
 monadic-spec =

@@ -1,6 +1,6 @@
 use Rattle.fast_path.proofs.Answers.{left, went}
-use mathlib.Core.Path.{refl, _∙_}
-use native.Mathlib.Omega.{arith}
+use Prim.Native.Nat.{_≤_}
+use mathlib.Core.Path.{refl, subst}
 use Rattle.fast_path.proofs.Pushing.{word-pushed}
 use borrow.Author.Needs.{needs}
 use Rattle.fast_path.proofs.doing.push.Statement.{statement}
@@ -25,7 +25,7 @@ same-length-2 : tie.Need-same-length-2
 same-length-2 c = search needs
 
 returns-2 : tie.Need-returns-2
-returns-2 c = went refl ((cc) ∙ word-pushed _ _ _ (omega arith))
+returns-2 c = went refl (word-pushed _ _ _ (subst (_≤_ 1) (c .before .before .before .before .before .before .before .before .before .room .ensures) (c .before .before .before .before .before .before .before .before .if1 .left)) (c .before .before .before .before .before .before .replace-by-word .ensures) (c .before .before .jump .ensures))
 
 pub push-spec : {M : Type 1} → statement M
 push-spec =

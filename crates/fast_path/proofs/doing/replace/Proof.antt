@@ -1,3 +1,6 @@
+use Prim.Native.Nat.{ℕ, _+_, _-_}
+use mathlib.Core.Path.{ap, _∙_}
+use Rattle.effects.specs.Perform.{finish}
 use native.Mathlib.Omega.{arith}
 use borrow.Author.Needs.{needs}
 use Rattle.fast_path.proofs.doing.replace.Statement.{statement}
@@ -25,7 +28,7 @@ same-length : tie.Need-same-length
 same-length c = search needs
 
 returns : tie.Need-returns
-returns c = cc
+returns c = let a = c .before .before .before .before .before .before .before .before .before .before .args in c .before .before .finish .ensures ∙ ap (λ (b : ℕ). finish (a .seg .now) b (a .w)) (c .before .before .before .of .ensures ∙ c .before .before .before .before .before .minus .ensures ∙ ap (λ (k : ℕ). k + 1 - a .n) (c .before .before .before .before .before .before .number .ensures ∙ c .before .before .before .before .before .before .before .top-cell .ensures .0))
 
 pub replace-spec : {M : Type 1} → statement M
 replace-spec =
