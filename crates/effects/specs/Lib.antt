@@ -9,4 +9,5 @@ pub mod Requests
 pub mod Carried
 pub mod Step
 pub mod Run
+pub mod Tally
 pub mod Examples

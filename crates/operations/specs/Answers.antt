@@ -8,6 +8,8 @@ use Rattle.operations.specs.declared.Run.{Run}
 use Rattle.operations.specs.declared.Run.the-variants as R
 use Rattle.operations.specs.declared.Looked.{Looked}
 use Rattle.operations.specs.declared.Looked.the-variants as L
+use Rattle.operations.specs.declared.Replayed.{Replayed}
+use Rattle.operations.specs.declared.Replayed.the-variants as P
 
 -- Lay out and load: done, or refused by the number of a test.
 abbrev pub doneOrRefused : ℕ → Answer
@@ -32,3 +34,14 @@ abbrev pub lookStatus : Looked → ℕ
 lookStatus (L.Scalar w) = 0
 lookStatus (L.Array block) = 0
 lookStatus (L.Refused number) = number
+
+-- Replay: with every number but 0 stands the place of a record's first byte.
+abbrev pub replayStatus : Replayed → ℕ
+replayStatus P.Done = 0
+replayStatus (P.Halted number place) = number
+replayStatus (P.Malformed place) = 25
+
+abbrev pub replayPlace : Replayed → ℕ
+replayPlace P.Done = 0
+replayPlace (P.Halted number place) = place
+replayPlace (P.Malformed place) = place

@@ -1,5 +1,6 @@
--- The four operations, each by one definition of its answer and of the segment after it.
+-- The operations, each by one definition of its answer and of the segment after it.
 pub mod Answers
 pub mod Run
 pub mod Load
 pub mod Look
+pub mod Replay

@@ -1,4 +1,4 @@
-// What the four operations answer.
+// What the operations answer.
 use descriptor::address::SegmentAddress;
 
 // What a lay out or a load answers: done, or the number of the test that refused it.
@@ -19,4 +19,12 @@ pub enum Looked {
     Scalar(u32),
     Array(SegmentAddress),
     Refused(u8),
+}
+
+// What a replay answers: every record was done; or the number that a record's load or run returned, 3 for a trap, and the place
+// of its first byte; or the place of what is no record.
+pub enum Replayed {
+    Done,
+    Halted(u8, usize),
+    Malformed(usize),
 }

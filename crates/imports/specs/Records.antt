@@ -1,0 +1,79 @@
+-- The records of a file of imports. Document 02, paper 1: "Kind 0 loads: global address, rank, lengths, then elements as integers.
+-- Kind 1 runs: a step count"; bad are "a bad or cut number, an unknown kind, rank above 15, over 16,384 elements, an element above
+-- 8,388,607, or a file that ends inside a record"; decision 82. Assumes nothing.
+use Prim.Native.Nat.{ℕ, zero, suc, _^_, _-_}
+use mathlib.Core.Bool.{cond}
+use mathlib.Core.List.{List}
+use lib.Dec.{ltb, eqb}
+use lib.ListN.{length}
+use Rattle.descriptor.specs.Fields.{integerLimit}
+use Rattle.segment.specs.Blocks.{product}
+use Rattle.imports.specs.Numbers.{numberAt, withNumber, numbersAt, withNumbers}
+
+pub data Record : Type 0 where
+  -- a global's address, the lengths, and the elements: the integer n is the word n
+  load : ℕ → List ℕ → List ℕ → Record
+  -- a step count
+  run : ℕ → Record
+
+-- A record and the place after it.
+pub data FoundRecord : Type 0 where
+  found : Record → ℕ → FoundRecord
+  bad : FoundRecord
+
+-- The most elements, and the greatest number that can be written.
+abbrev pub elementLimit : ℕ
+elementLimit = 16384
+
+abbrev pub numberLimit : ℕ
+numberLimit = 2 ^ 28 - 1
+
+-- So many elements as the exact product of the lengths, one where there is no length.
+unfoldable pub elementsAt : List ℕ → ℕ → ℕ → List ℕ → FoundRecord
+elementsAt file place global lengths =
+    cond (ltb elementLimit (product lengths)) bad
+    (withNumbers (numbersAt integerLimit (product lengths) file place) bad (λ ravel next. found (load global lengths ravel) next))
+
+-- A length of any size: load itself judges it.
+unfoldable pub lengthsAt : List ℕ → ℕ → ℕ → ℕ → FoundRecord
+lengthsAt file place global rank =
+    cond (ltb 15 rank) bad
+    (withNumbers (numbersAt numberLimit rank file place) bad (λ lengths next. elementsAt file next global lengths))
+
+unfoldable pub loadAt : List ℕ → ℕ → FoundRecord
+loadAt file place =
+    withNumber (numberAt file place) bad (λ global next. withNumber (numberAt file next) bad (λ rank after. lengthsAt file after global rank))
+
+unfoldable pub runAt : List ℕ → ℕ → FoundRecord
+runAt file place = withNumber (numberAt file place) bad (λ budget next. found (run budget) next)
+
+abbrev pub kindAt : List ℕ → ℕ → ℕ → FoundRecord
+kindAt file next kind = cond (eqb kind 0) (loadAt file next) (cond (eqb kind 1) (runAt file next) bad)
+
+unfoldable pub recordAt : List ℕ → ℕ → FoundRecord
+recordAt file place = withNumber (numberAt file place) bad (λ kind next. kindAt file next kind)
+
+-- ---- the file
+
+-- Records one after the other, each with the place of its first byte, up to the end or to what is no record.
+pub data Records : Type 0 where
+  ends : Records
+  malformed : ℕ → Records
+  entry : ℕ → Record → Records → Records
+
+abbrev pub continued : ℕ → FoundRecord → (ℕ → Records) → Records
+continued place (found r next) rest = entry place r (rest next)
+continued place bad rest = malformed place
+
+-- The number falls with each record: a record has a byte or more.
+unfoldable pub recordsUpTo : ℕ → List ℕ → ℕ → Records
+recordsUpTo zero file place = ends
+recordsUpTo (suc left) file place =
+    cond (ltb place (length file)) (continued place (recordAt file place) (λ next. recordsUpTo left file next)) ends
+
+-- The records from a place on.
+unfoldable pub recordsFrom : List ℕ → ℕ → Records
+recordsFrom file place = recordsUpTo (length file - place) file place
+
+abbrev pub recordsOf : List ℕ → Records
+recordsOf file = recordsFrom file 0

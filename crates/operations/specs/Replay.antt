@@ -1,0 +1,64 @@
+-- Replay: the loads and runs of a file of imports, one after the other. Document 02, paper 1: "Replay gives what the same loads and
+-- runs give one by one, and halts at the first trap or refusal with the number returned for it (3 for a trap); 0 says that every
+-- record was done"; 25 for what is no record, "the earlier records stand"; the tally "is zeroed first". Decision 82. Assumes
+-- nothing.
+use Prim.Native.Nat.{ℕ}
+use mathlib.Core.Bool.{cond}
+use mathlib.Core.List.{List}
+use lib.Dec.{eqb}
+use lib.ListN.{set}
+use Rattle.imports.specs.Records as file
+use Rattle.imports.specs.Records.{Record, Records, ends, malformed, entry, recordsOf}
+use Rattle.tally.specs.Counts.{noneCounted}
+use Rattle.acceptance.specs.Refusal.{refusal}
+use Rattle.effects.specs.Tally.{talliedFrom}
+use Rattle.operations.specs.declared.Run.{Run}
+use Rattle.operations.specs.declared.Run.the-variants as R
+use Rattle.operations.specs.declared.Replayed.{Replayed}
+use Rattle.operations.specs.declared.Replayed.the-variants.{Done, Halted, Malformed}
+use Rattle.operations.specs.Run.{ran}
+use Rattle.operations.specs.Load.{loadRefusal, loaded}
+
+-- ---- a run and its counts
+
+-- "A run sets word 3 to zero first"; a refused one counts nothing.
+unfoldable pub tallied : List ℕ → List ℕ → List ℕ → ℕ → List ℕ → List ℕ
+tallied s regular alternate budget counts =
+    cond (eqb (refusal s regular alternate) 0) (talliedFrom budget counts regular alternate (set s 3 0)) counts
+
+-- ---- the replay
+
+-- What a replay answers, the segment after it, and the eight counts.
+pub record Replay : Type 0 where
+  pub answer : Replayed
+  pub words : List ℕ
+  pub counts : List ℕ
+
+abbrev pub replay : Replayed → List ℕ → List ℕ → Replay
+replay answer s counts = record { answer = answer; words = s; counts = counts }
+
+-- A run that is not done to its end halts it.
+abbrev pub afterRun : ℕ → Run → List ℕ → List ℕ → Replay → Replay
+afterRun place (R.Done steps) s counts rest = rest
+afterRun place (R.Trapped steps) s counts rest = replay (Halted 3 place) s counts
+afterRun place (R.Refused number) s counts rest = replay (Halted number place) s counts
+
+-- A load that is refused does.
+abbrev pub afterLoad : ℕ → ℕ → List ℕ → List ℕ → Replay → Replay
+afterLoad place number s counts rest = cond (eqb number 0) rest (replay (Halted number place) s counts)
+
+unfoldable pub replayFrom : List ℕ → List ℕ → Records → List ℕ → List ℕ → Replay
+replayFrom regular alternate ends s counts = replay Done s counts
+replayFrom regular alternate (malformed place) s counts = replay (Malformed place) s counts
+replayFrom regular alternate (entry place (file.load g lengths ravel) rest) s counts =
+    let t = loaded s regular alternate g lengths ravel in
+    let more = replayFrom regular alternate rest t counts in
+    afterLoad place (loadRefusal s regular alternate g lengths ravel) t counts more
+replayFrom regular alternate (entry place (file.run budget) rest) s counts =
+    let e = ran s regular alternate budget in
+    let after = tallied s regular alternate budget counts in
+    let more = replayFrom regular alternate rest (e .words) after in
+    afterRun place (e .answer) (e .words) after more
+
+unfoldable pub replayed : List ℕ → List ℕ → List ℕ → List ℕ → Replay
+replayed s regular alternate bytes = replayFrom regular alternate (recordsOf bytes) s noneCounted

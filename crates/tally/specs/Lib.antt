@@ -1,0 +1,2 @@
+-- Counts of finished instructions by family.
+pub mod Counts
