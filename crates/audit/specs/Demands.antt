@@ -15,8 +15,8 @@ use Rattle.fresh_segment.specs.LayOut.{Layout}
 use Rattle.step_theorems.specs.Planned.{planned}
 use Rattle.audit.specs.Calls.{Procedures, Call, layOut, run, load, look, Answer, firstFailed, tests, Passes, globalValue, LentProcedures, LentCall}
 use Rattle.audit.specs.Steps.{StepOutcome, trapsBy, finishes, Step, EffectsDone, inVain}
-use Rattle.audit.specs.Did.{LaidOut, Ran, Loaded, Tells, Did}
-use Rattle.audit.specs.Lists.{refusalOf, Answers, Kept, FullExactly, Event, Happened, AllLent}
+use Rattle.audit.specs.Did.{LaidOut, Ran, Loaded, Tells, Did, Event}
+use Rattle.audit.specs.Lists.{refusalOf, Answers, Kept, FullExactly, Item, Happening, itemOf, Happened, callsIn, AllLent}
 
 pub record Demand1 : Type 0 where
   -- "A bad length, segment or number is refused with its number, changing nothing."
@@ -59,11 +59,11 @@ AllHold s (e ∷ events) =
     Kept s × Did s (e .call) (e .answer) (e .after) × FullExactly s (e .call) (e .answer) (e .after) × AllHold (e .after) events
 
 pub record Demand3 : Type 0 where
-  -- "Over any list of lay outs, runs, loads and looks on an accepted segment": one claim about the list.
-  pub list : (s : List ℕ) (p : Procedures) → Passes s p → (events : List Event) → Happened s events → AllHold s events
-  -- and any list of calls may happen
-  pub happens : (s : List ℕ) → Words s → (calls : List Call) → AllLent calls
-      → (events : List Event) × (map (λ (e : Event). e .call) events ≡ calls) × Happened s events
+  -- "Over any list of lay outs, runs, loads and looks on an accepted segment": one claim about the list. A replay in it is the calls
+  -- that it makes.
+  pub list : (s : List ℕ) (p : Procedures) → Passes s p → (list : List Happening) → Happened s list → AllHold s (callsIn list)
+  -- and any list may happen
+  pub happens : (s : List ℕ) → Words s → (items : List Item) → AllLent items → (list : List Happening) × (map itemOf list ≡ items) × Happened s list
 
 pub record Demands : Type 0 where
   pub first : Demand1

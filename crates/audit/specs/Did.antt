@@ -64,3 +64,14 @@ pub data Did (s : List ℕ) : Call → Answer → List ℕ → Type 0 where
 -- What a public operation promises, of 32-bit words and bytes, as its types say in code.
 unfoldable pub Promised : List ℕ → Call → Answer → List ℕ → Type 0
 Promised s c a t = Words s → LentCall c → Did s c a t
+
+-- ---- one of several
+
+-- A call, what it answered, and the segment between it and the next.
+pub record Event : Type 0 where
+  pub call : Call
+  pub answer : Answer
+  pub after : List ℕ
+
+abbrev pub event : Call → Answer → List ℕ → Event
+event c a t = record { call = c; answer = a; after = t }

@@ -3,6 +3,7 @@ pub mod Calls
 pub mod Steps
 pub mod Runs
 pub mod Did
+pub mod Replays
 pub mod Lists
 pub mod Demands
 pub mod Accepts

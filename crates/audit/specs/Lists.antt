@@ -1,10 +1,10 @@
--- A list of calls and the segments between them, what array storage must be before and after each, and when full is reported.
--- Document 01, demand 3 and "Agreement". Assumes nothing.
+-- A list of calls and replays and the segments between them, what array storage must be before and after each call, and when full
+-- is reported. Document 01, demand 3 and "Agreement"; document 02, paper 1: "what a replay gives is what the same loads and runs give". Assumes nothing.
 use Prim.Native.Nat.{ℕ, _^_, _<_, _≤_}
 use mathlib.Core.Path.{_≡_}
 use mathlib.Core.Bool.{true, false}
 use mathlib.Core.Logic.{_↔_, _≢_, _⊎_}
-use mathlib.Core.List.{List, [], _∷_}
+use mathlib.Core.List.{List, [], _∷_, _++_}
 use lib.ListN.{length, set}
 use Rattle.descriptor.specs.Fields.{arrayWord}
 use Rattle.segment.specs.State.{blockptr}
@@ -13,11 +13,16 @@ use Rattle.storage.specs.Heap.{Block, count, Heap}
 use Rattle.storage.specs.Owned.{ArrayIn}
 use Rattle.acceptance_storage.specs.Room.{longEnough}
 use Rattle.segment.specs.View.{owners}
+use Rattle.segment.specs.Lent.{Bytes}
 use Rattle.storage_theorems.specs.Tiling.{Tiling}
+use Rattle.imports.specs.Records.{recordsOf}
+use Rattle.tally.specs.Counts.{noneCounted}
+use Rattle.operations.specs.declared.Replayed.{Replayed}
 use Rattle.operations.specs.Load.{isGlobal, isValue}
-use Rattle.audit.specs.Calls.{Procedures, Call, layOut, run, load, look, Answer, refused, done, ran, trapped, scalar, array, Passes, LentCall}
+use Rattle.audit.specs.Calls.{Procedures, Call, layOut, run, load, look, Answer, refused, done, ran, trapped, scalar, array, Passes, LentProcedures, LentCall}
 use Rattle.audit.specs.Runs.{Runs, SomeRequestInVain, ReportsFull}
-use Rattle.audit.specs.Did.{Did}
+use Rattle.audit.specs.Did.{Did, Event}
+use Rattle.audit.specs.Replays.{Replays}
 
 -- The number that refuses a call; 0 where none does.
 abbrev pub refusalOf : Answer → ℕ
@@ -68,17 +73,45 @@ pub record FullExactly (s : List ℕ) (c : Call) (a : Answer) (t : List ℕ) : T
 
 -- ---- the list
 
--- A call, what it answered, and the segment between it and the next.
-pub record Event : Type 0 where
-  pub call : Call
-  pub answer : Answer
+-- What may stand in a list: a call, or the replay of a file.
+pub data Item : Type 0 where
+  call : Call → Item
+  replay : Procedures → List ℕ → Item
+
+-- A replay, what it answered, its counts, the calls that it made, and the segment after it.
+pub record ReplayEvent : Type 0 where
+  pub procedures : Procedures
+  pub file : List ℕ
+  pub answer : Replayed
+  pub counts : List ℕ
+  pub calls : List Event
   pub after : List ℕ
 
-abbrev pub Happened : List ℕ → List Event → Type 0
-Happened s [] = Unit {0}
-Happened s (e ∷ events) = Did s (e .call) (e .answer) (e .after) × Happened (e .after) events
+pub data Happening : Type 0 where
+  called : Event → Happening
+  replayed : ReplayEvent → Happening
 
--- What each call of a list brings.
-abbrev pub AllLent : List Call → Type 0
+abbrev pub itemOf : Happening → Item
+itemOf (called e) = call (e .call)
+itemOf (replayed e) = replay (e .procedures) (e .file)
+
+abbrev pub Happened : List ℕ → List Happening → Type 0
+Happened s [] = Unit {0}
+Happened s (called e ∷ list) = Did s (e .call) (e .answer) (e .after) × Happened (e .after) list
+Happened s (replayed e ∷ list) =
+    Replays (e .procedures) (recordsOf (e .file)) s noneCounted (e .answer) (e .after) (e .counts) (e .calls) × Happened (e .after) list
+
+-- The calls of a list, in order: a replay is those that it makes.
+abbrev pub callsIn : List Happening → List Event
+callsIn [] = []
+callsIn (called e ∷ list) = e ∷ callsIn list
+callsIn (replayed e ∷ list) = e .calls ++ callsIn list
+
+-- What each brings.
+abbrev pub LentItem : Item → Type 0
+LentItem (call c) = LentCall c
+LentItem (replay p bytes) = LentProcedures p × Bytes bytes
+
+abbrev pub AllLent : List Item → Type 0
 AllLent [] = Unit {0}
-AllLent (c ∷ calls) = LentCall c × AllLent calls
+AllLent (i ∷ items) = LentItem i × AllLent items
