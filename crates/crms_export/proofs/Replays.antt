@@ -16,15 +16,11 @@ use Rattle.effects.specs.declared.Stepped.{Stepped}
 use Rattle.effects.specs.declared.Stepped.the-variants as stepped
 use Rattle.effects.specs.Step.{stepOf}
 use Rattle.effects.specs.Tally.{firstByte, tallying, talliedFrom}
-use Rattle.operations.specs.declared.Run.{Run}
-use Rattle.operations.specs.declared.Run.the-variants as run
-use Rattle.operations.specs.declared.Replayed.{Replayed}
 use Rattle.operations.specs.declared.Replayed.the-variants.{Halted}
 use Rattle.operations.specs.Answers.{replayPlace}
 use Rattle.operations.specs.Load.{loadRefusal, loaded}
-use Rattle.operations.specs.Run.{Ended, ran}
-use Rattle.operations.specs.Replay.{Replay, replay, tallied, afterRun, replayFrom, replayed}
-use Rattle.crms_export.specs.Numbers.{replayNumber}
+use Rattle.operations.specs.Run.{ran}
+use Rattle.operations.specs.Replay.{Replay, replay, tallied, runHalt, replayFrom, replayed}
 
 -- ---- counts
 
@@ -95,27 +91,21 @@ record Kept (limit : ℕ) (r : Replay) : Type 0 where
   inside : replayPlace (r .answer) < limit
 
 module _ (limit : ℕ) (some : 0 < limit) (regular alternate : List ℕ) where
-  after-run : (place : ℕ) (answer : Run) (s counts : List ℕ) (rest : Replay) → place < limit → length counts ≡ 8 → Kept limit rest
-      → Kept limit (afterRun place answer s counts rest)
-  after-run place (run.Done steps) s counts rest p c k = k
-  after-run place (run.Trapped steps) s counts rest p c k = record { eight = c; inside = p }
-  after-run place (run.Refused number) s counts rest p c k = record { eight = c; inside = p }
-
-  after-load : (place number : ℕ) (b : Bool) (s counts : List ℕ) (rest : Replay) → place < limit → length counts ≡ 8 → Kept limit rest
+  after-record : (place number : ℕ) (b : Bool) (s counts : List ℕ) (rest : Replay) → place < limit → length counts ≡ 8 → Kept limit rest
       → Kept limit (cond b rest (replay (Halted number place) s counts))
-  after-load place number true s counts rest p c k = k
-  after-load place number false s counts rest p c k = record { eight = c; inside = p }
+  after-record place number true s counts rest p c k = k
+  after-record place number false s counts rest p c k = record { eight = c; inside = p }
 
   from-kept : (records : Records) (s counts : List ℕ) → Below limit records → length counts ≡ 8 → Kept limit (replayFrom regular alternate records s counts)
   unfolding replayFrom
   from-kept ends s counts none c = record { eight = c; inside = some }
   from-kept (malformed place) s counts (bad p) c = record { eight = c; inside = p }
   from-kept (entry place (file.load g lengths ravel) rest) s counts (here p more) c =
-      after-load place (loadRefusal s regular alternate g lengths ravel) (eqb (loadRefusal s regular alternate g lengths ravel) 0) _ counts _ p c
+      after-record place (loadRefusal s regular alternate g lengths ravel) (eqb (loadRefusal s regular alternate g lengths ravel) 0) _ counts _ p c
       (from-kept rest (loaded s regular alternate g lengths ravel) counts more c)
   from-kept (entry place (file.run budget) rest) s counts (here p more) c =
       let after : length (tallied s regular alternate budget counts) ≡ 8 = tallied-length 8 s regular alternate budget counts c in
-      after-run place (ran s regular alternate budget .answer) (ran s regular alternate budget .words) _ _ p after
+      after-record place (runHalt (ran s regular alternate budget .answer)) (eqb (runHalt (ran s regular alternate budget .answer)) 0) _ _ _ p after
       (from-kept rest (ran s regular alternate budget .words) (tallied s regular alternate budget counts) more after)
 
   replayed-kept : (s bytes : List ℕ) → length bytes ≤ limit → Kept limit (replayed s regular alternate bytes)
