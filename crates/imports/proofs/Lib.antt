@@ -1,3 +1,5 @@
 -- Laws of the crate.
 pub mod Numbers
 pub mod Several
+pub mod Ends
+pub mod Parsing

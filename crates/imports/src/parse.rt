@@ -78,7 +78,8 @@ fn lengths_at(file: &[u8], place: usize, global: u32, rank: u32, lengths: &mut [
 
 fn elements_at(file: &[u8], place: usize, global: u32, rank: usize, lengths: &[u32], ravel: &mut [u32]) -> Parsed
     requires { ⌜ (rank ≤ 15) × (length (now lengths) ≡ 15) × (length (now ravel) ≡ 16384) ⌝ }
-    ensures { λ r. ⌜ parsed r (now (lengths .entry)) (now (ravel .exit)) ≡ meaning.elementsAt (now (file .entry)) place global (take rank (now (lengths .entry))) ⌝ }
+    ensures { λ r. ⌜ parsed r (now (lengths .entry)) (now (ravel .exit))
+        ≡ meaning.elementsAt (now (file .entry)) place global (take rank (now (lengths .entry))) ⌝ }
     ensures { λ r. ⌜ Few r ⌝ }
 {
     let count = product(&lengths[..rank]) as usize;

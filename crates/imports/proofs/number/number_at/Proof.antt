@@ -4,47 +4,34 @@ use Rattle.imports.specs.Numbers.{numberAt, above}
 use Rattle.imports.proofs.Numbers.{cut, last, more, needless, weighed}
 use Rattle.imports.proofs.number.number_at.Statement.{statement}
 use Rattle.imports.proofs.number.number_at.Tie as tie
-use Rattle.imports.proofs.number.number_at.Reads as reads
-use Rattle.imports.proofs.number.number_at.Lts as lts
-use Rattle.imports.proofs.number.byte_at.Reads as byte-at-reads
-use Rattle.imports.proofs.number.long_at.Reads as long-at-reads
 
--- src/number.rt:24:9
 returns : tie.Need-returns
 unfolding numberAt
 returns c = sym (cut 3 _ _ (c .if1 .taken))
 
--- src/number.rt:26:9
 byte-at-requires : tie.Need-byte-at-requires
 byte-at-requires c κs = search needs
 
--- src/number.rt:27:17
 add-after : tie.Need-add-after
 add-after c = search needs
 
--- src/number.rt:29:9
 returns-2 : tie.Need-returns-2
 unfolding numberAt
 returns-2 c = sym (last 3 _ _ (c .before .before .if1 .left) _ (c .before .byte-at .ensures .0) (c .if2 .taken))
 
--- src/number.rt:32:9
 returns-3 : tie.Need-returns-3
 unfolding numberAt
 returns-3 c = let first = c .before .before in sym (more 3 _ _ (first .before .if1 .left) _ (first .byte-at .ensures .0) (c .before .if2 .left) ∙ ap (above _) (cut 2 _ _ (c .if3 .taken)))
 
--- src/number.rt:34:9
 byte-at-requires-2 : tie.Need-byte-at-requires-2
 byte-at-requires-2 c κs = search needs
 
--- src/number.rt:36:30
 add-long-at : tie.Need-add-long-at
 add-long-at c = search needs
 
--- src/number.rt:36:9
 long-at-requires : tie.Need-long-at-requires
 long-at-requires c κs = search needs
 
--- src/number.rt:36:9
 returns-4 : tie.Need-returns-4
 unfolding numberAt
 returns-4 c = 
@@ -54,7 +41,6 @@ returns-4 c =
     ∙ sym (more 3 _ _ (first .before .if1 .left) _ (first .byte-at .ensures .0) (second .before .before .if2 .left)
     ∙ ap (above _) (more 2 _ _ (second .before .if3 .left) _ (second .byte-at2 .ensures .0) (c .before .if4 .taken)))
 
--- src/number.rt:39:9
 returns-5 : tie.Need-returns-5
 unfolding numberAt
 returns-5 c = 
@@ -64,19 +50,15 @@ returns-5 c =
     ∙ ap (above _) (last 2 _ _ (second .before .if3 .left) _ (second .byte-at2 .ensures .0) (c .before .if4 .left))
     ∙ needless _ _ _ (c .if5 .taken))
 
--- src/number.rt:41:40
 mul-t12 : tie.Need-mul-t12
 mul-t12 c = search needs
 
--- src/number.rt:41:25
 add-t13 : tie.Need-add-t13
 add-t13 c = search needs
 
--- src/number.rt:41:55
 add-t6 : tie.Need-add-t6
 add-t6 c = search needs
 
--- src/number.rt:20:1
 returns-6 : tie.Need-returns-6
 unfolding numberAt
 returns-6 c = 

@@ -6,9 +6,6 @@ use borrow.Author.Needs.{needs}
 use Rattle.imports.proofs.Several.{Reading, reading-start, reading-all, reading-none, reading-above, reading-on}
 use Rattle.imports.proofs.number.numbers_at.Statement.{statement}
 use Rattle.imports.proofs.number.numbers_at.Tie as tie
-use Rattle.imports.proofs.number.numbers_at.Reads as reads
-use Rattle.imports.proofs.number.numbers_at.Lts as lts
-use Rattle.imports.proofs.number.number_at.Reads as number-at-reads
 
 abbrev Inv-loop : tie.InvT-loop
 Inv-loop file place limit count out₀ at₀ i₀ out at i = (i ≤ count) × (length out ≡ length out₀) × Reading limit count file place out at i

@@ -1,54 +1,50 @@
+use mathlib.Core.Path.{sym}
+use native.Mathlib.Omega.{arith}
+use lib.Seq.{length-take-le}
+use Rattle.imports.proofs.Parsing.{too-many, no-elements, with-elements}
 use borrow.Author.Needs.{needs}
 use Rattle.imports.proofs.parse.elements_at.Statement.{statement}
 use Rattle.imports.proofs.parse.elements_at.Tie as tie
-use Rattle.imports.proofs.parse.elements_at.Reads as reads
-use Rattle.imports.proofs.parse.elements_at.Lts as lts
-use Rattle.elements.proofs.shapes.product.Reads as product-reads
-use Rattle.imports.proofs.number.numbers_at.Reads as numbers-at-reads
 
--- src/parse.rt:84:25
 slice-aggregate-product : tie.Need-slice-aggregate-product
-slice-aggregate-product c = ?
+slice-aggregate-product c = sym (length-take-le _ _ (omega arith))
 
--- src/parse.rt:84:17
 product-requires : tie.Need-product-requires
 product-requires c κs = search needs
 
--- src/parse.rt:84:17
 cast-count : tie.Need-cast-count
 cast-count c = search needs
 
--- src/parse.rt:86:9
 returns : tie.Need-returns
-returns c = ?
+returns c = (too-many _ _ _ _ _ (c .before .product .ensures) (c .if1 .taken), tt)
 
--- src/parse.rt:88:34
 numbers-at-requires : tie.Need-numbers-at-requires
 numbers-at-requires c κs = search needs
 
--- src/parse.rt:88:26
 enum-known-next : tie.Need-enum-known-next
 enum-known-next c = search needs
 
--- src/parse.rt:89:9
 enum-told : tie.Need-enum-told
 enum-told c = search needs
 
--- src/parse.rt:89:9
 same-length : tie.Need-same-length
 same-length c = search needs
 
--- src/parse.rt:89:9
 returns-2 : tie.Need-returns-2
-returns-2 c = ?
+returns-2 c = 
+    let called = c .before .before .before .before in
+    let tested = called .before .before in
+    (no-elements _ _ _ _ _ (tested .before .product .ensures) (tested .if1 .left) (rw (c .enum-told .given .1) at (called .numbers-at .ensures)), tt)
 
--- src/parse.rt:79:1
 same-length-2 : tie.Need-same-length-2
 same-length-2 c = search needs
 
--- src/parse.rt:79:1
 returns-3 : tie.Need-returns-3
-returns-3 c = ?
+returns-3 c = 
+    let called = c .before .before .before .before .before in
+    let tested = called .before .before in
+    let few = tested .if1 .left in
+    (with-elements _ _ _ _ _ (tested .before .product .ensures) few _ _ (rw (c .before .next .given .1) at (called .numbers-at .ensures)), (omega arith, few))
 
 pub elements-at-spec : {M : Type 1} → statement M
 elements-at-spec =

@@ -1,50 +1,48 @@
+use mathlib.Core.Path.{sym}
+use borrow.Author.Tests.{lt-ltb, le-ltb}
+use Rattle.imports.specs.Records.{lengthsAt}
 use borrow.Author.Needs.{needs}
 use Rattle.imports.proofs.parse.lengths_at.Statement.{statement}
 use Rattle.imports.proofs.parse.lengths_at.Tie as tie
-use Rattle.imports.proofs.parse.lengths_at.Reads as reads
-use Rattle.imports.proofs.parse.lengths_at.Lts as lts
-use Rattle.imports.proofs.number.numbers_at.Reads as numbers-at-reads
-use Rattle.imports.proofs.parse.elements_at.Reads as elements-at-reads
 
--- src/parse.rt:70:9
 returns : tie.Need-returns
-returns c = ?
+unfolding lengthsAt
+returns c = (simp (lt-ltb _ _ (c .if1 .taken)), tt)
 
--- src/parse.rt:73:34
 numbers-at-requires : tie.Need-numbers-at-requires
 numbers-at-requires c κs = search needs
 
--- src/parse.rt:73:26
 enum-known-next : tie.Need-enum-known-next
 enum-known-next c = search needs
 
--- src/parse.rt:74:9
 enum-told : tie.Need-enum-told
 enum-told c = search needs
 
--- src/parse.rt:74:9
 same-length : tie.Need-same-length
 same-length c = search needs
 
--- src/parse.rt:74:9
 returns-2 : tie.Need-returns-2
-returns-2 c = ?
+unfolding lengthsAt
+returns-2 c = 
+    let called = c .before .before .before .before in
+    (simp (le-ltb _ _ (called .before .before .if1 .left), sym (rw (c .enum-told .given .1) at (called .numbers-at .ensures))), tt)
 
--- src/parse.rt:76:5
 elements-at-requires : tie.Need-elements-at-requires
 elements-at-requires c κs = search needs
 
--- src/parse.rt:64:1
 same-length-2 : tie.Need-same-length-2
 same-length-2 c = search needs
 
--- src/parse.rt:64:1
 same-length-3 : tie.Need-same-length-3
 same-length-3 c = search needs
 
--- src/parse.rt:64:1
 returns-3 : tie.Need-returns-3
-returns-3 c = ?
+unfolding lengthsAt
+returns-3 c = 
+    let next = c .before .before .before .before .before .before in
+    let called = next .before .before .before .before in
+    let told = c .before .before .elements-at .ensures in
+    (simp (le-ltb _ _ (called .before .before .if1 .left), sym (rw (next .next .given .1) at (called .numbers-at .ensures))) (told .0), told .1)
 
 pub lengths-at-spec : {M : Type 1} → statement M
 lengths-at-spec =
