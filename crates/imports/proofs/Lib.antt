@@ -3,3 +3,4 @@ pub mod Numbers
 pub mod Several
 pub mod Ends
 pub mod Parsing
+pub mod Files
