@@ -1,0 +1,6 @@
+-- Laws of the crate.
+pub mod Numbers
+pub mod Several
+pub mod Ends
+pub mod Parsing
+pub mod Files
