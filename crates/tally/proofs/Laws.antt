@@ -1,5 +1,5 @@
 -- The laws of counts: what counting an instruction leaves, and the struct beside its eight counts. Assumes nothing.
-use Prim.Native.Nat.{ℕ, zero, suc, _+_, _<_, _≤_}
+use Prim.Native.Nat.{ℕ, zero, suc, _+_, _-_, _/_, _<_, _≤_}
 use native.Mathlib.Omega.{arith}
 use mathlib.Core.Path.{_≡_, refl, sym, ap, _∙_}
 use mathlib.Core.Bool.{Bool, true, false, cond}
@@ -7,8 +7,9 @@ use mathlib.Core.List.{List, [], _∷_}
 use lib.Dec.{ltb, leb}
 use lib.ListN.{getD, set, length, length-set}
 use lib.Seq.{set-out, take-all}
-use borrow.Author.Tests.{ltb-true, leb-true, lt-ltb, le-ltb, le-leb, lt-leb}
+use borrow.Author.Tests.{ltb-true, ltb-false, leb-true, lt-ltb, le-ltb, le-leb, lt-leb}
 use Rattle.instruction.specs.Families.{familyOf}
+use Rattle.instruction.proofs.Ranges.{is-short-local, is-short-const, is-gen-scalar, is-mem-ref, is-etc, is-long-local, is-long-global, is-index, is-unassigned}
 use Rattle.segment.proofs.Parts.{part-take}
 use Rattle.tally.specs.declared.Tally.{Tally}
 use Rattle.tally.specs.Counts.{countLimit, placeOf, noneCounted, countUp, counted, countsOf, tallyOf, plus, added}
@@ -16,6 +17,34 @@ use Rattle.tally.specs.Counts.{countLimit, placeOf, noneCounted, countUp
 -- No count is above the limit.
 abbrev pub Within : List ℕ → Type 0
 Within counts = (i : ℕ) → getD counts i 0 ≤ countLimit
+
+-- ---- places
+
+ltb-either : {A : Type 0} (test : Bool) (b k : ℕ) → ltb b k ≡ test → (b < k → A) → (k ≤ b → A) → A
+ltb-either true b k e low high = low (ltb-true b k e)
+ltb-either false b k e low high = high (ltb-false b k e)
+
+either-side : {A : Type 0} (b k : ℕ) → (b < k → A) → (k ≤ b → A) → A
+either-side b k = ltb-either (ltb b k) b k refl
+
+-- the place of a first byte's family: the first range is of 64 bytes, four are of 32, and the rest of 16
+module _ (b : ℕ) where
+  pub place-first : b < 0x40 → placeOf (familyOf b) ≡ 0
+  place-first h = ap placeOf (is-short-local b (omega arith))
+
+  pub place-wide : 0x40 ≤ b → b < 0xC0 → placeOf (familyOf b) ≡ b / 0x20 - 1
+  place-wide l h =
+      either-side b 0x60 (λ a. ap placeOf (is-short-const b l (omega arith)) ∙ omega arith) (λ l₁.
+      either-side b 0x80 (λ a. ap placeOf (is-gen-scalar b l₁ (omega arith)) ∙ omega arith) (λ l₂.
+      either-side b 0xA0 (λ a. ap placeOf (is-mem-ref b l₂ (omega arith)) ∙ omega arith) (λ l₃.
+      ap placeOf (is-etc b l₃ (omega arith)) ∙ omega arith)))
+
+  pub place-narrow : 0xC0 ≤ b → b < 0x100 → placeOf (familyOf b) ≡ b / 0x10 - 7
+  place-narrow l h =
+      either-side b 0xD0 (λ a. ap placeOf (is-long-local b l (omega arith)) ∙ omega arith) (λ l₁.
+      either-side b 0xE0 (λ a. ap placeOf (is-long-global b l₁ (omega arith)) ∙ omega arith) (λ l₂.
+      either-side b 0xF0 (λ a. ap placeOf (is-index b l₂ (omega arith)) ∙ omega arith) (λ l₃.
+      ap placeOf (is-unassigned b l₃ (omega arith)) ∙ omega arith)))
 
 -- ---- counting
 

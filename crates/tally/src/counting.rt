@@ -1,8 +1,7 @@
 // Counts in a lent slice, as a run keeps them.
 ghost use mathlib.Core.Path.{_≡_};
+ghost use Rattle.instruction.specs.Families.{familyOf};
 ghost use Rattle.tally.specs.Counts.{counted, placeOf};
-use instruction::family::Family;
-use instruction::family::family_of;
 
 // An instruction with that first byte has finished. Where no counts are lent nothing is done.
 pub fn count(counts: &mut [u32], first: u8)
@@ -11,7 +10,7 @@ pub fn count(counts: &mut [u32], first: u8)
     if counts.len() == 0 {
         return;
     }
-    let i = place_of(family_of(first));
+    let i = place_of(first);
     if i < counts.len() {
         if counts[i] < 0xFFFF_FFFF {
             counts[i] += 1;
@@ -19,18 +18,15 @@ pub fn count(counts: &mut [u32], first: u8)
     }
 }
 
-fn place_of(family: Family) -> usize
-    ensures { λ r. ⌜ r ≡ placeOf family ⌝ }
+// The place of a first byte's family: the ranges are of 64 bytes, then of 32, then of 16.
+fn place_of(first: u8) -> usize
+    ensures { λ r. ⌜ r ≡ placeOf (familyOf first) ⌝ }
 {
-    match family {
-        Family::ShortLocal => 0,
-        Family::ShortConst => 1,
-        Family::GenScalar => 2,
-        Family::MemRef => 3,
-        Family::Etc => 4,
-        Family::LongLocal => 5,
-        Family::LongGlobal => 6,
-        Family::Index => 7,
-        Family::Unassigned => 8,
+    if first < 0x40 {
+        return 0;
     }
+    if first < 0xC0 {
+        return first as usize / 0x20 - 1;
+    }
+    first as usize / 0x10 - 7
 }

@@ -10,9 +10,6 @@ use Rattle.tally.proofs.counting.count.Tie as tie
 returns : tie.Need-returns
 returns c = sym (count-past (c .before .before .args .first) (c .before .before .args .counts .now) (placeOf (familyOf (c .before .before .args .first))) refl (omega arith))
 
-family-of-requires : tie.Need-family-of-requires
-family-of-requires c κs = search needs
-
 place-of-requires : tie.Need-place-of-requires
 place-of-requires c κs = search needs
 
@@ -38,20 +35,19 @@ same-length : tie.Need-same-length
 same-length c = search needs
 
 returns-2 : tie.Need-returns-2
-returns-2 c = sym (count-up (c .before .before .before .before .before .before .before .before .args .first) (c .before .before .before .before .before .before .before .before .args .counts .now) (c .before .before .before .before .place-of .result) (cc) (omega arith))
+returns-2 c = sym (count-up (c .before .before .before .before .before .before .before .args .first) (c .before .before .before .before .before .before .before .args .counts .now) (c .before .before .before .before .place-of .result) (c .before .before .before .before .place-of .ensures) (omega arith))
 
 returns-3 : tie.Need-returns-3
-returns-3 c = sym (count-stays (c .before .before .before .before .before .before .before .args .first) (c .before .before .before .before .before .before .before .args .counts .now) (c .before .before .before .place-of .result) (cc) (omega arith))
+returns-3 c = sym (count-stays (c .before .before .before .before .before .before .args .first) (c .before .before .before .before .before .before .args .counts .now) (c .before .before .before .place-of .result) (c .before .before .before .place-of .ensures) (omega arith))
 
 returns-4 : tie.Need-returns-4
-returns-4 c = sym (count-past (c .before .before .before .before .before .args .first) (c .before .before .before .before .before .args .counts .now) (c .before .place-of .result) (cc) (omega arith))
+returns-4 c = sym (count-past (c .before .before .before .before .args .first) (c .before .before .before .before .args .counts .now) (c .before .place-of .result) (c .before .place-of .ensures) (omega arith))
 
 pub count-spec : {M : Type 1} → statement M
 count-spec =
     tie.close
     (tie.spec
     returns
-    family-of-requires
     place-of-requires
     mul-if3
     slice-read-if3
