@@ -1,0 +1,2 @@
+-- What is read of a file of imports.
+pub mod Bounds
