@@ -8,6 +8,8 @@ pub mod LayOut
 pub mod Run
 pub mod Look
 pub mod Load
+pub mod Tally
+pub mod Replay
 pub mod Demands
 pub mod RuledOut
 pub mod ParList
