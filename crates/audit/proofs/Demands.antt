@@ -257,8 +257,7 @@ happens s words (call c ∷ items) lent =
     (called (record { call = c; answer = m .0; after = m .1 }) ∷ rest .0, ap (λ (l : List Item). call c ∷ l) (rest .1), (m .2, rest .2))
 happens s words (replay p file ∷ items) lent =
     let m = replay-theorems .ends s words p (lent .0 .0) file (lent .0 .1) in
-    let rest = happens (m .1) (m .5) items (lent .1) in
-    (
+    let rest = happens (m .1) (m .5) items (lent .1) in (
       replayed (record { procedures = p; file = file; answer = m .0; counts = m .2; calls = m .3; after = m .1 }) ∷ rest .0,
       ap (λ (l : List Item). replay p file ∷ l) (rest .1),
       (m .4, rest .2),

@@ -129,7 +129,7 @@ replay-theorems = record {
   all = all-made;
   sum = replay-sum;
   ends = λ s words p lent bytes file.
-  let r = replayed s (p .regular) (p .alternate) bytes in
-  let made = replay-did p lent s words bytes in
-  (r .answer, r .words, r .counts, made .0, made .1, made .2);
+      let r = replayed s (p .regular) (p .alternate) bytes in
+      let made = replay-did p lent s words bytes in
+      (r .answer, r .words, r .counts, made .0, made .1, made .2);
 }

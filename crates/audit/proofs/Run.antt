@@ -63,8 +63,7 @@ module _ (s : List ℕ) (p : Procedures) (budget : ℕ) where
         let from = run-ran p s (start e) budget in
         let there : 3 < length s = omega (arith, start e .accepted .shortest) in
         let zero : trapWord (set s 3 0) ≡ 0 = rw getD-set-same in
-        let passes = passes-of (runOf (p .regular) (p .alternate) s budget .words) p (from .ready .accepted) in
-        (
+        let passes = passes-of (runOf (p .regular) (p .alternate) s budget .words) p (from .ready .accepted) in (
           hasRun (segment-told s p ∙ e) (record { steps = from .runs; all = run-all (from .runs) zero; full = run-full (from .runs); accepted = passes }),
           λ counts. from .counts counts ∙ sym (steps-tallied e counts),
         )

@@ -1,6 +1,6 @@
 -- The tally: a finished instruction has a family, and the sum of the counts is the number of finished instructions.
 use Prim.Native.Nat.{ℕ, zero, suc, _+_, _^_, _<_}
-use mathlib.Core.Path.{_≡_, refl, sym, _∙_, ap, subst}
+use mathlib.Core.Path.{_≡_, refl, sym, _∙_, subst}
 use mathlib.Core.Bool.{Bool, true, false, cond}
 use mathlib.Core.List.{List, [], _∷_}
 use native.Mathlib.Omega.{arith}
@@ -36,7 +36,6 @@ use Rattle.effects.specs.Seen.{seen}
 use Rattle.effects.specs.Step.{selectorOf, currentFunction}
 use Rattle.effects.specs.Tally.{firstByte}
 use Rattle.legality.proofs.Runs.{function-known}
-use Rattle.step_theorems.specs.Planned.{planned}
 use Rattle.step_theorems.proofs.Current.{current-function, plan-is}
 use Rattle.step_theorems.proofs.Again.{sound-of}
 use Rattle.operations.specs.declared.Replayed.{Replayed}

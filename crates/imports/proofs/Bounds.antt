@@ -2,7 +2,7 @@
 use Prim.Native.Nat.{ℕ, zero, suc, _-_, _≤_}
 use mathlib.Core.Path.{_≡_, refl}
 use mathlib.Core.Bool.{Bool, true, false, cond}
-use mathlib.Core.List.{List, [], _∷_}
+use mathlib.Core.List.{List, _∷_}
 use native.Mathlib.Omega.{arith}
 use lib.Dec.{ltb, eqb}
 use lib.ListN.{length}
@@ -14,7 +14,7 @@ use Rattle.imports.specs.declared.number.FoundNumber.{FoundNumber}
 use Rattle.imports.specs.declared.number.FoundNumber.the-variants.{Number, Bad}
 use Rattle.imports.specs.Numbers as several
 use Rattle.imports.specs.Numbers.{Numbers, numbers, numberAt, withNumber, andMore, numbersAt, withNumbers}
-use Rattle.imports.specs.Records.{Record, load, run, FoundRecord, found, bad, Records, ends, malformed, entry, elementLimit, numberLimit, elementsAt, lengthsAt, loadAt, runAt, kindAt, recordAt, continued, recordsUpTo, recordsFrom, recordsOf}
+use Rattle.imports.specs.Records.{Record, load, run, FoundRecord, found, bad, Records, ends, malformed, entry, elementLimit, numberLimit, elementsAt, lengthsAt, loadAt, runAt, recordAt, continued, recordsUpTo, recordsFrom, recordsOf}
 use Rattle.imports.specs.Encoding.{AtMost}
 
 -- what holds of both ways holds of the one that is taken
