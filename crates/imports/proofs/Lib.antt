@@ -4,3 +4,4 @@ pub mod Several
 pub mod Ends
 pub mod Parsing
 pub mod Files
+pub mod Bounds
