@@ -1,0 +1,2 @@
+-- Replays: laws of what is done record by record.
+mod Replaying
