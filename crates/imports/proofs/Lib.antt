@@ -4,3 +4,5 @@ pub mod Several
 pub mod Ends
 pub mod Parsing
 pub mod Files
+pub mod Standing
+pub mod Encodings
