@@ -6,3 +6,6 @@ pub mod Parsing
 pub mod Files
 pub mod Standing
 pub mod Encodings
+pub mod ReadBack
+pub mod OneEncoding
+pub mod Theorem
