@@ -15,7 +15,7 @@ use Rattle.acceptance.specs.Refusal.{refusal}
 use Rattle.effects.specs.declared.Stepped.{Stepped}
 use Rattle.effects.specs.declared.Stepped.the-variants as stepped
 use Rattle.effects.specs.Step.{stepOf}
-use Rattle.effects.specs.Tally.{firstByte, tallying, talliedFrom}
+use Rattle.effects.specs.Tally.{tallying, talliedFrom}
 use Rattle.operations.specs.declared.Replayed.the-variants.{Halted}
 use Rattle.operations.specs.Answers.{replayPlace}
 use Rattle.operations.specs.Load.{loadRefusal, loaded}
