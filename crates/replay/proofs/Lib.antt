@@ -1,2 +1,3 @@
--- Replays: laws of what is done record by record.
+-- Replays: what is done record by record, and what is counted.
 mod Replaying
+mod Counting
