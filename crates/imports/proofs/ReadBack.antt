@@ -1,20 +1,19 @@
 -- Numbers, records and files that were written are read back.
-use Prim.Native.Nat.{ℕ, suc, _+_, _-_, _^_, _<_, _≤_}
+use Prim.Native.Nat.{ℕ, suc, _+_, _-_, _≤_}
 use native.Mathlib.Omega.{arith}
 use mathlib.Core.Path.{_≡_, refl, sym, ap, _∙_}
 use mathlib.Core.List.{List, [], _∷_, _++_, append-assoc}
-use lib.ListN.{length, getD}
+use lib.ListN.{length}
 use borrow.Author.Tests.{le-ltb}
 use Rattle.descriptor.specs.Fields.{integerLimit}
-use Rattle.imports.specs.declared.number.FoundNumber.the-variants.{Number}
-use Rattle.imports.specs.Numbers.{numbers, numberAt, numbersAt, andMore}
-use Rattle.imports.specs.Records.{Record, load, run, found, Records, ends, entry, numberLimit, elementLimit, elementsAt, lengthsAt, loadAt, runAt, recordAt, recordsFrom}
+use Rattle.imports.specs.Numbers.{numbers, numbersAt, andMore}
+use Rattle.imports.specs.Records.{Record, load, run, found, entry, numberLimit, elementsAt, lengthsAt, loadAt, runAt, recordAt, recordsFrom}
 use Rattle.imports.specs.Encoding.{encodeNumber, encodeNumbers, encodeRecord, encodeAll, AtMost, Loadable, Writable, AllWritable, placedFrom}
 use Rattle.imports.proofs.Several.{one-more}
 use Rattle.imports.proofs.Parsing.{with-elements, loads, runs}
 use Rattle.imports.proofs.Ends.{record-passes}
 use Rattle.imports.proofs.Files.{no-more, one-record}
-use Rattle.imports.proofs.Standing.{Fills, first-fills, second-fills, fills-inside}
+use Rattle.imports.proofs.Standing.{Fills, first-fills, second-fills}
 use Rattle.imports.proofs.Encodings.{number-back}
 
 -- ---- several numbers
