@@ -54,7 +54,8 @@ unfolding groupsAt
 groups-from zero file place least past = tt
 groups-from (suc groups) file place least past =
     either (NumberFrom least) (ltb place (length file))
-    (either (NumberFrom least) (ltb (getD file place 0) (2 ^ 7)) past (above-from least (getD file place 0 - 2 ^ 7) (groupsAt groups file (place + 1)) (groups-from groups file (place + 1) least (omega arith))))
+    (either (NumberFrom least) (ltb (getD file place 0) (2 ^ 7)) past
+    (above-from least (getD file place 0 - 2 ^ 7) (groupsAt groups file (place + 1)) (groups-from groups file (place + 1) least (omega arith))))
     tt
 
 number-from : (file : List ℕ) (place : ℕ) → NumberFrom (place + 1) (numberAt file place)

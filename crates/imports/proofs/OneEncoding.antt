@@ -153,9 +153,10 @@ module _ (file : List ℕ) (bytes : Bytes file) where
   unfolding encodeRecord
   load-of start place global second rank third next r loading address ranked rest =
       let number = number-one file bytes place global second address in
-      rw (rest .same)
-      (rest .loadable (omega (arith, number .0)),
-      both-fill file loading (both-fill file (number .1) (both-fill file (number-fills second rank (length (rest .lengths)) third ranked (sym (rest .ranked))) (rest .fills))))
+      rw (rest .same) (
+        rest .loadable (omega (arith, number .0)),
+        both-fill file loading (both-fill file (number .1) (both-fill file (number-fills second rank (length (rest .lengths)) third ranked (sym (rest .ranked))) (rest .fills))),
+      )
 
   load-one : (start place : ℕ) (r : Record) (next : ℕ) → loadAt file place ≡ found r next → Fills file start place (encodeNumber 0)
       → Writable r × Fills file start next (encodeRecord r)

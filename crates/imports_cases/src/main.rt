@@ -91,7 +91,12 @@ fn after(found: Parsed) -> usize
     ensures { λ r. ⌜ ((place : ℕ) → Passes place found → (r ≡ 0 → ⊥) → place < r) ⌝ }
 {
     match found {
-        Parsed::Load { global: _, rank: _, count: _, next } => next,
+        Parsed::Load {
+            global: _,
+            rank: _,
+            count: _,
+            next,
+        } => next,
         Parsed::Run { budget: _, next } => next,
         Parsed::Malformed => 0,
     }
