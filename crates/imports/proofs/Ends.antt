@@ -1,6 +1,6 @@
 -- Where numbers and records end: past the place where they begin.
-use Prim.Native.Nat.{ℕ, zero, suc, _+_, _*_, _-_, _^_, _<_, _≤_}
-use native.Mathlib.Nat.{le-refl, le-of-lt, lt-of-lt-of-le, lt-of-le-of-lt, le-trans}
+use Prim.Native.Nat.{ℕ, zero, suc, _+_, _-_, _^_, _<_, _≤_}
+use native.Mathlib.Nat.{le-refl}
 use native.Mathlib.Omega.{arith}
 use mathlib.Core.Path.{_≡_, subst}
 use mathlib.Core.Bool.{Bool, true, false, cond}
@@ -13,7 +13,7 @@ use Rattle.imports.specs.declared.number.FoundNumber.{FoundNumber}
 use Rattle.imports.specs.declared.number.FoundNumber.the-variants.{Number, Bad}
 use Rattle.imports.specs.Numbers as several
 use Rattle.imports.specs.Numbers.{Numbers, numbers, above, groupsAt, numberAt, withNumber, numbersAt, withNumbers, andMore}
-use Rattle.imports.specs.Records.{Record, load, run, FoundRecord, found, bad, numberLimit, elementLimit, elementsAt, lengthsAt, loadAt, runAt, kindAt, recordAt}
+use Rattle.imports.specs.Records.{Record, load, run, FoundRecord, found, bad, numberLimit, elementLimit, elementsAt, lengthsAt, loadAt, runAt, recordAt}
 
 -- what is found, if anything, ends at `least` or later
 abbrev NumberFrom : ℕ → FoundNumber → Type 0
@@ -54,7 +54,8 @@ unfolding groupsAt
 groups-from zero file place least past = tt
 groups-from (suc groups) file place least past =
     either (NumberFrom least) (ltb place (length file))
-    (either (NumberFrom least) (ltb (getD file place 0) (2 ^ 7)) past (above-from least (getD file place 0 - 2 ^ 7) (groupsAt groups file (place + 1)) (groups-from groups file (place + 1) least (omega arith))))
+    (either (NumberFrom least) (ltb (getD file place 0) (2 ^ 7)) past
+    (above-from least (getD file place 0 - 2 ^ 7) (groupsAt groups file (place + 1)) (groups-from groups file (place + 1) least (omega arith))))
     tt
 
 number-from : (file : List ℕ) (place : ℕ) → NumberFrom (place + 1) (numberAt file place)

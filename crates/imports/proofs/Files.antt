@@ -6,7 +6,7 @@ use mathlib.Core.List.{List}
 use lib.ListN.{length}
 use borrow.Author.Tests.{lt-ltb, le-ltb}
 use native.Mathlib.Decide.{decLt}
-use Rattle.imports.specs.Records.{Record, FoundRecord, found, bad, Records, ends, malformed, entry, recordAt, recordsUpTo, recordsFrom}
+use Rattle.imports.specs.Records.{Record, FoundRecord, found, bad, ends, malformed, entry, recordAt, recordsUpTo, recordsFrom}
 use Rattle.imports.proofs.Ends.{record-passes}
 
 module _ (file : List ℕ) where

@@ -1,12 +1,12 @@
 -- Records that are read were written so: what a found record says of the numbers that it was found by.
-use Prim.Native.Nat.{ℕ, zero, suc, _+_, _^_, _<_, _≤_}
+use Prim.Native.Nat.{ℕ, zero, suc, _+_, _≤_}
 use native.Mathlib.Omega.{arith}
 use mathlib.Core.Path.{_≡_, refl, sym, ap, _∙_}
 use mathlib.Core.Bool.{Bool, true, false, cond}
 use mathlib.Core.List.{List, [], _∷_, _++_}
-use lib.Dec.{ltb, eqb}
-use lib.ListN.{length, getD}
-use borrow.Author.Tests.{ltb-false, eqb-true}
+use lib.Dec.{ltb}
+use lib.ListN.{length}
+use borrow.Author.Tests.{ltb-false}
 use Rattle.descriptor.specs.Fields.{integerLimit}
 use Rattle.segment.specs.Blocks.{product}
 use Rattle.segment.specs.Lent.{Bytes}
@@ -153,9 +153,10 @@ module _ (file : List ℕ) (bytes : Bytes file) where
   unfolding encodeRecord
   load-of start place global second rank third next r loading address ranked rest =
       let number = number-one file bytes place global second address in
-      rw (rest .same)
-      (rest .loadable (omega (arith, number .0)),
-      both-fill file loading (both-fill file (number .1) (both-fill file (number-fills second rank (length (rest .lengths)) third ranked (sym (rest .ranked))) (rest .fills))))
+      rw (rest .same) (
+        rest .loadable (omega (arith, number .0)),
+        both-fill file loading (both-fill file (number .1) (both-fill file (number-fills second rank (length (rest .lengths)) third ranked (sym (rest .ranked))) (rest .fills))),
+      )
 
   load-one : (start place : ℕ) (r : Record) (next : ℕ) → loadAt file place ≡ found r next → Fills file start place (encodeNumber 0)
       → Writable r × Fills file start next (encodeRecord r)

@@ -1,20 +1,19 @@
 -- Numbers, records and files that were written are read back.
-use Prim.Native.Nat.{ℕ, suc, _+_, _-_, _^_, _<_, _≤_}
+use Prim.Native.Nat.{ℕ, suc, _+_, _-_, _≤_}
 use native.Mathlib.Omega.{arith}
 use mathlib.Core.Path.{_≡_, refl, sym, ap, _∙_}
 use mathlib.Core.List.{List, [], _∷_, _++_, append-assoc}
-use lib.ListN.{length, getD}
+use lib.ListN.{length}
 use borrow.Author.Tests.{le-ltb}
 use Rattle.descriptor.specs.Fields.{integerLimit}
-use Rattle.imports.specs.declared.number.FoundNumber.the-variants.{Number}
-use Rattle.imports.specs.Numbers.{numbers, numberAt, numbersAt, andMore}
-use Rattle.imports.specs.Records.{Record, load, run, found, Records, ends, entry, numberLimit, elementLimit, elementsAt, lengthsAt, loadAt, runAt, recordAt, recordsFrom}
+use Rattle.imports.specs.Numbers.{numbers, numbersAt, andMore}
+use Rattle.imports.specs.Records.{Record, load, run, found, entry, numberLimit, elementsAt, lengthsAt, loadAt, runAt, recordAt, recordsFrom}
 use Rattle.imports.specs.Encoding.{encodeNumber, encodeNumbers, encodeRecord, encodeAll, AtMost, Loadable, Writable, AllWritable, placedFrom}
 use Rattle.imports.proofs.Several.{one-more}
 use Rattle.imports.proofs.Parsing.{with-elements, loads, runs}
 use Rattle.imports.proofs.Ends.{record-passes}
 use Rattle.imports.proofs.Files.{no-more, one-record}
-use Rattle.imports.proofs.Standing.{Fills, first-fills, second-fills, fills-inside}
+use Rattle.imports.proofs.Standing.{Fills, first-fills, second-fills}
 use Rattle.imports.proofs.Encodings.{number-back}
 
 -- ---- several numbers
@@ -35,7 +34,7 @@ module _ (file : List ℕ) where
       (number-back file place n middle (omega (arith, most 0)) (first-fills file (encodeNumber n) (encodeNumbers ns) place next fills)) (most 0)
       ∙ ap (andMore n) (numbers-back limit small ns (λ i. most (suc i)) middle next (second-fills file (encodeNumber n) (encodeNumbers ns) place next fills))
 
--- ---- a record
+  -- ---- a record
 
   module _ {global : ℕ} {lengths ravel : List ℕ} (fits : Loadable global lengths ravel) where
     elements-back : (place next : ℕ) → Fills file place next (encodeNumbers ravel) → elementsAt file place global lengths ≡ found (load global lengths ravel) next
@@ -49,8 +48,10 @@ module _ (file : List ℕ) where
     lengths-back place next fills =
         let parts = rw (numbers-append lengths ravel) at fills in
         let middle = place + length (encodeNumbers lengths) in
-        simp (le-ltb 15 (length lengths) (fits .rank),
-            numbers-back numberLimit (omega arith) lengths (fits .lengthsFit) place middle (first-fills file (encodeNumbers lengths) (encodeNumbers ravel) place next parts))
+        simp (
+          le-ltb 15 (length lengths) (fits .rank),
+          numbers-back numberLimit (omega arith) lengths (fits .lengthsFit) place middle (first-fills file (encodeNumbers lengths) (encodeNumbers ravel) place next parts),
+        )
         (elements-back middle next (second-fills file (encodeNumbers lengths) (encodeNumbers ravel) place next parts))
 
     load-back : (place next : ℕ) → Fills file place next (encodeNumbers (global ∷ length lengths ∷ (lengths ++ ravel)))
@@ -61,8 +62,10 @@ module _ (file : List ℕ) where
         let after = second-fills file (encodeNumber global) others place next fills in
         let second = place + length (encodeNumber global) in
         let third = second + length (encodeNumber (length lengths)) in
-        simp (number-back file place global second (omega (arith, fits .address)) (first-fills file (encodeNumber global) others place next fills),
-            number-back file second (length lengths) third (omega (arith, fits .rank)) (first-fills file (encodeNumber (length lengths)) (encodeNumbers (lengths ++ ravel)) second next after))
+        simp (
+          number-back file place global second (omega (arith, fits .address)) (first-fills file (encodeNumber global) others place next fills),
+          number-back file second (length lengths) third (omega (arith, fits .rank)) (first-fills file (encodeNumber (length lengths)) (encodeNumbers (lengths ++ ravel)) second next after),
+        )
         (lengths-back third next (second-fills file (encodeNumber (length lengths)) (encodeNumbers (lengths ++ ravel)) second next after))
 
   run-back : (budget : ℕ) → budget ≤ numberLimit → (place next : ℕ) → Fills file place next (encodeNumbers (budget ∷ [])) → runAt file place ≡ found (run budget) next
@@ -85,7 +88,7 @@ module _ (file : List ℕ) where
       sym (runs file place 1 middle (number-back file place 1 middle (omega arith) (first-fills file (encodeNumber 1) others place next fills)) (λ one. omega arith) refl)
       ∙ run-back budget fits middle next (second-fills file (encodeNumber 1) others place next fills)
 
--- ---- a file
+  -- ---- a file
 
   pub file-back : (rs : List Record) → AllWritable rs → (place : ℕ) → Fills file place (length file) (encodeAll rs) → recordsFrom file place ≡ placedFrom place rs
   file-back [] fits place fills = no-more file place (omega (arith, fills .end))

@@ -3,7 +3,7 @@ use Prim.Native.Nat.{ℕ, suc, _+_, _-_, _<_, _≤_}
 use native.Mathlib.Nat.{add-sub-cancel-left}
 use native.Mathlib.Numerals.{add-one}
 use native.Mathlib.Omega.{arith}
-use mathlib.Core.Path.{_≡_, refl, sym, ap, _∙_}
+use mathlib.Core.Path.{_≡_, refl, sym, ap}
 use mathlib.Core.List.{List, [], _∷_, _++_, append-assoc}
 use lib.ListN.{length, getD, take, drop, length-append}
 use lib.Seq.{drop-cons, getD-append-seam}
@@ -70,7 +70,7 @@ module _ (file : List ℕ) where
         end = omega (arith, first .end, second .end, length-append some others);
       }
 
--- ---- it is what lies between its ends
+  -- ---- it is what lies between its ends
 
   stands-inside : (bytes : List ℕ) (place : ℕ) → Stands file place bytes → place + length bytes ≤ length file
   stands-inside [] place stands = omega arith
@@ -96,10 +96,11 @@ seam before b bytes after = sym (append-assoc before (b ∷ []) (bytes ++ after)
 
 put : (bytes before after : List ℕ) → Stands (before ++ (bytes ++ after)) (length before) bytes
 put [] before after = rw (length-append before after) (omega arith)
-put (b ∷ bytes) before after =
-    (rw (length-append before (b ∷ (bytes ++ after))) (omega arith),
-    getD-append-seam before b (bytes ++ after) 0,
-    rest (before ++ ((b ∷ bytes) ++ after)) (seam before b bytes after) (length before + 1) (length-append before (b ∷ [])) (put bytes (before ++ (b ∷ [])) after))
+put (b ∷ bytes) before after = (
+  rw (length-append before (b ∷ (bytes ++ after))) (omega arith),
+  getD-append-seam before b (bytes ++ after) 0,
+  rest (before ++ ((b ∷ bytes) ++ after)) (seam before b bytes after) (length before + 1) (length-append before (b ∷ [])) (put bytes (before ++ (b ∷ [])) after),
+)
   where
     rest : (file : List ℕ) → file ≡ (before ++ (b ∷ [])) ++ (bytes ++ after) → (place : ℕ) → length (before ++ (b ∷ [])) ≡ place
         → Stands ((before ++ (b ∷ [])) ++ (bytes ++ after)) (length (before ++ (b ∷ []))) bytes → Stands file place bytes

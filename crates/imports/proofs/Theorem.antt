@@ -1,13 +1,11 @@
 -- The theorems of specs/Theorems.
-use Prim.Native.Nat.{ℕ, _+_, _^_, _<_, _≤_}
+use Prim.Native.Nat.{ℕ, _+_}
 use native.Mathlib.Nat.{zero-add}
-use mathlib.Core.Path.{_≡_, sym}
-use mathlib.Core.List.{List, [], _∷_, _++_, append-nil}
+use mathlib.Core.Path.{_≡_}
+use mathlib.Core.List.{List, [], _++_, append-nil}
 use lib.ListN.{length}
-use Rattle.imports.specs.Records.{Record}
-use Rattle.imports.specs.Records as reading
-use Rattle.imports.specs.Encoding.{encodeNumber, encodeRecord, encodeAll, AllWritable, placedFrom}
-use Rattle.imports.specs.Theorems.{ImportsTheorems, between}
+use Rattle.imports.specs.Encoding.{encodeNumber, encodeRecord, encodeAll}
+use Rattle.imports.specs.Theorems.{ImportsTheorems}
 use Rattle.imports.proofs.Standing.{Fills, fills-put, fills-between, fills-inside}
 use Rattle.imports.proofs.Encodings.{number-back, number-one}
 use Rattle.imports.proofs.ReadBack.{record-back, file-back}

@@ -67,7 +67,10 @@ fn long_at(file: &[u8], place: usize, first: u32, second: u32) -> FoundNumber
     if fourth == 0 {
         return FoundNumber::Bad;
     }
-    FoundNumber::Number(first + 0x80 * (second + 0x80 * (third - 0x80 + 0x80 * fourth)), after + 1)
+    FoundNumber::Number(
+        first + 0x80 * (second + 0x80 * (third - 0x80 + 0x80 * fourth)),
+        after + 1,
+    )
 }
 
 fn byte_at(file: &[u8], place: usize) -> u32
@@ -78,7 +81,13 @@ fn byte_at(file: &[u8], place: usize) -> u32
 }
 
 // So many numbers, none of them above a limit, go to the front of `out`.
-pub fn numbers_at(file: &[u8], place: usize, limit: u32, count: usize, out: &mut [u32]) -> FoundNumbers
+pub fn numbers_at(
+    file: &[u8],
+    place: usize,
+    limit: u32,
+    count: usize,
+    out: &mut [u32],
+) -> FoundNumbers
     requires { ⌜ count ≤ length (now out) ⌝ }
     ensures { λ r. ⌜ readNumbers r count (now (out .exit)) ≡ meaning.numbersAt limit count (now (file .entry)) place ⌝ }
 {

@@ -13,6 +13,7 @@ use elements::shapes::product;
 
 // The greatest number that can be written, and the greatest integer.
 const NUMBER_LIMIT: u32 = 0x0FFF_FFFF;
+
 const INTEGER_LIMIT: u32 = 0x7F_FFFF;
 
 // A record and the place after it: of a load the lengths and the elements lie in two lent slices.
@@ -61,7 +62,14 @@ fn load_at(file: &[u8], place: usize, lengths: &mut [u32], ravel: &mut [u32]) ->
     lengths_at(file, after, global, rank, lengths, ravel)
 }
 
-fn lengths_at(file: &[u8], place: usize, global: u32, rank: u32, lengths: &mut [u32], ravel: &mut [u32]) -> Parsed
+fn lengths_at(
+    file: &[u8],
+    place: usize,
+    global: u32,
+    rank: u32,
+    lengths: &mut [u32],
+    ravel: &mut [u32],
+) -> Parsed
     requires { ⌜ (length (now lengths) ≡ 15) × (length (now ravel) ≡ 16384) ⌝ }
     ensures { λ r. ⌜ parsed r (now (lengths .exit)) (now (ravel .exit)) ≡ meaning.lengthsAt (now (file .entry)) place global rank ⌝ }
     ensures { λ r. ⌜ Few r ⌝ }
@@ -76,7 +84,14 @@ fn lengths_at(file: &[u8], place: usize, global: u32, rank: u32, lengths: &mut [
     elements_at(file, next, global, rank, lengths, ravel)
 }
 
-fn elements_at(file: &[u8], place: usize, global: u32, rank: usize, lengths: &[u32], ravel: &mut [u32]) -> Parsed
+fn elements_at(
+    file: &[u8],
+    place: usize,
+    global: u32,
+    rank: usize,
+    lengths: &[u32],
+    ravel: &mut [u32],
+) -> Parsed
     requires { ⌜ (rank ≤ 15) × (length (now lengths) ≡ 15) × (length (now ravel) ≡ 16384) ⌝ }
     ensures { λ r. ⌜ parsed r (now (lengths .entry)) (now (ravel .exit))
         ≡ meaning.elementsAt (now (file .entry)) place global (take rank (now (lengths .entry))) ⌝ }

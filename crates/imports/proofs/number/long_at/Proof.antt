@@ -31,22 +31,26 @@ add-t13 : tie.Need-add-t13
 add-t13 c = search needs
 
 returns-3 : tie.Need-returns-3
-returns-3 c = let third = c .before .before in sym (both _ _ (last 1 _ _ (third .before .if1 .left) _ (third .byte-at .ensures .0) (c .if3 .taken)) ∙ weighed-twice _ _ _ _ (c .before .if2 .left))
+returns-3 c =
+    let third = c .before .before in
+    sym (both _ _ (last 1 _ _ (third .before .if1 .left) _ (third .byte-at .ensures .0) (c .if3 .taken)) ∙ weighed-twice _ _ _ _ (c .before .if2 .left))
 
 returns-4 : tie.Need-returns-4
-returns-4 c = let third = c .before .before .before in sym (both _ _ (more 1 _ _ (third .before .if1 .left) _ (third .byte-at .ensures .0) (c .before .if3 .left) ∙ ap (above _) (cut 0 _ _ (c .if4 .taken))))
+returns-4 c =
+    let third = c .before .before .before in
+    sym (both _ _ (more 1 _ _ (third .before .if1 .left) _ (third .byte-at .ensures .0) (c .before .if3 .left) ∙ ap (above _) (cut 0 _ _ (c .if4 .taken))))
 
 byte-at-requires-2 : tie.Need-byte-at-requires-2
 byte-at-requires-2 c κs = search needs
 
 returns-5 : tie.Need-returns-5
-returns-5 c = 
+returns-5 c =
     let third = c .before .before .before .before .before in
     sym (both _ _ (more 1 _ _ (third .before .if1 .left) _ (third .byte-at .ensures .0) (c .before .before .before .if3 .left)
     ∙ ap (above _) (unfinished _ _ (c .before .before .if4 .left) _ (c .before .byte-at2 .ensures .0) (c .if5 .taken))))
 
 returns-6 : tie.Need-returns-6
-returns-6 c = 
+returns-6 c =
     let fourth = c .before .before in
     let third = fourth .before .before .before .before in
     sym (both _ _ (more 1 _ _ (third .before .if1 .left) _ (third .byte-at .ensures .0) (fourth .before .before .if3 .left)
@@ -75,7 +79,7 @@ add-t8 : tie.Need-add-t8
 add-t8 c = search needs
 
 returns-7 : tie.Need-returns-7
-returns-7 c = 
+returns-7 c =
     let fourth = c .before .before in
     let third = fourth .before .before .before .before in
     sym (both _ _ (more 1 _ _ (third .before .if1 .left) _ (third .byte-at .ensures .0) (fourth .before .before .if3 .left)

@@ -21,7 +21,9 @@ returns-2 c = sym (last 3 _ _ (c .before .before .if1 .left) _ (c .before .byte-
 
 returns-3 : tie.Need-returns-3
 unfolding numberAt
-returns-3 c = let first = c .before .before in sym (more 3 _ _ (first .before .if1 .left) _ (first .byte-at .ensures .0) (c .before .if2 .left) ∙ ap (above _) (cut 2 _ _ (c .if3 .taken)))
+returns-3 c =
+    let first = c .before .before in
+    sym (more 3 _ _ (first .before .if1 .left) _ (first .byte-at .ensures .0) (c .before .if2 .left) ∙ ap (above _) (cut 2 _ _ (c .if3 .taken)))
 
 byte-at-requires-2 : tie.Need-byte-at-requires-2
 byte-at-requires-2 c κs = search needs
@@ -34,7 +36,7 @@ long-at-requires c κs = search needs
 
 returns-4 : tie.Need-returns-4
 unfolding numberAt
-returns-4 c = 
+returns-4 c =
     let second = c .before .before in
     let first = second .before .before .before in
     c .long-at .ensures
@@ -43,7 +45,7 @@ returns-4 c =
 
 returns-5 : tie.Need-returns-5
 unfolding numberAt
-returns-5 c = 
+returns-5 c =
     let second = c .before .before in
     let first = second .before .before .before in
     sym (more 3 _ _ (first .before .if1 .left) _ (first .byte-at .ensures .0) (second .before .before .if2 .left)
@@ -61,7 +63,7 @@ add-t6 c = search needs
 
 returns-6 : tie.Need-returns-6
 unfolding numberAt
-returns-6 c = 
+returns-6 c =
     let second = c .before .before in
     let first = second .before .before .before in
     sym (more 3 _ _ (first .before .if1 .left) _ (first .byte-at .ensures .0) (second .before .before .if2 .left)

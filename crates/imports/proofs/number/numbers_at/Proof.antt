@@ -29,7 +29,9 @@ same-length : tie.Need-same-length Inv-loop μ-loop
 same-length c = search needs
 
 returns : tie.Need-returns Inv-loop μ-loop
-returns c = let l = c .before .before .before in reading-none (l .before .loop .inv .2) (l .loop-test .taken) (sym (c .before .before .number-at .ensures) ∙ c .enum-told .given .1)
+returns c =
+    let l = c .before .before .before in
+    reading-none (l .before .loop .inv .2) (l .loop-test .taken) (sym (c .before .before .number-at .ensures) ∙ c .enum-told .given .1)
 
 same-length-2 : tie.Need-same-length-2 Inv-loop μ-loop
 same-length-2 c = search needs

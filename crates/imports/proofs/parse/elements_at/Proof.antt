@@ -31,7 +31,7 @@ same-length : tie.Need-same-length
 same-length c = search needs
 
 returns-2 : tie.Need-returns-2
-returns-2 c = 
+returns-2 c =
     let called = c .before .before .before .before in
     let tested = called .before .before in
     (no-elements _ _ _ _ _ (tested .before .product .ensures) (tested .if1 .left) (rw (c .enum-told .given .1) at (called .numbers-at .ensures)), tt)
@@ -40,7 +40,7 @@ same-length-2 : tie.Need-same-length-2
 same-length-2 c = search needs
 
 returns-3 : tie.Need-returns-3
-returns-3 c = 
+returns-3 c =
     let called = c .before .before .before .before .before in
     let tested = called .before .before in
     let few = tested .if1 .left in

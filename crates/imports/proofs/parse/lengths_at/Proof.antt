@@ -23,7 +23,7 @@ same-length c = search needs
 
 returns-2 : tie.Need-returns-2
 unfolding lengthsAt
-returns-2 c = 
+returns-2 c =
     let called = c .before .before .before .before in
     (simp (le-ltb _ _ (called .before .before .if1 .left), sym (rw (c .enum-told .given .1) at (called .numbers-at .ensures))), tt)
 
@@ -38,7 +38,7 @@ same-length-3 c = search needs
 
 returns-3 : tie.Need-returns-3
 unfolding lengthsAt
-returns-3 c = 
+returns-3 c =
     let next = c .before .before .before .before .before .before in
     let called = next .before .before .before .before in
     let told = c .before .before .elements-at .ensures in

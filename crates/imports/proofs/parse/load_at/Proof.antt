@@ -27,7 +27,7 @@ enum-told-2 c = search needs
 
 returns-2 : tie.Need-returns-2
 unfolding loadAt
-returns-2 c = 
+returns-2 c =
     let first = c .before .before .before .before in
     (simp (← first .before .before .number-at .ensures, first .global .given .1, ← c .before .before .number-at2 .ensures, c .enum-told2 .given .1), tt)
 
@@ -42,7 +42,7 @@ same-length-2 c = search needs
 
 returns-3 : tie.Need-returns-3
 unfolding loadAt
-returns-3 c = 
+returns-3 c =
     let second = c .before .before .before .before .before .before .before .before in
     let first = second .before .before .before .before in
     let told = c .before .before .before .before .lengths-at .ensures in

@@ -32,7 +32,10 @@ returns-2 c =
     let kind = c .before .before .before .before .before .before .before .before .before in
     let called = c .before .before .before .before .load-at in
     let told = called .ensures in
-    whole (called .result) (called .last .1 .1 .0) (called .last .1 .1 .1 .0) _ _ (told .0 ∙ loads _ _ _ _ (sym (kind .before .before .number-at .ensures) ∙ kind .kind .given .1) (c .before .before .before .before .before .before .before .if1 .taken)) (told .1)
+    whole (called .result) (called .last .1 .1 .0) (called .last .1 .1 .1 .0) _ _
+    (told .0
+    ∙ loads _ _ _ _ (sym (kind .before .before .number-at .ensures) ∙ kind .kind .given .1) (c .before .before .before .before .before .before .before .if1 .taken))
+    (told .1)
 
 run-at-requires : tie.Need-run-at-requires
 run-at-requires c κs = search needs
@@ -42,7 +45,10 @@ returns-3 c =
     let kind = c .before .before .before .before in
     let args = c .before .before .before .before .before .before .before .before .before .before .args in
     let told = c .run-at .ensures in
-    whole (c .run-at .result) (args .lengths .now) (args .ravel .now) _ _ (told .0 (args .lengths .now) (args .ravel .now) ∙ runs _ _ _ _ (sym (kind .before .before .number-at .ensures) ∙ kind .kind .given .1) (c .before .before .if1 .left) (c .before .if2 .taken)) (told .1)
+    whole (c .run-at .result) (args .lengths .now) (args .ravel .now) _ _
+    (told .0 (args .lengths .now) (args .ravel .now)
+    ∙ runs _ _ _ _ (sym (kind .before .before .number-at .ensures) ∙ kind .kind .given .1) (c .before .before .if1 .left) (c .before .if2 .taken))
+    (told .1)
 
 returns-4 : tie.Need-returns-4
 returns-4 c =
