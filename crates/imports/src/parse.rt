@@ -9,12 +9,14 @@ use crate::number::FoundNumber;
 use crate::number::FoundNumbers;
 use crate::number::number_at;
 use crate::number::numbers_at;
+use descriptor::Descriptor;
 use elements::shapes::product;
 
-// The greatest number that can be written, and the greatest integer.
+// The greatest number that can be written.
 const NUMBER_LIMIT: u32 = 0x0FFF_FFFF;
 
-const INTEGER_LIMIT: u32 = 0x7F_FFFF;
+// The most elements that a load may have.
+const ELEMENT_LIMIT: usize = 16384;
 
 // A record and the place after it: of a load the lengths and the elements lie in two lent slices.
 pub enum Parsed {
@@ -98,10 +100,10 @@ fn elements_at(
     ensures { λ r. ⌜ Few r ⌝ }
 {
     let count = product(&lengths[..rank]) as usize;
-    if 16384 < count {
+    if ELEMENT_LIMIT < count {
         return Parsed::Malformed;
     }
-    let FoundNumbers::To(next) = numbers_at(file, place, INTEGER_LIMIT, count, ravel) else {
+    let FoundNumbers::To(next) = numbers_at(file, place, Descriptor::INTEGER_LIMIT, count, ravel) else {
         return Parsed::Malformed;
     };
     Parsed::Load {
