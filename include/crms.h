@@ -1,13 +1,14 @@
-/* The engine of the CRMS APL processor: four operations on a lent data segment and both procedure segments.
+/* The engine of the CRMS APL processor: five operations on a lent data segment and both procedure segments.
  *
  * The data segment is `n` words of 32 bits; the procedure segments are `nr` and `na` bytes, the most significant byte of a word
- * first. An unused procedure segment is the one word 0x00000001. A call that is refused changes nothing. Nothing is kept between
- * calls and nothing is allocated; bindings/README.md says how much of the stack a call takes. docs/FAULTS.md says what to do about
- * each number.
+ * first. An unused procedure segment is the one word 0x00000001. A call that is refused changes nothing; a replay that halts leaves
+ * what its earlier records did. Nothing is kept between calls and nothing is allocated; bindings/README.md says how much of the
+ * stack a call takes. docs/FAULTS.md says what to do about each number.
  *
  * What the caller sees to: a pointer is never null, is aligned for its type, and leads to as many elements as the length after it
- * says (where that is 0, to none); `data` overlaps no other part that the same call is lent, so what a look found in the segment is
- * copied before it is loaded; and nobody else writes these parts during the call. Calls on different segments may run at once. */
+ * says (where that is 0, to none), a tally to eight; `data` and a tally overlap no other part that the same call is lent, so what a
+ * look found in the segment is copied before it is loaded; and nobody else writes these parts during the call. Calls on different
+ * segments may run at once. */
 #ifndef CRMS_H
 #define CRMS_H
 
@@ -18,11 +19,11 @@
 extern "C" {
 #endif
 
-/* ---- status numbers: tests go in this order, save that 20 comes before 19 */
+/* ---- status numbers: tests go in this order, save that 20 comes before 19, and 25 before the others for its record */
 enum crms_status {
-    CRMS_DONE = 0,              /* lay out, load, look: done */
+    CRMS_DONE = 0,              /* lay out, load, look: done; replay: every record was done */
     CRMS_BUDGET = 2,            /* run: as many instructions as asked were done; with 0 asked, none */
-    CRMS_TRAP = 3,              /* run: a trap; word 3 of the data segment has its class (bits 15-8) and number (bits 7-0) */
+    CRMS_TRAP = 3,              /* run, replay: a trap; word 3 of the data segment has its class (bits 15-8) and number (bits 7-0) */
     CRMS_DATA_LENGTH = 10,      /* the data segment is not 32 to 16,384 words long */
     CRMS_PROCEDURE_LENGTH = 11, /* a procedure segment is not 4 to 32,768 bytes long, or not whole words */
     CRMS_PROCEDURE = 12,        /* a directory or a function's header is wrong */
@@ -37,7 +38,8 @@ enum crms_status {
     CRMS_NO_GLOBAL = 21,        /* load, look: the address is no global: below 8, or BLOCKPTR and above */
     CRMS_UNDEFINED = 22,        /* look: the global is undefined */
     CRMS_NO_VALUE = 23,         /* load: rank above 15, a length above 65,535, a count that is not the product, or a word no scalar */
-    CRMS_FULL = 24              /* load: no free block is 2 + rank + elements words long */
+    CRMS_FULL = 24,             /* load: no free block is 2 + rank + elements words long */
+    CRMS_MALFORMED = 25         /* replay: what stands at the place is no record */
 };
 
 /* ---- traps, as word 3 of the data segment has them: class * 256 + number. The instruction has not happened, save for the first
@@ -84,6 +86,19 @@ enum crms_trap {
     CRMS_TRAP_UNDEFINED = 0x0A00         /* an undefined variable is loaded, or a function is left while its result is undefined */
 };
 
+/* ---- the counts of a tally, by the family of an instruction's first byte */
+enum crms_family {
+    CRMS_FAMILY_SHORTLOCAL = 0, /* 00-3F */
+    CRMS_FAMILY_SHORTCONST = 1, /* 40-5F */
+    CRMS_FAMILY_GENSCALAR = 2,  /* 60-7F */
+    CRMS_FAMILY_MEMREF = 3,     /* 80-9F */
+    CRMS_FAMILY_ETC = 4,        /* A0-BF */
+    CRMS_FAMILY_LONGLOCAL = 5,  /* C0-CF */
+    CRMS_FAMILY_LONGGLOBAL = 6, /* D0-DF */
+    CRMS_FAMILY_INDEX = 7,      /* E0-EF */
+    CRMS_FAMILIES = 8           /* how many there are */
+};
+
 /* A fresh data segment, whose bottom frame runs function `function` of procedure segment `segment` (0 regular, 1 alternate), with
  * `globals` globals, which start at address 8, and `array_words` words of array storage. Gives the status. */
 uint32_t crms_lay_out(uint32_t *data, size_t n, const uint8_t *regular, size_t nr, const uint8_t *alternate, size_t na,
@@ -96,14 +111,27 @@ uint64_t crms_run(uint32_t *data, size_t n, const uint8_t *regular, size_t nr, c
 uint32_t crms_load(uint32_t *data, size_t n, const uint8_t *regular, size_t nr, const uint8_t *alternate, size_t na, uint32_t global,
                    const uint32_t *lengths, size_t rank, const uint32_t *elements, size_t count);
 
+/* The loads and runs of a file of imports, as if each were called by itself, up to the first trap or refusal. Gives status * 2^32 +
+ * the place, from 0, of the first byte of the record that halted it, where the status is not CRMS_DONE; a run that did as many
+ * instructions as asked goes on. Of a place the low 32 bits are told: all of it in a file of at most 2^32 bytes.
+ *
+ * A record is numbers in groups of seven bits, the low group first, a top bit meaning that another group follows; at most four
+ * groups, and the last of several is not 0. A load is 0, the global's address, the rank, the lengths, then the elements, each an
+ * integer up to 8,388,607; a run is 1 and its budget. A record with a rank above 15 or over 16,384 elements is none.
+ *
+ * The tally is zeroed; then each finished instruction counts in its family, enum crms_family. A count stays at 4,294,967,295. */
+uint64_t crms_replay(uint32_t *data, size_t n, const uint8_t *regular, size_t nr, const uint8_t *alternate, size_t na,
+                     const uint8_t *file, size_t nf, uint32_t tally[CRMS_FAMILIES]);
+
 /* What a global holds. Gives status * 2^32 + rank * 2^28 + first * 2^14 + count: `first` is the address in the data segment of the
  * first of `count` element words (a scalar: rank 0, the global's own address, count 1); the lengths are the `rank` words before it. */
 uint64_t crms_look(const uint32_t *data, size_t n, const uint8_t *regular, size_t nr, const uint8_t *alternate, size_t na,
                    uint32_t global);
 
-/* ---- the parts of what run and look give */
+/* ---- the parts of what run, replay and look give */
 static inline uint32_t crms_status_of(uint64_t answer) { return (uint32_t)(answer >> 32); }
 static inline uint32_t crms_steps_of(uint64_t answer) { return (uint32_t)(answer & 0xFFFFFFFFu); }
+static inline uint32_t crms_place_of(uint64_t answer) { return (uint32_t)(answer & 0xFFFFFFFFu); }
 static inline uint32_t crms_rank_of(uint64_t answer) { return (uint32_t)((answer >> 28) & 15); }
 static inline uint32_t crms_first_of(uint64_t answer) { return (uint32_t)((answer >> 14) & 16383); }
 static inline uint32_t crms_count_of(uint64_t answer) { return (uint32_t)(answer & 16383); }

@@ -1,4 +1,5 @@
-/* A par list is loaded and copied, the copy is written, and both are looked at: the list is as it was. */
+/* A par list is loaded and copied, the copy is written, and both are looked at: the list is as it was. Then the same by a file of
+ * imports. */
 #include <inttypes.h>
 #include <stdio.h>
 #include <stdlib.h>
@@ -22,6 +23,14 @@ static const uint8_t functions[] = {
 
 /* The alternate procedure segment has no functions. */
 static const uint8_t unused[] = {0x00, 0x00, 0x00, 0x01};
+
+/* A file of imports, as a depot stores it. */
+static const uint8_t imports[] = {
+    0, 8, 1, 3, 10, 20, 30,       /* at 0: load a vector of 3 elements into global 8 */
+    1, 6,                         /* at 7: run 6 instructions */
+    0, 8, 1, 2, 0xAC, 0x02, 5,    /* at 9: load 300 and 5 into global 8; 300 is 0x2C + 2 * 128 */
+    1, 1                          /* at 16: run 1 instruction */
+};
 
 /* A data segment: 8 state words, 2 globals, 24 array words, and the stack in what is left. */
 #define WORDS 64
@@ -71,6 +80,27 @@ static void run(const char *what, uint32_t *data, uint32_t budget)
     print_list("copy", data, COPY);
 }
 
+static void lay_out(uint32_t *data)
+{
+    expect("lay out", crms_lay_out(data, WORDS, PROCEDURES, 0, 1, 2, 24), CRMS_DONE);
+}
+
+/* So many bytes of the file, on a fresh segment; then both lists, and what was counted. */
+static void replay(uint32_t *data, size_t bytes, uint32_t expected)
+{
+    uint32_t tally[CRMS_FAMILIES];
+    uint64_t halted;
+
+    lay_out(data);
+    halted = crms_replay(data, WORDS, PROCEDURES, imports, bytes, tally);
+    expect("replay", crms_status_of(halted), expected);
+    printf("replayed up to %" PRIu32 ", status %" PRIu32 "\n", crms_place_of(halted), expected);
+    print_list("list", data, LIST);
+    print_list("copy", data, COPY);
+    printf("  SHORTCONST %" PRIu32 ", MEMREF %" PRIu32 ", ETC %" PRIu32 ", LONGGLOBAL %" PRIu32 "\n", tally[CRMS_FAMILY_SHORTCONST],
+           tally[CRMS_FAMILY_MEMREF], tally[CRMS_FAMILY_ETC], tally[CRMS_FAMILY_LONGGLOBAL]);
+}
+
 int main(void)
 {
     uint32_t data[WORDS];
@@ -78,7 +108,7 @@ int main(void)
     const uint32_t par[] = {10, 20, 30};
     uint64_t end;
 
-    expect("lay out", crms_lay_out(data, WORDS, PROCEDURES, 0, 1, 2, 24), CRMS_DONE);
+    lay_out(data);
     expect("load", crms_load(data, WORDS, PROCEDURES, LIST, lengths, 1, par, 3), CRMS_DONE);
     printf("loaded\n");
     print_list("list", data, LIST);
@@ -89,5 +119,8 @@ int main(void)
     end = crms_run(data, WORDS, PROCEDURES, 1);
     expect("run", crms_status_of(end), CRMS_TRAP);
     printf("ended by trap (%" PRIu32 ",%" PRIu32 ")\n", crms_trap_class(data), crms_trap_number(data));
+
+    replay(data, 12, CRMS_MALFORMED);
+    replay(data, sizeof imports, CRMS_TRAP);
     return data[3] == CRMS_TRAP_BOTTOM ? EXIT_SUCCESS : EXIT_FAILURE;
 }

@@ -2,8 +2,8 @@
 use std::error::Error;
 use std::fmt::{Display, Formatter, Result as Written};
 
-/// Why a call was refused, by the number of the test that failed. Nothing was changed. `Display` tells the number and what it means;
-/// docs/FAULTS.md says what to do.
+/// Why a call, or a record of a replay, was refused, by the number of the test that failed. It changed nothing. `Display` tells the
+/// number and what it means; docs/FAULTS.md says what to do.
 #[derive(Clone, Copy, Debug, PartialEq, Eq, Hash)]
 pub enum Refusal {
     /// The length of the data segment.
@@ -36,11 +36,13 @@ pub enum Refusal {
     NoValue = 23,
     /// Load: no room in array storage.
     Full = 24,
+    /// Replay: no record.
+    Malformed = 25,
 }
 
 impl Refusal {
     /// All refusals, by their numbers.
-    pub const ALL: [Refusal; 15] = [
+    pub const ALL: [Refusal; 16] = [
         Refusal::DataLength,
         Refusal::ProcedureLength,
         Refusal::Procedure,
@@ -56,6 +58,7 @@ impl Refusal {
         Refusal::Undefined,
         Refusal::NoValue,
         Refusal::Full,
+        Refusal::Malformed,
     ];
 
     /// The refusal of a number.
@@ -107,6 +110,10 @@ impl Refusal {
                  no scalar. Rank 0 is one scalar."
             }
             Refusal::Full => "No free block is 2 + rank + elements words long.",
+            Refusal::Malformed => {
+                "What stands at the place is no record: a bad or cut number, a kind that is neither 0 nor 1, a rank above 15, over \
+                 16,384 elements, an element above 8,388,607, or the file ends inside the record."
+            }
         }
     }
 }

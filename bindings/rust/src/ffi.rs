@@ -1,5 +1,7 @@
 //! The exported functions, as include/crms.h declares them. Nothing checks these lines against the library: keep them alike.
 
+use crate::Tally;
+
 extern "C" {
     pub fn crms_lay_out(
         data: *mut u32,
@@ -29,6 +31,18 @@ extern "C" {
         elements: *const u32,
         count: usize,
     ) -> u32;
+
+    pub fn crms_replay(
+        data: *mut u32,
+        n: usize,
+        regular: *const u8,
+        nr: usize,
+        alternate: *const u8,
+        na: usize,
+        file: *const u8,
+        nf: usize,
+        tally: *mut Tally,
+    ) -> u64;
 
     pub fn crms_look(
         data: *const u32,

@@ -1,15 +1,15 @@
-//! The engine of the CRMS APL processor: four operations on a lent data segment and both procedure segments.
+//! The engine of the CRMS APL processor: five operations on a lent data segment and both procedure segments.
 //!
 //! [`lay_out`] makes a fresh data segment, [`run`] does at most a given number of instructions, [`load`] puts a value into a
-//! global and [`look`] hands it back. A data segment is any `&mut [u32]` of 32 to 16,384 words. A call that is refused says why
-//! ([`Refusal`]) and changes nothing; a run that meets a trap says which ([`Trap`]). Nothing is kept between calls and nothing is
-//! allocated.
+//! global, [`replay`] does the loads and runs of a file of imports, and [`look`] hands a global's value back. A data segment is any
+//! `&mut [u32]` of 32 to 16,384 words. A call that is refused says why ([`Refusal`]) and changes nothing; a run that meets a trap
+//! says which ([`Trap`]). Nothing is kept between calls and nothing is allocated.
 //!
 //! The library under this crate is proved: what each operation answers, and each word that it leaves, is what its definition says.
 //! This crate only lends it slices and takes its numbers apart.
 //!
 //! ```
-//! use crms::{lay_out, load, look, run, Layout, ProcedureSegment, Procedures, Ran, Trap, Value};
+//! use crms::{lay_out, load, look, replay, run, Layout, ProcedureSegment, Procedures, Ran, Replayed, Tally, Trap, Value};
 //!
 //! // Function 1 assigns global 8 to global 9, and then 0 to the element of global 9 at place 2.
 //! let functions = [
@@ -36,6 +36,13 @@
 //! // RETURN in the bottom frame is how the function ends.
 //! let ended = Trap { class: 3, number: 13 };
 //! assert_eq!(run(&mut data, procedures, 1)?, Ran::Trapped { steps: 0, trap: ended });
+//!
+//! // The same load and run, and one step too many, out of a file: the record at byte 9 halts it.
+//! let file = [0, 8, 1, 3, 10, 20, 30, 1, 6, 1, 1];
+//! let mut tally = Tally::default();
+//! lay_out(&mut data, procedures, layout)?;
+//! assert_eq!(replay(&mut data, procedures, &file, &mut tally), Replayed::Trapped { place: 9, trap: ended });
+//! assert_eq!(tally, Tally { short_const: 2, mem_ref: 2, etc: 1, long_global: 1, ..Tally::default() });
 //! # Ok::<(), crms::Refusal>(())
 //! ```
 
@@ -102,6 +109,50 @@ pub enum Ran {
         /// The trap, which word 3 of the data segment has too.
         trap: Trap,
     },
+}
+
+/// What a replay did. A place is that of the first byte of the record that halted it, from 0: its low 32 bits, which are all of it
+/// in a file of at most 2^32 bytes. What the records before it did stands.
+#[derive(Clone, Copy, Debug, PartialEq, Eq)]
+pub enum Replayed {
+    /// Every record was done.
+    Done,
+    /// The run of a record met a trap.
+    Trapped {
+        /// Where the record begins.
+        place: u32,
+        /// The trap, which word 3 of the data segment has too.
+        trap: Trap,
+    },
+    /// The load or run of a record was refused, or it is no record ([`Refusal::Malformed`]). The record changed nothing.
+    Refused {
+        /// Where the record begins.
+        place: u32,
+        /// Why.
+        refusal: Refusal,
+    },
+}
+
+/// Finished instructions by the family of their first byte. A count stays at [`u32::MAX`] once it is there.
+#[derive(Clone, Copy, Debug, Default, PartialEq, Eq)]
+#[repr(C)]
+pub struct Tally {
+    /// SHORTLOCAL, 00 to 3F.
+    pub short_local: u32,
+    /// SHORTCONST, 40 to 5F.
+    pub short_const: u32,
+    /// GENSCALAR, 60 to 7F.
+    pub gen_scalar: u32,
+    /// MEMREF, 80 to 9F.
+    pub mem_ref: u32,
+    /// ETC, A0 to BF.
+    pub etc: u32,
+    /// LONGLOCAL, C0 to CF.
+    pub long_local: u32,
+    /// LONGGLOBAL, D0 to DF.
+    pub long_global: u32,
+    /// INDEX, E0 to EF.
+    pub index: u32,
 }
 
 /// What a global holds. The slices are parts of the data segment; their words are scalars ([`Scalar::from_word`]).
@@ -180,6 +231,32 @@ pub fn load(data: &mut [u32], procedures: Procedures<'_>, global: u32, lengths: 
         )
     };
     done(status)
+}
+
+/// Does the loads and runs of a file of imports, as if each were called by itself, up to the first trap or refusal; include/crms.h
+/// says how a file is written. The tally is zeroed first, whatever the file holds.
+pub fn replay(data: &mut [u32], procedures: Procedures<'_>, file: &[u8], tally: &mut Tally) -> Replayed {
+    let Procedures { regular, alternate } = procedures;
+    // SAFETY: as in `lay_out`, and `tally` is borrowed alone: eight counts in the order of their families.
+    let answer = unsafe {
+        ffi::crms_replay(
+            data.as_mut_ptr(),
+            data.len(),
+            regular.as_ptr(),
+            regular.len(),
+            alternate.as_ptr(),
+            alternate.len(),
+            file.as_ptr(),
+            file.len(),
+            tally,
+        )
+    };
+    let place = (answer & 0xFFFF_FFFF) as u32;
+    match (answer >> 32) as u32 {
+        0 => Replayed::Done,
+        3 => Replayed::Trapped { place, trap: Trap::from_word(data[3]) },
+        number => Replayed::Refused { place, refusal: refused(number) },
+    }
 }
 
 /// What the global at address `global` holds.

@@ -1,4 +1,4 @@
-// What the tool holds besides its buffers: how much of each is in use, and what was answered last.
+// What the tool holds besides its buffers: how much of each is in use, what was answered last, and what the last replay counted.
 ghost use Prim.Native.Nat.{_≤_};
 use line_tool::explain::Last;
 
@@ -9,7 +9,9 @@ pub struct Session {
     pub words: usize,
     pub regular: usize,
     pub alternate: usize,
+    pub file: usize,
     pub last: Last,
+    pub counts: [u32; 8],
 }
 
 impl Session {
@@ -20,7 +22,9 @@ impl Session {
             words: 0,
             regular: 0,
             alternate: 0,
+            file: 0,
             last: Last::Nothing,
+            counts: [0u32; 8],
         }
     }
 
@@ -45,16 +49,39 @@ impl Session {
         self
     }
 
+    pub fn with_file(mut self, n: usize) -> Session {
+        self.file = n;
+        self
+    }
+
     pub fn with_last(self, last: Last) -> Session {
+        let counts = self.counts;
+        self.with_replayed(last, counts)
+    }
+
+    pub fn with_replayed(self, last: Last, counts: [u32; 8]) -> Session {
         Session {
             held: self.held,
             long: self.long,
             words: self.words,
             regular: self.regular,
             alternate: self.alternate,
+            file: self.file,
             last,
+            counts,
         }
     }
+}
+
+// Where each part begins of the bytes that the operations are lent.
+pub const REGULAR: usize = 0;
+pub const ALTERNATE: usize = 40000;
+pub const FILE: usize = 80000;
+
+// So many bytes of a part.
+pub fn part(bytes: &[u8], start: usize, n: usize) -> &[u8] {
+    let from = least(start, bytes.len());
+    first_bytes(&bytes[from..], n)
 }
 
 // The part of a buffer that is in use.

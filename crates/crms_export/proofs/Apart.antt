@@ -1,5 +1,5 @@
--- The numbers of runs and looks come apart again: steps are below 2 to the 32, and an array of an accepted segment lies below
--- 16,384.
+-- The numbers of runs, replays and looks come apart again: steps and places are below 2 to the 32, and an array of an accepted
+-- segment lies below 16,384.
 use Prim.Native.Nat.{ℕ, zero, suc, _+_, _-_, _^_, _≤_, _<_}
 use native.Mathlib.Omega.{arith}
 use mathlib.Core.Path.{_≡_, refl, sym, ap, _∙_}
@@ -33,13 +33,16 @@ use Rattle.effects.specs.Step.{stepOf}
 use Rattle.effects.specs.Run.{RunResult, following, stepsFrom, runOf}
 use Rattle.operations.specs.declared.Looked.the-variants.{Scalar, Array, Refused}
 use Rattle.operations.specs.declared.Run.{Run}
-use Rattle.operations.specs.Answers.{stepsOf}
+use Rattle.operations.specs.declared.Replayed.{Replayed}
+use Rattle.operations.specs.Answers.{stepsOf, replayPlace}
 use Rattle.operations.specs.Load.{isGlobal}
 use Rattle.operations.specs.Look.{seenAs, looked}
+use Rattle.operations.specs.Replay.{replayed}
 use Rattle.operations.specs.Run as operations
 use Rattle.crms_export.specs.Numbers.{fields, lookNumber}
-use Rattle.crms_export.specs.Apart.{statusIn, rankIn, firstIn, countIn, RunApart, LookApart, Apart}
+use Rattle.crms_export.specs.Apart.{statusIn, rankIn, firstIn, countIn, RunApart, ReplayApart, LookApart, Apart}
 use Rattle.crms_export.proofs.Numbers.{part-length}
+use Rattle.crms_export.proofs.Replays.{place-inside}
 
 -- ---- runs
 
@@ -71,6 +74,14 @@ module _ (s regular alternate : List ℕ) (budget : ℕ) where
 
   runs : budget < 2 ^ 32 → RunApart (operations.ran s regular alternate budget .answer)
   runs l = run-apart _ (omega (arith, ran-most (eqb (refusal s regular alternate) 0) refl))
+
+-- ---- replays
+
+replay-apart : (answer : Replayed) → replayPlace answer < 2 ^ 32 → ReplayApart answer
+replay-apart answer l = record { status = omega arith; place = omega arith }
+
+replays : (s regular alternate file : List ℕ) → length file ≤ 2 ^ 32 → ReplayApart (replayed s regular alternate file .answer)
+replays s regular alternate file l = replay-apart _ (place-inside s regular alternate file l)
 
 -- ---- the numbers of looks
 
@@ -193,4 +204,4 @@ module _ (s regular alternate : List ℕ) (g : ℕ) where
       (λ h. rw (ne-eqb _ _ h) (refused-apart s g (refusal s regular alternate)))
 
 pub apart-theorem : Apart
-apart-theorem = record { runs = runs; looks = looks }
+apart-theorem = record { runs = runs; replays = replays; looks = looks }

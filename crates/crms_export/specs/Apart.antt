@@ -1,4 +1,4 @@
--- The numbers of runs and looks come apart again as include/crms.h does it: no part runs into the next, and the words that the
+-- The numbers of runs, replays and looks come apart again as include/crms.h does it: no part runs into the next, and the words that the
 -- number of a look leads to are those of the value seen. A reader must believe: the parts named here are the header's.
 -- proofs/Apart.antt proves it. Assumes nothing.
 use Prim.Native.Nat.{ℕ, _+_, _-_, _/_, _%_, _^_, _≤_, _<_}
@@ -7,19 +7,24 @@ use mathlib.Core.List.{List, [], _∷_}
 use lib.ListN.{length}
 use Rattle.segment.specs.Blocks.{part, shapeAt, elementsAt}
 use Rattle.operations.specs.declared.Run.{Run}
+use Rattle.operations.specs.declared.Replayed.{Replayed}
 use Rattle.operations.specs.declared.Looked.{Looked}
 use Rattle.operations.specs.declared.Looked.the-variants.{Scalar, Array, Refused}
-use Rattle.operations.specs.Answers.{runStatus, stepsOf, lookStatus}
+use Rattle.operations.specs.Answers.{runStatus, stepsOf, replayStatus, replayPlace, lookStatus}
+use Rattle.operations.specs.Replay.{replayed}
 use Rattle.operations.specs.Run.{ran}
 use Rattle.operations.specs.Look.{looked}
-use Rattle.crms_export.specs.Numbers.{runNumber, lookNumber}
+use Rattle.crms_export.specs.Numbers.{runNumber, replayNumber, lookNumber}
 
--- `crms_status_of`, `crms_steps_of`, `crms_rank_of`, `crms_first_of`, `crms_count_of`.
+-- `crms_status_of`, `crms_steps_of`, `crms_place_of`, `crms_rank_of`, `crms_first_of`, `crms_count_of`.
 abbrev pub statusIn : ℕ → ℕ
 statusIn n = n / 2 ^ 32
 
 abbrev pub stepsIn : ℕ → ℕ
 stepsIn n = n % 2 ^ 32
+
+abbrev pub placeIn : ℕ → ℕ
+placeIn n = n % 2 ^ 32
 
 abbrev pub rankIn : ℕ → ℕ
 rankIn n = n / 2 ^ 28 % 2 ^ 4
@@ -33,6 +38,10 @@ countIn n = n % 2 ^ 14
 pub record RunApart (answer : Run) : Type 0 where
   pub status : statusIn (runNumber answer) ≡ runStatus answer
   pub steps : stepsIn (runNumber answer) ≡ stepsOf answer
+
+pub record ReplayApart (answer : Replayed) : Type 0 where
+  pub status : statusIn (replayNumber answer) ≡ replayStatus answer
+  pub place : placeIn (replayNumber answer) ≡ replayPlace answer
 
 -- The elements from `first` up, and the lengths just below it.
 abbrev pub elementsIn : List ℕ → ℕ → List ℕ
@@ -54,7 +63,8 @@ pub record LookApart (s : List ℕ) (g : ℕ) (answer : Looked) : Type 0 where
   pub high : firstIn (lookNumber s g answer) + countIn (lookNumber s g answer) ≤ length s
   pub leads : Leads s (lookNumber s g answer) answer
 
--- Of any words and any global. A budget has 32 bits.
+-- Of any words, any file up to 2^32 bytes and any global. A budget has 32 bits.
 pub record Apart : Type 0 where
   pub runs : (s regular alternate : List ℕ) (budget : ℕ) → budget < 2 ^ 32 → RunApart (ran s regular alternate budget .answer)
+  pub replays : (s regular alternate file : List ℕ) → length file ≤ 2 ^ 32 → ReplayApart (replayed s regular alternate file .answer)
   pub looks : (s regular alternate : List ℕ) (g : ℕ) → LookApart s g (looked s regular alternate g)

@@ -1,5 +1,5 @@
--- Numbers of looks at the segment of example M2: the vector 0 1 2 3 4 in the block at 25. Nothing rests on this file. Assumes
--- nothing.
+-- Numbers of runs, of replays, and of looks at the segment of example M2: the vector 0 1 2 3 4 in the block at 25. Nothing rests
+-- on this file. Assumes nothing.
 use Prim.Native.Nat.{ℕ, _+_, _*_, _^_}
 use mathlib.Core.Path.{_≡_, refl}
 use mathlib.Core.List.{List, [], _∷_}
@@ -12,8 +12,9 @@ use Rattle.storage.specs.Arrays.{fill, placeAt, place}
 use Rattle.segment.specs.State.{setRover}
 use Rattle.storage.specs.Examples.{fresh}
 use Rattle.operations.specs.declared.Run.the-variants as run
+use Rattle.operations.specs.declared.Replayed.the-variants as replay
 use Rattle.operations.specs.declared.Looked.the-variants.{Scalar, Array, Refused}
-use Rattle.crms_export.specs.Numbers.{runNumber, lookNumber}
+use Rattle.crms_export.specs.Numbers.{runNumber, replayNumber, lookNumber}
 
 abbrev held : List ℕ
 held = set (place fresh (5 ∷ []) (0 ∷ 1 ∷ 2 ∷ 3 ∷ 4 ∷ [])) 8 0x0200_0019
@@ -28,3 +29,6 @@ others = (refl, refl)
 
 pub runs : (runNumber (run.Done 5) ≡ 0x2_0000_0005) × (runNumber (run.Trapped 4) ≡ 0x3_0000_0004) × (runNumber (run.Refused 16) ≡ 0x10_0000_0000)
 runs = (refl, refl, refl)
+
+pub replays : (replayNumber replay.Done ≡ 0) × (replayNumber (replay.Halted 3 12) ≡ 0x3_0000_000C) × (replayNumber (replay.Malformed 14) ≡ 0x19_0000_000E)
+replays = (refl, refl, refl)

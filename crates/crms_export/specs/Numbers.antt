@@ -1,17 +1,22 @@
--- What a run and a look answer as one number, for callers from C and Rust; include/crms.h takes it apart. Statuses are document
--- 01's numbers. A reader must believe: which bits of the number stand for what. Assumes nothing.
-use Prim.Native.Nat.{ℕ, _+_, _*_, _^_}
+-- What a run, a replay and a look answer as one number, for callers from C and Rust; include/crms.h takes it apart. Statuses are
+-- document 01's numbers. A reader must believe: which bits of the number stand for what. Assumes nothing.
+use Prim.Native.Nat.{ℕ, _+_, _*_, _%_, _^_}
 use mathlib.Core.List.{List}
 use lib.ListN.{length}
 use Rattle.segment.specs.Parts.{shapePart, elementsPart}
 use Rattle.operations.specs.declared.Run.{Run}
 use Rattle.operations.specs.declared.Looked.{Looked}
 use Rattle.operations.specs.declared.Looked.the-variants.{Scalar, Array, Refused}
-use Rattle.operations.specs.Answers.{runStatus, stepsOf}
+use Rattle.operations.specs.declared.Replayed.{Replayed}
+use Rattle.operations.specs.Answers.{runStatus, stepsOf, replayStatus, replayPlace}
 
 -- The status from bit 32, the instructions that finished below it.
 abbrev pub runNumber : Run → ℕ
 runNumber answer = runStatus answer * 2 ^ 32 + stepsOf answer
+
+-- The status from bit 32, the low 32 bits of the place below it: all of it in a file of at most 2^32 bytes.
+abbrev pub replayNumber : Replayed → ℕ
+replayNumber answer = replayStatus answer * 2 ^ 32 + replayPlace answer % 2 ^ 32
 
 -- The status from bit 32, the rank in bits 31–28, the address of the first element word in bits 27–14, how many there are in
 -- bits 13–0.

@@ -1,15 +1,16 @@
-// The four operations for callers from C and Rust: include/crms.h says what each number means.
+// The operations for callers from C and Rust: include/crms.h says what each number means.
 ghost use mathlib.Core.Path.{_≡_};
-ghost use Prim.Native.Nat.{_<_, _^_};
+ghost use Prim.Native.Nat.{_<_, _%_, _^_};
 ghost use lib.ListN.{length};
 ghost use Rattle.segment.specs.Parts.{shapePart, elementsPart};
 ghost use Rattle.fresh_segment.specs.LayOut as layout;
 ghost use Rattle.operations.specs.Answers.{statusOf};
 ghost use Rattle.operations.specs.Load as loading;
 ghost use Rattle.operations.specs.Look.{looked};
+ghost use Rattle.operations.specs.Replay.{replayed};
 ghost use Rattle.operations.specs.Run.{ran};
 ghost use Rattle.operations.specs.declared.Looked.the-variants as seen;
-ghost use Rattle.crms_export.specs.Numbers.{runNumber, lookNumber};
+ghost use Rattle.crms_export.specs.Numbers.{runNumber, replayNumber, lookNumber};
 use descriptor::address::SegmentAddress;
 use engine::lay_out::lay_out;
 use engine::load::load;
@@ -19,7 +20,9 @@ use engine::look::look;
 use engine::run::run;
 use operations::Answer;
 use operations::Looked;
+use operations::Replayed;
 use operations::Run;
+use replay::replay_into;
 
 #[no_mangle]
 pub extern "C" fn crms_lay_out(
@@ -53,6 +56,22 @@ pub extern "C" fn crms_run(seg: &mut [u32], regular: &[u8], alternate: &[u8], bu
     ensures { λ _. ⌜ now (seg .exit) ≡ ran (now (seg .entry)) (now (regular .entry)) (now (alternate .entry)) budget .words ⌝ }
 {
     run_number(run(seg, regular, alternate, budget))
+}
+
+// The tally has eight counts, so C is told no length of it.
+#[no_mangle]
+pub extern "C" fn crms_replay(
+    seg: &mut [u32],
+    regular: &[u8],
+    alternate: &[u8],
+    file: &[u8],
+    tally: &mut [u32; 8],
+) -> u64
+    ensures { λ r. ⌜ r ≡ replayNumber (replayed (now (seg .entry)) (now (regular .entry)) (now (alternate .entry)) (now (file .entry)) .answer) ⌝ }
+    ensures { λ _. ⌜ now (seg .exit) ≡ replayed (now (seg .entry)) (now (regular .entry)) (now (alternate .entry)) (now (file .entry)) .words ⌝ }
+    ensures { λ _. ⌜ now (tally .exit) ≡ replayed (now (seg .entry)) (now (regular .entry)) (now (alternate .entry)) (now (file .entry)) .counts ⌝ }
+{
+    replay_number(replay_into(seg, regular, alternate, file, tally))
 }
 
 #[no_mangle]
@@ -100,6 +119,22 @@ fn run_number(answer: Run) -> u64
         Run::Trapped(steps) => 3 * 0x1_0000_0000 + steps as u64,
         Run::Refused(number) => number as u64 * 0x1_0000_0000,
     }
+}
+
+fn replay_number(answer: Replayed) -> u64
+    ensures { λ r. ⌜ r ≡ replayNumber answer ⌝ }
+{
+    match answer {
+        Replayed::Done => 0,
+        Replayed::Halted(number, place) => number as u64 * 0x1_0000_0000 + low_half(place),
+        Replayed::Malformed(place) => 25 * 0x1_0000_0000 + low_half(place),
+    }
+}
+
+fn low_half(place: usize) -> u64
+    ensures { λ r. ⌜ r ≡ place % 2 ^ 32 ⌝ }
+{
+    (place % 0x1_0000_0000) as u64
 }
 
 fn array_number(seg: &[u32], block: SegmentAddress) -> u64

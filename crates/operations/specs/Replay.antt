@@ -1,6 +1,6 @@
 -- Replay: the loads and runs of a file of imports, one after the other. Document 02, paper 1: "Replay gives what the same loads and
 -- runs give one by one, and halts at the first trap or refusal with the number returned for it (3 for a trap); 0 says that every
--- record was done"; 25 for what is no record, "the earlier records stand"; the tally "is zeroed first". Decision 82. Assumes
+-- record was done"; 25 for what is no record, "the earlier records stand"; the tally "is zeroed first". Decision 83. Assumes
 -- nothing.
 use Prim.Native.Nat.{ℕ}
 use mathlib.Core.Bool.{cond}
@@ -37,15 +37,15 @@ pub record Replay : Type 0 where
 abbrev pub replay : Replayed → List ℕ → List ℕ → Replay
 replay answer s counts = record { answer = answer; words = s; counts = counts }
 
--- A run that is not done to its end halts it.
-abbrev pub afterRun : ℕ → Run → List ℕ → List ℕ → Replay → Replay
-afterRun place (R.Done steps) s counts rest = rest
-afterRun place (R.Trapped steps) s counts rest = replay (Halted 3 place) s counts
-afterRun place (R.Refused number) s counts rest = replay (Halted number place) s counts
+-- "the number returned for it (3 for a trap)"; 0 where the run was done to its end.
+abbrev pub runHalt : Run → ℕ
+runHalt (R.Done steps) = 0
+runHalt (R.Trapped steps) = 3
+runHalt (R.Refused number) = number
 
--- A load that is refused does.
-abbrev pub afterLoad : ℕ → ℕ → List ℕ → List ℕ → Replay → Replay
-afterLoad place number s counts rest = cond (eqb number 0) rest (replay (Halted number place) s counts)
+-- A record that returned a number halts the replay; else it goes on.
+abbrev pub afterRecord : ℕ → ℕ → List ℕ → List ℕ → Replay → Replay
+afterRecord place number s counts rest = cond (eqb number 0) rest (replay (Halted number place) s counts)
 
 unfoldable pub replayFrom : List ℕ → List ℕ → Records → List ℕ → List ℕ → Replay
 replayFrom regular alternate ends s counts = replay Done s counts
@@ -53,12 +53,12 @@ replayFrom regular alternate (malformed place) s counts = replay (Malformed plac
 replayFrom regular alternate (entry place (file.load g lengths ravel) rest) s counts =
     let t = loaded s regular alternate g lengths ravel in
     let more = replayFrom regular alternate rest t counts in
-    afterLoad place (loadRefusal s regular alternate g lengths ravel) t counts more
+    afterRecord place (loadRefusal s regular alternate g lengths ravel) t counts more
 replayFrom regular alternate (entry place (file.run budget) rest) s counts =
     let e = ran s regular alternate budget in
     let after = tallied s regular alternate budget counts in
     let more = replayFrom regular alternate rest (e .words) after in
-    afterRun place (e .answer) (e .words) after more
+    afterRecord place (runHalt (e .answer)) (e .words) after more
 
 unfoldable pub replayed : List ℕ → List ℕ → List ℕ → List ℕ → Replay
 replayed s regular alternate bytes = replayFrom regular alternate (recordsOf bytes) s noneCounted

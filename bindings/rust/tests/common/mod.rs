@@ -1,6 +1,6 @@
 //! Procedure segments of a few instructions, and a data segment that is laid out for them.
 #![allow(dead_code)] // each test file uses a part of it
-use crms::{Layout, ProcedureSegment, Procedures, Ran, Refusal, Trap, Value};
+use crms::{Layout, ProcedureSegment, Procedures, Ran, Refusal, Replayed, Tally, Trap, Value};
 
 pub const SUM: u8 = 0x68;
 pub const QUOTIENT: u8 = 0x6B;
@@ -70,6 +70,13 @@ impl Fixture {
         crms::load(&mut self.data, Procedures::regular_only(&self.regular), global, lengths, elements)
     }
 
+    /// A replay, and what it counts.
+    pub fn replay(&mut self, file: &[u8]) -> (Replayed, Tally) {
+        let mut tally = Tally { index: 7, ..Tally::default() };
+        let answer = crms::replay(&mut self.data, Procedures::regular_only(&self.regular), file, &mut tally);
+        (answer, tally)
+    }
+
     pub fn look(&self, global: u32) -> Result<Value<'_>, Refusal> {
         crms::look(&self.data, Procedures::regular_only(&self.regular), global)
     }
@@ -85,4 +92,24 @@ pub fn done(steps: u32) -> Result<Ran, Refusal> {
 
 pub fn trapped(steps: u32, class: u8, number: u8) -> Result<Ran, Refusal> {
     Ok(Ran::Trapped { steps, trap: Trap { class, number } })
+}
+
+/// A number of a file of imports, in groups of seven bits.
+pub fn number(n: u32) -> Vec<u8> {
+    let (low, high) = ((n & 0x7F) as u8, n >> 7);
+    if high == 0 {
+        return vec![low];
+    }
+    [vec![low | 0x80], number(high)].concat()
+}
+
+/// A record of kind 0.
+pub fn load_record(global: u32, lengths: &[u32], elements: &[u32]) -> Vec<u8> {
+    let numbers = [&[0, global, lengths.len() as u32], lengths, elements].concat();
+    numbers.into_iter().flat_map(number).collect()
+}
+
+/// A record of kind 1.
+pub fn run_record(budget: u32) -> Vec<u8> {
+    [vec![1], number(budget)].concat()
 }

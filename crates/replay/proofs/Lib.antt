@@ -1,0 +1,3 @@
+-- Replays: what is done record by record, and what is counted.
+mod Replaying
+mod Counting
