@@ -7,7 +7,7 @@ use mir.Val.{Val}
 use base.Logic.{SProp, ent, sep, emp, via, comm∗, monoL, emp∗, id⊢}
 use prog.Wp.{Heap, Env, Calls, Loops}
 use ghost.Atoms.{Atoms}
-use contract.Monad.{fact, factI, fact-use}
+use contract.Monad.{fact, factI}
 use sound.WpLaws.{FmC}
 use types.Kit.{Given, Item, ‵, raw, _⊛_, some, later, prop, Post, runs, lands, Seq, Step, step, _$_, drop, use0, use1, use2, split, join, move, pick, await}
 use types.Run.{Opds}
