@@ -1,5 +1,5 @@
 -- The laws of counts: what counting an instruction leaves, and the struct beside its eight counts. Assumes nothing.
-use Prim.Native.Nat.{ℕ, zero, suc, _+_, _-_, _/_, _<_, _≤_}
+use Prim.Native.Nat.{ℕ, zero, suc, _+_, _-_, _/_, _^_, _<_, _≤_}
 use native.Mathlib.Omega.{arith}
 use mathlib.Core.Path.{_≡_, refl, sym, ap, _∙_}
 use mathlib.Core.Bool.{Bool, true, false, cond}
@@ -7,12 +7,17 @@ use mathlib.Core.List.{List, [], _∷_}
 use lib.Dec.{ltb, leb}
 use lib.ListN.{getD, set, length, length-set}
 use lib.Seq.{set-out, take-all}
+use mir.Val.{Val}
+use denote.Laws.{Is}
+use denote.Struct.Laws.{owed}
 use borrow.Author.Tests.{ltb-true, ltb-false, leb-true, lt-ltb, le-ltb, le-leb, lt-leb}
 use Rattle.instruction.specs.Families.{familyOf}
 use Rattle.instruction.proofs.Ranges.{is-short-local, is-short-const, is-gen-scalar, is-mem-ref, is-etc, is-long-local, is-long-global, is-index, is-unassigned}
 use Rattle.segment.proofs.Parts.{part-take}
 use Rattle.tally.specs.declared.Tally.{Tally}
 use Rattle.tally.specs.Counts.{countLimit, placeOf, noneCounted, countUp, counted, countsOf, tallyOf, plus, added}
+use Rattle.tally.proofs.Tally as T
+use Rattle.tally.proofs.Tally.Laws as T′
 
 -- No count is above the limit.
 abbrev pub Within : List ℕ → Type 0
@@ -127,3 +132,26 @@ none-added t within = λ j. record {
 
 pub counts-tally : (l : List ℕ) → length l ≡ 8 → countsOf (tallyOf l) ≡ l
 counts-tally l eight = part-take 8 l 0 (omega arith) ∙ take-all 8 l (omega arith)
+
+-- ---- a tally in code
+
+abbrev Words : List ℕ → Type 0
+Words [] = Unit {0}
+Words (n ∷ counts) = (n < 2 ^ 32) × Words counts
+
+words-within : (counts : List ℕ) → Words counts → Within counts
+words-within [] h i = omega arith
+words-within (n ∷ counts) h zero = let below = h .0 in omega arith
+words-within (n ∷ counts) h (suc i) = words-within counts (h .1) i
+
+-- its counts are words
+pub tally-within : (t : Tally) (vs : List Val) → Is T.the-row t vs → Within (countsOf t)
+tally-within t vs is =
+    let f = owed T.the-type T′.the-laws t vs is in
+    words-within (countsOf t)
+    (f .0 .1, (f .1 .0 .1, (f .1 .1 .0 .1, (f .1 .1 .1 .0 .1, (f .1 .1 .1 .1 .0 .1, (f .1 .1 .1 .1 .1 .0 .1, (f .1 .1 .1 .1 .1 .1 .0 .1, (f .1 .1 .1 .1 .1 .1 .1 .0 .1, tt))))))))
+
+-- the tally of eight counts, added to none, has these counts
+pub counts-added : (t : Tally) (vs : List Val) (counts : List ℕ) → Is T.the-row t vs → t ≡ tallyOf counts → length counts ≡ 8
+    → countsOf (added (tallyOf noneCounted) t) ≡ counts
+counts-added t vs counts is e eight = ap countsOf (none-added t (tally-within t vs is) ∙ e) ∙ counts-tally counts eight
