@@ -1,5 +1,5 @@
 // Answers on standard output, a line each.
-use crate::session::first_bytes;
+use crate::buffers::first_bytes;
 use libc::STDOUT_FILENO;
 use line_tool::explain::Last;
 use line_tool::explain::put_last;

@@ -5,9 +5,10 @@ use crate::arguments::Place;
 use crate::arguments::decimals;
 use crate::arguments::lengths;
 use crate::arguments::takes;
-use crate::session::first_words;
-use crate::session::least;
-use crate::session::words_from;
+use crate::buffers;
+use crate::buffers::first_words;
+use crate::buffers::least;
+use crate::buffers::words_from;
 use line_tool::explain::Last;
 use line_tool::list::Listed;
 use line_tool::list::numbers_at;
@@ -58,7 +59,6 @@ pub fn run(
     ended(answer, word(seg, 3))
 }
 
-// There is room for as many numbers as a line can have.
 pub fn load(
     last: Last,
     line: &[u8],
@@ -67,7 +67,7 @@ pub fn load(
     regular: &[u8],
     alternate: &[u8],
 ) -> Last {
-    let mut numbers = [0u32; 131072];
+    let mut numbers = buffers::numbers();
     let Place::After(next) = decimals(2, line, at, &mut numbers) else {
         return last;
     };

@@ -2,17 +2,17 @@
 use crate::answers;
 use crate::answers::error;
 use crate::arguments::ends;
+use crate::buffers::ALTERNATE;
+use crate::buffers::FILE;
+use crate::buffers::REGULAR;
+use crate::buffers::bytes_from;
+use crate::buffers::least;
 use crate::calls::lay_out;
 use crate::calls::load;
 use crate::calls::look;
 use crate::calls::replayed;
 use crate::calls::run;
-use crate::session::ALTERNATE;
-use crate::session::FILE;
-use crate::session::REGULAR;
 use crate::session::Session;
-use crate::session::least;
-use crate::session::part;
 use crate::sets::set_file;
 use crate::sets::set_procedure;
 use crate::sets::set_segment;
@@ -54,9 +54,9 @@ fn replay(m: Session, line: &[u8], at: usize, data: &mut [u32], bytes: &[u8]) ->
     let mut counts = [0u32; 8];
     let answer = replay::replay_into(
         seg,
-        part(bytes, REGULAR, m.regular),
-        part(bytes, ALTERNATE, m.alternate),
-        part(bytes, FILE, m.file),
+        bytes_from(bytes, REGULAR, m.regular),
+        bytes_from(bytes, ALTERNATE, m.alternate),
+        bytes_from(bytes, FILE, m.file),
         &mut counts,
     );
     m.with_replayed(replayed(answer, word(seg, 3)), counts)
@@ -73,8 +73,8 @@ fn use_segments(
 ) -> Last {
     let n = least(m.words, data.len());
     let seg = &mut data[0..n];
-    let regular = part(bytes, REGULAR, m.regular);
-    let alternate = part(bytes, ALTERNATE, m.alternate);
+    let regular = bytes_from(bytes, REGULAR, m.regular);
+    let alternate = bytes_from(bytes, ALTERNATE, m.alternate);
     let last = m.last;
     match command {
         Command::Layout => lay_out(last, line, at, seg, regular, alternate),

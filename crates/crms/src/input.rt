@@ -1,9 +1,9 @@
 // The lines of one file, each obeyed as soon as it has ended.
 use crate::answers::cannot_read;
 use crate::answers::error;
+use crate::buffers::first_bytes;
 use crate::commands::obey;
 use crate::session::Session;
-use crate::session::first_bytes;
 use line_tool::fault::Fault;
 use line_tool::tokens::is_passed_over;
 use line_tool::tokens::line_end;

@@ -2,6 +2,7 @@
 // output. docs/LINE-TOOL.md says what each does.
 mod answers;
 mod arguments;
+mod buffers;
 mod calls;
 mod commands;
 mod input;
@@ -13,11 +14,10 @@ use input::obey_all;
 use libc::STDERR_FILENO;
 use libc::STDIN_FILENO;
 
-// A line may have all words of a data segment, or all bytes of a file of imports.
 fn main() {
-    let mut line = [0u8; 262144];
-    let mut data = [0u32; 40000];
-    let mut bytes = [0u8; 180000];
+    let mut line = buffers::line();
+    let mut data = buffers::words();
+    let mut bytes = buffers::bytes();
     let count = os::arg_count();
     if count < 2 {
         obey_all(

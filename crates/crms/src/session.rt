@@ -1,5 +1,4 @@
 // What the tool holds besides its buffers: how much of each is in use, what was answered last, and what the last replay counted.
-ghost use Prim.Native.Nat.{_≤_};
 use line_tool::explain::Last;
 
 pub struct Session {
@@ -71,41 +70,4 @@ impl Session {
             counts,
         }
     }
-}
-
-// Where each part begins of the bytes that the operations are lent.
-pub const REGULAR: usize = 0;
-pub const ALTERNATE: usize = 40000;
-pub const FILE: usize = 80000;
-
-// So many bytes of a part.
-pub fn part(bytes: &[u8], start: usize, n: usize) -> &[u8] {
-    let from = least(start, bytes.len());
-    first_bytes(&bytes[from..], n)
-}
-
-// The part of a buffer that is in use.
-pub fn first_words(words: &[u32], n: usize) -> &[u32] {
-    if words.len() < n {
-        return words;
-    }
-    &words[0..n]
-}
-
-pub fn words_from(words: &[u32], n: usize) -> &[u32] {
-    let from = least(n, words.len());
-    &words[from..]
-}
-
-pub fn first_bytes(bytes: &[u8], n: usize) -> &[u8] {
-    if bytes.len() < n {
-        return bytes;
-    }
-    &bytes[0..n]
-}
-
-pub fn least(a: usize, b: usize) -> usize
-    ensures { λ r. ⌜ r ≤ b ⌝ }
-{
-    if a < b { a } else { b }
 }

@@ -7,9 +7,10 @@ use crate::arguments::decimals;
 use crate::arguments::ends;
 use crate::arguments::missing;
 use crate::arguments::takes;
-use crate::session::FILE;
-use crate::session::first_words;
-use crate::session::least;
+use crate::buffers;
+use crate::buffers::FILE;
+use crate::buffers::first_words;
+use crate::buffers::least;
 use elements::copies::fill;
 use line_tool::bytes::Counted;
 use line_tool::bytes::count;
@@ -40,7 +41,7 @@ pub fn set_segment(old: usize, line: &[u8], at: usize, data: &mut [u32]) -> usiz
 
 // At most so many words, from an index that the line names.
 pub fn set_words(most: usize, line: &[u8], at: usize, seg: &mut [u32]) {
-    let mut numbers = [0u32; 40000];
+    let mut numbers = buffers::words();
     let Place::After(next) = decimals(1, line, at, &mut numbers) else {
         return;
     };
