@@ -1,6 +1,5 @@
--- Replays: what is done record by record, and what is counted.
+-- Replays: what is done record by record, and what the walks by hand share.
 mod Replaying
-mod Counting
 mod Giving
 mod Parting
 mod Telling

@@ -1,7 +1,10 @@
+use Prim.Native.Nat.{ℕ}
+use mathlib.Core.Path.{ap, _∙_}
+use mathlib.Core.List.{List}
 use borrow.Author.Needs.{needs}
-use Rattle.operations.specs.Replay.{replayed}
+use Rattle.tally.proofs.Laws.{counts-added}
+use Rattle.operations.specs.Replay.{replay, replayed}
 use Rattle.audit.proofs.Replay.{promised-replay}
-use Rattle.replay.proofs.Counting.{week-told}
 use Rattle.replay.proofs.replay_all.Statement.{statement}
 use Rattle.replay.proofs.replay_all.Tie as tie
 
@@ -17,5 +20,6 @@ replay-all-spec =
     (λ c. search needs)
     (λ c.
     let p = c .before .before .before .before .before .replay-records in
-    let told = week-told _ _ _ _ (c .of .ensures) (search needs) (p .ensures) in
+    let counted = counts-added (c .of .result) _ _ (c .of .ok) (c .of .ensures) (search needs) in
+    let told = ap (λ (counts : List ℕ). replay (p .result) (p .last .0) counts) counted ∙ p .ensures in
     (told, promised-replay _ _ _ _ _ _ _ told)))
