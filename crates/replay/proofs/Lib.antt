@@ -1,4 +1,4 @@
--- Replays: what is done record by record, and what a walk by hand shares.
+-- Replays: what is done record by record, and what the walks by hand share.
 mod Replaying
 mod Giving
 mod Parting

@@ -94,5 +94,9 @@ impl Tally {
 fn sum(a: u32, b: u32) -> u32
     ensures { λ r. ⌜ r ≡ lesserSum a b ⌝ }
 {
-    if b <= 0xFFFF_FFFF - a { a + b } else { 0xFFFF_FFFF }
+    if b <= 0xFFFF_FFFF - a {
+        a + b
+    } else {
+        0xFFFF_FFFF
+    }
 }

@@ -27,7 +27,7 @@ use denote.Memory.{cellAt, lone}
 use denote.Plain.{nothing-lawful}
 use denote.Builtin.{u8, u32}
 use denote.Ref.{RefT, now, MutRef, ptr-vals, mut-tells}
-use denote.Signature.{plain, shrSliceOf}
+use denote.Signature.{plain, mutRefTo}
 use denote.Slice.{MutSlice, ShrSlice, Room, slice-vals, mut-slice-tells, shr-slice-tells, mut-slice-lawful, shr-slice-lawful}
 use denote.Steps.{only, opens, closes, owned, nothing}
 use denote.Enum.Laws as EL
@@ -38,8 +38,7 @@ use denote.Triple.Entry.{alive, onEntry}
 use denote.Triple.Spec.{Meets, tripleOf}
 use denote.Triple.Statement.{Contract, Triple}
 use denote.Triple.Table.{entered, cited}
-use denote.Triple.Walked.{Stays, gave-slice, gave-ref, stay-dropped, walkOf, AllGo, goes-gave-slice, goes-gave-ref, goes-dropped, Walks, ends-at, walked, walk-meets}
-use denote.Exit.{yes}
+use denote.Triple.Walked.{Stays, gave-ref, walkOf, goes-gave-ref, Walks, ends-at, walked, walk-meets}
 use Rattle.tally.specs.Counts.{added, noneCounted, tallyOf}
 use Rattle.tally.specs.declared.Tally.{Tally}
 use Rattle.tally.proofs.Tally as T
@@ -59,7 +58,7 @@ use Rattle.reader.proofs.Calling.{answers-plain}
 use Rattle.reader.proofs.Locals.{Typed, free}
 use Rattle.replay.specs.declared.Week.{Week}
 use Rattle.replay.proofs.Giving.{gives, ensures, states, beside}
-use Rattle.replay.proofs.Parting.{four, fifth, with, Slices, val, vals, slices, all as lent, tokens-apart, tokens-together, owned-apart}
+use Rattle.replay.proofs.Parting.{four, fifth, with, Slices, val, vals, slices, all as lent, tokens-apart, tokens-together, stays, all-go, owned-apart}
 use Rattle.replay.proofs.Telling.{Told, promised, first, summed}
 use Rattle.replay.proofs.Week as K
 use Rattle.replay.proofs.Week.Laws as K′
@@ -73,12 +72,7 @@ use Rattle.replay.proofs.replay.Statement as stated
 use Rattle.replay.proofs.replay.Code as code
 
 abbrev stayed : Stays (replay.ended .signature .params) (replay.ended .kept)
-stayed =
-    (gave-slice (0 ∷ []) tt (plain (λ _. u32)),
-    (stay-dropped (shrSliceOf (1 ∷ []) tt (plain (λ _. u8))) yes,
-    (stay-dropped (shrSliceOf (2 ∷ []) tt (plain (λ _. u8))) yes,
-    (stay-dropped (shrSliceOf (3 ∷ []) tt (plain (λ _. u8))) yes,
-    (gave-ref (4 ∷ []) tt (plain (λ _. T.the-row)), tt)))))
+stayed = stays (mutRefTo (4 ∷ []) tt (plain (λ _. T.the-row))) (gave-ref (4 ∷ []) tt (plain (λ _. T.the-row)))
 
 module _ {M : Type 1} (𝓤 : URA M) (H : Heap 𝓤) (A : Atoms 𝓤) (mem : Memory → SProp 𝓤) (run : Routine → Fun 𝓤) where
   -- the contracts that the proof cites
@@ -197,18 +191,10 @@ module _ {M : Type 1} (𝓤 : URA M) (H : Heap 𝓤) (A : Atoms 𝓤) (W : Given
       (λ κs. (slice-vals, (slice-vals, (slice-vals, (slice-vals, (ptr-vals, tt)))))) (λ κs. (mut-slice-tells (named 0) (κs .0) u32, (shr-slice-tells (named 1) (κs .1 .0) u8, (shr-slice-tells (named 2) (κs .1 .1 .0) u8, (shr-slice-tells (named 3) (κs .1 .1 .1 .0) u8, (mut-tells (named 4) (fifth κs) T.the-row, tt))))))
       (λ κs qs bounds a _ are. via 𝓤 _ (fst∗ 𝓤 _ (emp 𝓤)) (walk 𝓤 H A W mem run κs qs (four a) (fifth a .ptr .0) (fifth a .ptr .1) (fifth a .name) (fifth a .now) C Λ fm known-all known-zero known-add (are .0 .0 .1) (are .0) (are .1 .0) (are .1 .1 .0) (are .1 .1 .1 .0)))
 
-  goes : AllGo 𝓤 H A W 5 (replay.signature .params) (replay.ended .kept) stayed
-  goes =
-      (goes-gave-slice 𝓤 H A W 5 0 tt (plain (λ _. u32)),
-      (goes-dropped 𝓤 H A W 5 (shrSliceOf (1 ∷ []) tt (plain (λ _. u8))) yes (λ κs x f. refl),
-      (goes-dropped 𝓤 H A W 5 (shrSliceOf (2 ∷ []) tt (plain (λ _. u8))) yes (λ κs x f. refl),
-      (goes-dropped 𝓤 H A W 5 (shrSliceOf (3 ∷ []) tt (plain (λ _. u8))) yes (λ κs x f. refl),
-      (goes-gave-ref 𝓤 H A W 5 4 tt (plain (λ _. T.the-row)), tt)))))
-
 replay-meets : {M : Type 1} (𝓤 : URA M) (H : Heap 𝓤) (A : Atoms 𝓤) → Given 𝓤 H A → (mem : Memory → SProp 𝓤) (run : Routine → Fun 𝓤) (𝓣 : Tables 𝓤 H)
     → Triple 𝓤 (𝓣 .C #all) (All 𝓤 H A mem run) → Triple 𝓤 (𝓣 .C #zero) (Zero 𝓤 H A mem run) → Triple 𝓤 (𝓣 .C #add) (Add 𝓤 H A mem run)
     → Meets 𝓤 H A replay.signature (WpFn 𝓤 H (𝓣 .C) (𝓣 .Λ) code.function) (replay.spec 𝓤 H A mem run)
-replay-meets 𝓤 H A W mem run 𝓣 known-all known-zero known-add = walk-meets 𝓤 H A replay.ended stayed W (goes 𝓤 H A W mem run) (replay.clauses 𝓤 H A mem run) (WpFn 𝓤 H (𝓣 .C) (𝓣 .Λ) code.function) (WpFn-mono 𝓤 H (W .laws) 𝓣 code.function)
+replay-meets 𝓤 H A W mem run 𝓣 known-all known-zero known-add = walk-meets 𝓤 H A replay.ended stayed W (all-go 𝓤 H A W (mutRefTo (4 ∷ []) tt (plain (λ _. T.the-row))) (gave-ref (4 ∷ []) tt (plain (λ _. T.the-row))) (goes-gave-ref 𝓤 H A W 5 4 tt (plain (λ _. T.the-row)))) (replay.clauses 𝓤 H A mem run) (WpFn 𝓤 H (𝓣 .C) (𝓣 .Λ) code.function) (WpFn-mono 𝓤 H (W .laws) 𝓣 code.function)
     (replay-walks 𝓤 H A W mem run (𝓣 .C) (𝓣 .Λ) (fmOf 𝓤 H (W .laws) 𝓣) known-all known-zero known-add)
 
 pub replay-spec : {M : Type 1} → stated.statement M

@@ -20,6 +20,6 @@ replay-all-spec =
     (λ c. search needs)
     (λ c.
     let p = c .before .before .before .before .before .replay-records in
-    let counts = counts-added (c .of .result) _ _ (c .of .ok) (c .of .ensures) (search needs) in
-    let told = ap (λ (counts : List ℕ). replay (p .result) (p .last .0) counts) counts ∙ p .ensures in
+    let counted = counts-added (c .of .result) _ _ (c .of .ok) (c .of .ensures) (search needs) in
+    let told = ap (λ (counts : List ℕ). replay (p .result) (p .last .0) counts) counted ∙ p .ensures in
     (told, promised-replay _ _ _ _ _ _ _ told)))

@@ -28,7 +28,7 @@ use denote.Memory.{lone}
 use denote.Plain.{nothing-lawful}
 use denote.Builtin.{u8, u32}
 use denote.Ref.{RefT, MutRef, now, name}
-use denote.Signature.{plain, shrSliceOf}
+use denote.Signature.{plain, mutSliceOf}
 use denote.Slice.{MutSlice, ShrSlice, Room, finally, slice-vals, mut-slice-tells, shr-slice-tells, mut-slice-lawful, shr-slice-lawful}
 use denote.Steps.{owned, nothing}
 use denote.Enum.Laws as EL
@@ -38,8 +38,7 @@ use denote.Triple.Entry.{alive, onEntry}
 use denote.Triple.Spec.{Meets, tripleOf}
 use denote.Triple.Statement.{Contract, Triple}
 use denote.Triple.Table.{entered, cited}
-use denote.Triple.Walked.{Stays, gave-slice, stay-dropped, walkOf, AllGo, goes-gave-slice, goes-dropped, Walks, ends-at, walked, walk-meets}
-use denote.Exit.{yes}
+use denote.Triple.Walked.{Stays, gave-slice, walkOf, goes-gave-slice, Walks, ends-at, walked, walk-meets}
 use Rattle.tally.specs.Counts.{countsOf, noneCounted, tallyOf}
 use Rattle.tally.specs.declared.Tally.{Tally}
 use Rattle.tally.proofs.Lending.{ref, lends, comes-back}
@@ -60,7 +59,7 @@ use Rattle.operations.proofs.Replayed.Laws as E′
 use Rattle.reader.proofs.Calling.{answers-plain}
 use Rattle.reader.proofs.Locals.{Typed, free}
 use Rattle.replay.proofs.Giving.{gives, ensures, states, beside}
-use Rattle.replay.proofs.Parting.{four, fifth, with, Slices, val, vals, slices, all as lent, tokens-apart, tokens-together, owned-apart, owned-together}
+use Rattle.replay.proofs.Parting.{four, fifth, with, Slices, val, vals, slices, all as lent, tokens-apart, tokens-together, stays, all-go, owned-apart, owned-together}
 use Rattle.replay.proofs.Telling.{Told, first}
 use Rattle.replay.proofs.replay as replay
 use Rattle.replay.proofs.replay.Symbol as replay-def
@@ -72,12 +71,7 @@ use Rattle.replay.proofs.replay_into.Statement as stated
 use Rattle.replay.proofs.replay_into.Code as code
 
 abbrev stayed : Stays (into.ended .signature .params) (into.ended .kept)
-stayed =
-    (gave-slice (0 ∷ []) tt (plain (λ _. u32)),
-    (stay-dropped (shrSliceOf (1 ∷ []) tt (plain (λ _. u8))) yes,
-    (stay-dropped (shrSliceOf (2 ∷ []) tt (plain (λ _. u8))) yes,
-    (stay-dropped (shrSliceOf (3 ∷ []) tt (plain (λ _. u8))) yes,
-    (gave-slice (4 ∷ []) tt (plain (λ _. u32)), tt)))))
+stayed = stays (mutSliceOf (4 ∷ []) tt (plain (λ _. u32))) (gave-slice (4 ∷ []) tt (plain (λ _. u32)))
 
 module _ {M : Type 1} (𝓤 : URA M) (H : Heap 𝓤) (A : Atoms 𝓤) (mem : Memory → SProp 𝓤) (run : Routine → Fun 𝓤) where
   -- the contracts that the proof cites
@@ -200,18 +194,10 @@ module _ {M : Type 1} (𝓤 : URA M) (H : Heap 𝓤) (A : Atoms 𝓤) (W : Given
       (λ κs. (slice-vals, (slice-vals, (slice-vals, (slice-vals, (slice-vals, tt)))))) (λ κs. (mut-slice-tells (named 0) (κs .0) u32, (shr-slice-tells (named 1) (κs .1 .0) u8, (shr-slice-tells (named 2) (κs .1 .1 .0) u8, (shr-slice-tells (named 3) (κs .1 .1 .1 .0) u8, (mut-slice-tells (named 4) (fifth κs) u32, tt))))))
       (λ κs qs bounds a _ are. via 𝓤 _ (fst∗ 𝓤 _ (emp 𝓤)) (walk 𝓤 H A W mem run κs qs (four a) (fifth a) C Λ fm known-replay known-zero known-write (are .0 .0 .1) (are .1 .1 .1 .1 .0 .0 .1) (are .0) (are .1 .0) (are .1 .1 .0) (are .1 .1 .1 .0) (are .1 .1 .1 .1 .0)))
 
-  goes : AllGo 𝓤 H A W 5 (into.signature .params) (into.ended .kept) stayed
-  goes =
-      (goes-gave-slice 𝓤 H A W 5 0 tt (plain (λ _. u32)),
-      (goes-dropped 𝓤 H A W 5 (shrSliceOf (1 ∷ []) tt (plain (λ _. u8))) yes (λ κs x f. refl),
-      (goes-dropped 𝓤 H A W 5 (shrSliceOf (2 ∷ []) tt (plain (λ _. u8))) yes (λ κs x f. refl),
-      (goes-dropped 𝓤 H A W 5 (shrSliceOf (3 ∷ []) tt (plain (λ _. u8))) yes (λ κs x f. refl),
-      (goes-gave-slice 𝓤 H A W 5 4 tt (plain (λ _. u32)), tt)))))
-
 into-meets : {M : Type 1} (𝓤 : URA M) (H : Heap 𝓤) (A : Atoms 𝓤) → Given 𝓤 H A → (mem : Memory → SProp 𝓤) (run : Routine → Fun 𝓤) (𝓣 : Tables 𝓤 H)
     → Triple 𝓤 (𝓣 .C #replay) (Replays 𝓤 H A mem run) → Triple 𝓤 (𝓣 .C #zero) (Zero 𝓤 H A mem run) → Triple 𝓤 (𝓣 .C #write) (Write 𝓤 H A mem run)
     → Meets 𝓤 H A into.signature (WpFn 𝓤 H (𝓣 .C) (𝓣 .Λ) code.function) (into.spec 𝓤 H A mem run)
-into-meets 𝓤 H A W mem run 𝓣 known-replay known-zero known-write = walk-meets 𝓤 H A into.ended stayed W (goes 𝓤 H A W mem run) (into.clauses 𝓤 H A mem run) (WpFn 𝓤 H (𝓣 .C) (𝓣 .Λ) code.function) (WpFn-mono 𝓤 H (W .laws) 𝓣 code.function)
+into-meets 𝓤 H A W mem run 𝓣 known-replay known-zero known-write = walk-meets 𝓤 H A into.ended stayed W (all-go 𝓤 H A W (mutSliceOf (4 ∷ []) tt (plain (λ _. u32))) (gave-slice (4 ∷ []) tt (plain (λ _. u32))) (goes-gave-slice 𝓤 H A W 5 4 tt (plain (λ _. u32)))) (into.clauses 𝓤 H A mem run) (WpFn 𝓤 H (𝓣 .C) (𝓣 .Λ) code.function) (WpFn-mono 𝓤 H (W .laws) 𝓣 code.function)
     (into-walks 𝓤 H A W mem run (𝓣 .C) (𝓣 .Λ) (fmOf 𝓤 H (W .laws) 𝓣) known-replay known-zero known-write)
 
 pub replay-into-spec : {M : Type 1} → stated.statement M
