@@ -22,9 +22,11 @@ pub fn bytes() -> [u8; 180000] {
     [0u8; 180000]
 }
 
-// Where the bytes of each start.
+// Where the bytes of each start: there are 40,000 for a procedure segment, and 100,000 for the file.
 pub const REGULAR: usize = 0;
+
 pub const ALTERNATE: usize = 40000;
+
 pub const FILE: usize = 80000;
 
 // So many bytes from a start on.

@@ -54,14 +54,7 @@ pub fn set_words(most: usize, line: &[u8], at: usize, seg: &mut [u32]) {
 }
 
 // There is room for the words up to the end of the segment.
-fn set_from(
-    index: usize,
-    most: usize,
-    line: &[u8],
-    at: usize,
-    numbers: &mut [u32],
-    seg: &mut [u32],
-)
+fn set_from(index: usize, most: usize, line: &[u8], at: usize, numbers: &mut [u32], seg: &mut [u32])
     requires { ⌜ index ≤ length (now seg) ⌝ }
 {
     let room = least(seg.len() - index, numbers.len());
