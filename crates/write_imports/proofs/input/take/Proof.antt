@@ -1,0 +1,31 @@
+use Prim.Native.Nat.{_-_}
+use mathlib.Core.Path.{_≡_}
+use lib.ListN.{length}
+use borrow.Author.Needs.{needs}
+use Rattle.write_imports.proofs.input.take.Statement.{statement}
+use Rattle.write_imports.proofs.input.take.Tie as tie
+
+abbrev Inv-loop : tie.InvT-loop
+Inv-loop chunk line₀ out₀ reading₀ at₀ line out reading at = (length line ≡ length line₀) × (length out ≡ length out₀)
+
+abbrev μ-loop : tie.MeasureT-loop
+μ-loop chunk line₀ out₀ reading₀ at₀ line out reading at = length chunk - at
+
+pub take-spec : {M : Type 1} → statement M
+take-spec =
+    tie.close
+    (tie.spec
+    Inv-loop
+    μ-loop
+    (λ c. search needs)  -- loop-holds
+    (λ c κs. search needs)  -- line-end-requires
+    (λ c. search needs)  -- add-next
+    (λ c. search needs)  -- sub-take-part
+    (λ c. search needs)  -- part-take-part-start
+    (λ c. search needs)  -- part-take-part-end
+    (λ c κs. search needs)  -- take-part-requires
+    (λ c. search needs)  -- loop-less
+    (λ c. search needs)  -- loop-again
+    (λ c. search needs)  -- same-length
+    (λ c. search needs)  -- same-length-2
+    (λ c. search needs))  -- returns

@@ -1,0 +1,2 @@
+-- What the program writes for a line.
+pub mod Lines
