@@ -30,9 +30,12 @@ module _ (s regular alternate : List ℕ) (budget : ℕ) (counts : List ℕ) whe
   unfolding Promised
   promised answer after more e up = (
     e,
-    ((λ words lent.
-        subst (λ (x : Ended). Did s (call.run (call.procedures regular alternate) budget) (call.runAnswer (x .answer)) (x .words)) (sym e)
-        (run-did s (call.procedures regular alternate) budget words lent)), up),
+    (
+      (λ words lent.
+          subst (λ (x : Ended). Did s (call.run (call.procedures regular alternate) budget) (call.runAnswer (x .answer)) (x .words)) (sym e)
+          (run-did s (call.procedures regular alternate) budget words lent)),
+      up,
+    ),
   )
 
   pub unaccepted : (n : ℕ) → n ≡ refusal s regular alternate → (n ≡ 0 → ⊥) → Answers (Refused n) s counts

@@ -103,7 +103,8 @@ fn elements_at(
     if ELEMENT_LIMIT < count {
         return Parsed::Malformed;
     }
-    let FoundNumbers::To(next) = numbers_at(file, place, Descriptor::INTEGER_LIMIT, count, ravel) else {
+    let FoundNumbers::To(next) = numbers_at(file, place, Descriptor::INTEGER_LIMIT, count, ravel)
+    else {
         return Parsed::Malformed;
     };
     Parsed::Load {
