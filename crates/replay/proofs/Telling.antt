@@ -26,7 +26,7 @@ module _ (x : Slices) where
     pub promised : (t : Tally) → Told answer s t → Promised answer s t
     promised t e = promised-replay (now (x .0)) (now (x .1 .0)) (now (x .1 .1 .0)) (now (x .1 .1 .1 .0)) answer s (countsOf t) e
 
-    -- of both clauses the first is enough
+    -- of both clauses of `replay` the first is enough
     pub first : {M : Type 1} (𝓤 : URA M) (t : Tally) → ent 𝓤 (sep 𝓤 (fact 𝓤 (Told answer s t)) (fact 𝓤 (Promised answer s t))) (fact 𝓤 (Told answer s t))
     first 𝓤 t = fst∗ 𝓤 (fact 𝓤 (Told answer s t)) (fact 𝓤 (Promised answer s t))
 

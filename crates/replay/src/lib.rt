@@ -60,8 +60,6 @@ pub fn replay_into(
 fn replay_all(seg: &mut [u32], regular: &[u8], alternate: &[u8], file: &[u8]) -> Week
     ensures { λ r. ⌜ meaning.replay (r .answer) (now (seg .exit)) (countsOf (added (tallyOf noneCounted) (r .tally)))
         ≡ meaning.replayed (now (seg .entry)) (now (regular .entry)) (now (alternate .entry)) (now (file .entry)) ⌝ }
-    ensures { λ r. ⌜ PromisedReplay (now (seg .entry)) (procedures (now (regular .entry)) (now (alternate .entry))) (now (file .entry))
-        (r .answer) (now (seg .exit)) (countsOf (added (tallyOf noneCounted) (r .tally))) ⌝ }
 {
     let mut counts = [0u32; 8];
     let answer = replay_records(seg, regular, alternate, file, &mut counts);

@@ -59,7 +59,7 @@ use Rattle.reader.proofs.Locals.{Typed, free}
 use Rattle.replay.specs.declared.Week.{Week}
 use Rattle.replay.proofs.Giving.{gives, ensures, states, beside}
 use Rattle.replay.proofs.Parting.{four, fifth, with, Slices, val, vals, slices, all as lent, tokens-apart, tokens-together, stays, all-go, owned-apart}
-use Rattle.replay.proofs.Telling.{Told, promised, first, summed}
+use Rattle.replay.proofs.Telling.{Told, promised, summed}
 use Rattle.replay.proofs.Week as K
 use Rattle.replay.proofs.Week.Laws as K′
 use Rattle.replay.proofs.replay_all as all
@@ -143,7 +143,7 @@ module _ {M : Type 1} (𝓤 : URA M) (H : Heap 𝓤) (A : Atoms 𝓤) (W : Given
           assigns ! (agg ! (and-then ! (load ! (from ! (stop !)) (look ! 12 refl)) (and-then ! (load ! (from ! (fld ! refl (stop !))) (look-in ! 24 (sub ! 1 refl (whole !)))) (no-more !)))) (from ! (stop !)) (init ! 10 refl (tt, (tt, (record { fits = room .0 }, tt)))) $
           gives ! fm all.ended (all.clauses 𝓤 H A at-mem run) known-all (four κs, four qs, tt, x, vals x) tt (id⊢ 𝓤 _)
           (and-then ! (load ! (from ! (stop !)) (look ! 9 refl)) (and-then ! (load ! (from ! (stop !)) (look ! 21 refl)) (and-then ! (load ! (from ! (stop !)) (look ! 19 refl)) (and-then ! (load ! (from ! (stop !)) (look ! 17 refl)) (no-more !)))))
-          (λ w ws. Told x (w .answer) (ws .0) (added (tallyOf noneCounted) (w .tally))) (λ w ws. first x (w .answer) (ws .0) 𝓤 (added (tallyOf noneCounted) (w .tally))) (λ u w ws e is.
+          (λ w ws. Told x (w .answer) (ws .0) (added (tallyOf noneCounted) (w .tally))) (λ w ws. id⊢ 𝓤 _) (λ u w ws e is.
           land ! (from ! (stop !)) (init ! 14 refl (typed-w w _ is)) $ rewrite ! 14 (λ (v : Val). ‵ (fat fullShare tw l₆ 0 v)) (ap only (LL.tells K.the-type K′.the-laws w _ is)) refl $
           -- `zero` is called
           nothing ! $ answers-plain ! fm zero.ended (zero.clauses 𝓤 H A at-mem run) known-zero (tt, tt, tt, tt, tt) tt (id⊢ 𝓤 _) (id⊢ 𝓤 _) (no-more !) (λ z. z ≡ tallyOf noneCounted) (λ z ws. id⊢ 𝓤 _) (λ v z none is₀.

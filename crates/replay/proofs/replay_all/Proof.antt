@@ -4,7 +4,6 @@ use mathlib.Core.List.{List}
 use borrow.Author.Needs.{needs}
 use Rattle.tally.proofs.Laws.{counts-added}
 use Rattle.operations.specs.Replay.{replay, replayed}
-use Rattle.audit.proofs.Replay.{promised-replay}
 use Rattle.replay.proofs.replay_all.Statement.{statement}
 use Rattle.replay.proofs.replay_all.Tie as tie
 
@@ -21,5 +20,4 @@ replay-all-spec =
     (λ c.
     let p = c .before .before .before .before .before .replay-records in
     let counted = counts-added (c .of .result) _ _ (c .of .ok) (c .of .ensures) (search needs) in
-    let told = ap (λ (counts : List ℕ). replay (p .result) (p .last .0) counts) counted ∙ p .ensures in
-    (told, promised-replay _ _ _ _ _ _ _ told)))
+    ap (λ (counts : List ℕ). replay (p .result) (p .last .0) counts) counted ∙ p .ensures))
