@@ -1,6 +1,6 @@
 //! The proved engine, and the plain machine beside it on the same loop.
 use crate::arrays::{value, Array, Cell, Shape, Value};
-use crate::loops::{Loop, FIRST, WORDS};
+use crate::loops::{Loop, FIRST};
 use crate::machine::Machine;
 use std::rc::Rc;
 
@@ -8,6 +8,7 @@ extern "C" {
     fn crms_lay_out(data: *mut u32, n: usize, regular: *const u8, nr: usize, alternate: *const u8, na: usize, segment: u32, function: u32, globals: u32, array_words: u32) -> u32;
     fn crms_run(data: *mut u32, n: usize, regular: *const u8, nr: usize, alternate: *const u8, na: usize, budget: u32) -> u64;
     fn crms_load(data: *mut u32, n: usize, regular: *const u8, nr: usize, alternate: *const u8, na: usize, global: u32, lengths: *const u32, rank: usize, elements: *const u32, count: usize) -> u32;
+    fn crms_replay(data: *mut u32, n: usize, regular: *const u8, nr: usize, alternate: *const u8, na: usize, file: *const u8, nf: usize, tally: *mut u32) -> u64;
 }
 
 /// A procedure segment without functions.
@@ -20,7 +21,7 @@ pub struct Engine<'a> {
 
 impl<'a> Engine<'a> {
     pub fn new(l: &'a Loop) -> Self {
-        let mut engine = Engine { data: vec![0; WORDS], procedures: [&l.procedures, &NONE] };
+        let mut engine = Engine { data: vec![0; l.words], procedures: [&l.procedures, &NONE] };
         let (data, [p, q]) = (&mut engine.data, engine.procedures);
         let done = unsafe { crms_lay_out(data.as_mut_ptr(), data.len(), p.as_ptr(), p.len(), q.as_ptr(), q.len(), 0, 1, l.globals as u32, l.array_words as u32) };
         assert_eq!(done, 0);
@@ -41,6 +42,13 @@ impl<'a> Engine<'a> {
         let (data, [p, q]) = (&mut self.data, self.procedures);
         let answer = unsafe { crms_run(data.as_mut_ptr(), data.len(), p.as_ptr(), p.len(), q.as_ptr(), q.len(), budget) };
         assert_eq!(answer, 2 << 32 | budget as u64);
+    }
+
+    /// What a file's replay answers, and its tally.
+    pub fn replay(&mut self, file: &[u8]) -> (u64, [u32; 8]) {
+        let (data, [p, q], mut tally) = (&mut self.data, self.procedures, [u32::MAX; 8]);
+        let answer = unsafe { crms_replay(data.as_mut_ptr(), data.len(), p.as_ptr(), p.len(), q.as_ptr(), q.len(), file.as_ptr(), file.len(), tally.as_mut_ptr()) };
+        (answer, tally)
     }
 
     /// What the cell at an address of the segment holds; nothing where it is undefined.
@@ -86,5 +94,5 @@ pub fn plain(l: &Loop) -> Machine<'_> {
     let vector = |v: &Vec<u32>| Cell::Array(Rc::new(Array { shape: Shape::vector(v.len()), ravel: v.clone() }));
     let mut globals: Vec<Cell> = l.loaded.iter().map(vector).collect();
     globals.resize(l.globals, Cell::Undefined);
-    Machine::new([&l.procedures, &NONE], globals, WORDS - 8 - l.globals - l.array_words).expect("the bottom function is there")
+    Machine::new([&l.procedures, &NONE], globals, l.words - 8 - l.globals - l.array_words).expect("the bottom function is there")
 }

@@ -12,17 +12,23 @@ pub struct Loop {
     pub loaded: Vec<Vec<u32>>,
     pub globals: usize,
     pub array_words: usize,
+    pub words: usize,
 }
 
 /// The loop with most words for arrays.
 fn on_arrays(main: Code, loaded: Vec<Vec<u32>>) -> Loop {
+    on_arrays_of(WORDS, main, loaded)
+}
+
+/// The same in a segment of so many words.
+fn on_arrays_of(words: usize, main: Code, loaded: Vec<Vec<u32>>) -> Loop {
     let globals = loaded.len();
-    Loop { procedures: segment(&[simple(0, main.jump(GO, START))]), loaded, globals, array_words: WORDS - 8 - globals - 16 }
+    Loop { procedures: segment(&[simple(0, main.jump(GO, START))]), loaded, globals, array_words: words - 8 - globals - 16, words }
 }
 
 /// The loop with most words for the stack.
 fn on_scalars(functions: &[Function]) -> Loop {
-    Loop { procedures: segment(functions), loaded: Vec::new(), globals: 0, array_words: 100 }
+    Loop { procedures: segment(functions), loaded: Vec::new(), globals: 0, array_words: 100, words: WORDS }
 }
 
 /// A local counts to 4,095 and starts again: eight instructions a turn.
@@ -81,7 +87,7 @@ pub fn fragmenting() -> Loop {
         code = code.constant(length).op(INDEXGEN).to_global(FIRST + random.below(24) as u16);
     }
     let procedures = segment(&[simple(0, code.jump(GO, START))]);
-    Loop { procedures, loaded: Vec::new(), globals: 24, array_words: 2_000 }
+    Loop { procedures, loaded: Vec::new(), globals: 24, array_words: 2_000, words: WORDS }
 }
 
 /// An operator on two vectors, its result dropped: five instructions.
@@ -100,4 +106,9 @@ pub fn catenate(n: usize, random: &mut Random) -> Loop {
 pub fn reshape(n: usize, random: &mut Random) -> Loop {
     let from = (0..n.min(100)).map(|_| random.integer()).collect();
     on_arrays(Code::default().global(FIRST).constant_scalar(n as u32).op(RESHAPE).op(EAT1), vec![from])
+}
+
+/// Vectors of ten elements that fill four fifths of so many words, to be loaded anew; nothing is run.
+pub fn imported(words: usize) -> Loop {
+    on_arrays_of(words, Code::default(), vec![vec![0; 10]; words / 16])
 }

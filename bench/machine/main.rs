@@ -1,5 +1,5 @@
 //! The whole engine beside a plain Rust machine on the same bytes with the same tests, and beside A+ where bench/run has its
-//! times: nanoseconds for an instruction, for an element, for a word of acceptance.
+//! times: nanoseconds for an instruction, for an element, for a word of acceptance, for a load out of a file of imports.
 #[path = "../plain/acceptance.rs"]
 mod acceptance;
 #[path = "../plain/arrays.rs"]
@@ -12,6 +12,9 @@ mod decode;
 #[path = "../plain/elements.rs"]
 mod elements;
 mod engine;
+mod files;
+#[path = "../plain/imports.rs"]
+mod imports;
 #[path = "../acceptance/judges.rs"]
 mod judges;
 mod loops;
@@ -22,6 +25,8 @@ mod random;
 mod rows;
 #[path = "../acceptance/segments.rs"]
 mod segments;
+#[path = "../plain/storage.rs"]
+mod storage;
 mod table;
 #[path = "../common/windows.rs"]
 mod windows;
@@ -36,18 +41,21 @@ const TURNS: usize = 25;
 fn main() {
     let aplus = std::env::args().nth(1).and_then(|path| std::fs::read_to_string(path).ok()).unwrap_or_default();
     let random = &mut Random(0x9E37_79B9_7F4A_7C15);
+    let [plain, itself] = [["proved", "plain Rust"], ["replay", "run"]];
     let mut sections = [
-        ("ns for an instruction", rows::instructions()),
-        ("ns for an element", rows::elements(random)),
-        ("ns for a word of acceptance", rows::words(random)),
-        ("ns for a call", rows::calls(random)),
+        ("ns for an instruction", plain, rows::instructions()),
+        ("ns for an element", plain, rows::elements(random)),
+        ("ns for a word of acceptance", plain, rows::words(random)),
+        ("ns for a call", plain, rows::calls(random)),
+        ("ns for a replayed load", plain, rows::loads(random)),
+        ("ns for a replayed instruction", itself, rows::replays()),
     ];
     for _ in 0..ROUNDS {
-        sections.iter_mut().flat_map(|(_, rows)| rows).for_each(|row| row.take(TURNS));
+        sections.iter_mut().flat_map(|(_, _, rows)| rows).for_each(|row| row.take(TURNS));
     }
     let table = Table::new(&aplus);
-    for (title, rows) in sections {
-        table.section(title);
+    for (title, columns, rows) in sections {
+        table.section(title, columns);
         rows.into_iter().for_each(|row| table.row(row));
     }
 }

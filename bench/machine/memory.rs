@@ -1,7 +1,9 @@
-//! The memory of a run: the stack that it writes and the heap that it asks for. Apart from the times, for a counting
+//! The memory of a run and of a replay: the stack that it writes and the heap that it asks for. Apart from the times, for a counting
 //! allocator takes time itself. Of the modules that it shares with the times it needs a few functions.
 #![allow(dead_code)]
 
+#[path = "../plain/acceptance.rs"]
+mod acceptance;
 #[path = "../plain/arrays.rs"]
 mod arrays;
 mod assemble;
@@ -12,6 +14,9 @@ mod decode;
 #[path = "../plain/elements.rs"]
 mod elements;
 mod engine;
+mod files;
+#[path = "../plain/imports.rs"]
+mod imports;
 mod loops;
 #[path = "../plain/machine.rs"]
 mod machine;
@@ -19,7 +24,10 @@ mod machine;
 mod paint;
 #[path = "../common/random.rs"]
 mod random;
+#[path = "../plain/storage.rs"]
+mod storage;
 
+use engine::Engine;
 use loops::Loop;
 use random::Random;
 use std::alloc::{GlobalAlloc, Layout, System};
@@ -53,8 +61,10 @@ unsafe impl GlobalAlloc for Counting {
 #[global_allocator]
 static ALLOCATOR: Counting = Counting;
 
-/// What a run of 10,000 instructions takes: bytes of the stack, calls of the allocator, bytes of the heap at most.
-fn used(run: impl FnMut() + Send) -> (usize, u64, isize) {
+/// What a call takes: bytes of the stack, calls of the allocator, bytes of the heap at most.
+type Used = (usize, u64, isize);
+
+fn used(run: impl FnMut() + Send) -> Used {
     let (run, heap) = (Mutex::new(run), Mutex::new((0, 0)));
     let stack = paint::stack_use(|| {
         HEAP.set((0, 0, 0));
@@ -66,15 +76,33 @@ fn used(run: impl FnMut() + Send) -> (usize, u64, isize) {
     (stack, calls, most)
 }
 
+fn line(name: &str, proved: Used, plain: Option<Used>) {
+    let columns = |(stack, asked, heap): Used| format!("{stack:>8} {asked:>8} {heap:>8}");
+    println!("{name:<50} {}  {}", columns(proved), plain.map_or(String::new(), columns));
+}
+
 fn row(name: &str, l: &Loop) {
-    let mut ours = engine::Engine::new(l);
+    let mut ours = Engine::new(l);
     let proved = used(move || ours.run(10_000));
     let plain = used(|| assert_eq!(engine::plain(l).run(10_000).1, None));
-    println!("{name:<50} {:>8} {:>8} {:>8}  {:>8} {:>8} {:>8}", proved.0, proved.1, proved.2, plain.0, plain.1, plain.2);
+    line(name, proved, Some(plain));
+}
+
+fn replayed_run(name: &str, l: &Loop) {
+    let (mut ours, file) = (Engine::new(l), files::run(10_000));
+    line(name, used(move || assert_eq!(ours.replay(&file).0, 0)), None);
+}
+
+fn replayed_loads(name: &str, l: &Loop, file: &[u8]) {
+    let mut ours = Engine::new(l);
+    let (mut theirs, procedures) = (ours.data.clone(), ours.procedures);
+    let proved = used(move || assert_eq!(ours.replay(file).0, 0));
+    let plain = used(move || assert_eq!(imports::replay(&mut theirs, procedures, file, imports::no_run).0, 0));
+    line(name, proved, Some(plain));
 }
 
 fn main() {
-    println!("\n{:<50} {:>26}  {:>26}", "memory of 10,000 instructions", "proved", "plain Rust");
+    println!("\n{:<50} {:>26}  {:>26}", "memory of 10,000 instructions, of 1,000 loads", "proved", "plain Rust");
     println!("{:<50} {:>8} {:>8} {:>8}  {:>8} {:>8} {:>8}", "", "stack", "asked", "heap", "stack", "asked", "heap");
     let random = &mut Random(1);
     row("Ackermann", &loops::ackermann());
@@ -82,4 +110,7 @@ fn main() {
     let vectors = [0, 1].map(|_| (0..5_400).map(|_| random.integer()).collect());
     row("integer SUM of 5,400 elements", &loops::dyadic(assemble::SUM, vectors));
     row("CATENATE to 10,000 elements", &loops::catenate(10_000, random));
+    replayed_run("Ackermann, replayed", &loops::ackermann());
+    let l = loops::imported(1_024);
+    replayed_loads("1,000 loads of 10 elements, replayed", &l, &files::loads(1_000, l.globals, random));
 }

@@ -1,10 +1,10 @@
-//! What is timed: a row has a window of the proved code and one of plain Rust, taken by turns.
+//! What is timed: a row has a window of the proved code and one of what it is held against, taken by turns.
 use crate::assemble::{LESS, PRODUCT, QUOTIENT, SUM};
 use crate::engine::{plain, Engine};
 use crate::loops::{self, Loop};
 use crate::random::Random;
 use crate::windows::{nanoseconds, Times, Windows};
-use crate::{acceptance, judges, segments};
+use crate::{acceptance, files, imports, judges, segments};
 
 /// About so many nanoseconds in a window.
 const WINDOW: f64 = 0.5e6;
@@ -13,13 +13,13 @@ pub struct Row {
     pub name: String,
     pub n: Option<usize>,
     pub target: Option<f64>,
-    /// The proved code, plain Rust, and what is to be taken off from the proved code.
-    turn: Box<dyn FnMut() -> [f64; 3]>,
-    windows: Windows<3>,
+    /// The proved code, what it is held against, and what is to be taken off from each.
+    turn: Box<dyn FnMut() -> [f64; 4]>,
+    windows: Windows<4>,
 }
 
 impl Row {
-    fn new(name: &str, n: Option<usize>, target: Option<f64>, turn: impl FnMut() -> [f64; 3] + 'static) -> Self {
+    fn new(name: &str, n: Option<usize>, target: Option<f64>, turn: impl FnMut() -> [f64; 4] + 'static) -> Self {
         Row { name: name.to_string(), n, target, turn: Box::new(turn), windows: Windows::new() }
     }
 
@@ -29,8 +29,8 @@ impl Row {
     }
 
     pub fn times(self) -> [Times; 2] {
-        let [proved, plain, off] = self.windows.times();
-        [Times { best: proved.best - off.best, middle: proved.middle - off.best }, plain]
+        let [proved, other, off, off_other] = self.windows.times();
+        [(proved, off), (other, off_other)].map(|(all, off)| Times { best: all.best - off.best, middle: all.middle - off.best })
     }
 }
 
@@ -42,7 +42,7 @@ fn budget(mut run: impl FnMut(u32)) -> u32 {
 
 /// Windows of an endless loop whose instructions count as so many units each. A run tests its segments first: what a run of
 /// no instructions takes is taken off.
-fn turns(l: Loop, units: f64) -> impl FnMut() -> [f64; 3] {
+fn turns(l: Loop, units: f64) -> impl FnMut() -> [f64; 4] {
     let l: &'static Loop = Box::leak(Box::new(l));
     let (mut ours, mut theirs) = (Engine::new(l), plain(l));
     for steps in [3, 5_000, 1, 1, 1] {
@@ -57,6 +57,7 @@ fn turns(l: Loop, units: f64) -> impl FnMut() -> [f64; 3] {
             nanoseconds(|| ours.run(budgets[0])) / shares[0],
             nanoseconds(|| assert_eq!(theirs.run(budgets[1]).1, None)) / shares[1],
             nanoseconds(|| ours.run(0)) / shares[0],
+            0.0,
         ]
     }
 }
@@ -117,7 +118,7 @@ pub fn words(random: &mut Random) -> Vec<Row> {
         let (s, p) = (segments::segment(words, arrays, frames, random), segments::procedures());
         Row::new(&format!("{arrays} arrays, {frames} frames"), Some(words), Some(4.0), move || {
             let [proved, plain] = judges::turn(&s, &p);
-            [proved, plain, 0.0]
+            [proved, plain, 0.0, 0.0]
         })
     };
     sizes.map(row).into()
@@ -132,8 +133,57 @@ pub fn calls(random: &mut Random) -> Vec<Row> {
         Row::new("a run of no instructions", Some(words), None, move || {
             let proved = nanoseconds(|| (0..calls).for_each(|_| ours.run(0)));
             let plain = nanoseconds(|| (0..calls).for_each(|_| assert_eq!(acceptance::judge(&s, p, p), 0)));
-            [proved / calls as f64, plain / calls as f64, 0.0]
+            [proved / calls as f64, plain / calls as f64, 0.0, 0.0]
         })
     };
     [(1_024, 120, 6), (16_384, 2_000, 60)].map(row).into()
+}
+
+/// A file of loads of ten elements each, replayed on two segments that start alike and must stay so.
+pub fn loads(random: &mut Random) -> Vec<Row> {
+    let row = |(name, words, count)| {
+        let l: &'static Loop = Box::leak(Box::new(loops::imported(words)));
+        let file = files::loads(count, l.globals, random);
+        let mut ours = Engine::new(l);
+        let (mut theirs, procedures) = (ours.data.clone(), ours.procedures);
+        Row::new(name, Some(words), None, move || {
+            let proved = nanoseconds(|| assert_eq!(ours.replay(&file), (0, [0; 8])));
+            let plain = nanoseconds(|| assert_eq!(imports::replay(&mut theirs, procedures, &file, imports::no_run), (0, [0; 8])));
+            assert!(ours.data == theirs, "the words differ");
+            [proved / count as f64, plain / count as f64, 0.0, 0.0]
+        })
+    };
+    [("1,000 loads of 10 elements", 1_024, 1_000), ("60 loads of 10 elements", 16_384, 60)].map(row).into()
+}
+
+/// Endless loops by a file of one run, beside the same run. What a run of no instructions takes is taken off from both; the target
+/// is for the ratio.
+pub fn replays() -> Vec<Row> {
+    let row = |(name, l)| {
+        let l: &'static Loop = Box::leak(Box::new(l));
+        let (mut ours, mut theirs) = (Engine::new(l), Engine::new(l));
+        for steps in [0, 3, 5_000, 1] {
+            replay_run(&mut ours, &files::run(steps), steps);
+            theirs.run(steps);
+            assert!(ours.data == theirs.data, "the words differ");
+        }
+        let n = budget(|n| theirs.run(n));
+        let (file, none, share) = (files::run(n), files::run(0), n as f64);
+        Row::new(name, None, Some(1.15), move || {
+            [
+                nanoseconds(|| replay_run(&mut ours, &file, n)) / share,
+                nanoseconds(|| theirs.run(n)) / share,
+                nanoseconds(|| replay_run(&mut ours, &none, 0)) / share,
+                nanoseconds(|| theirs.run(0)) / share,
+            ]
+        })
+    };
+    let rows = [("a scalar loop: a local counts", loops::counting()), ("Ackermann, with its calls and returns", loops::ackermann())];
+    rows.map(row).into()
+}
+
+/// A file of one run, each of whose instructions is counted.
+fn replay_run(engine: &mut Engine, file: &[u8], steps: u32) {
+    let (answer, tally) = engine.replay(file);
+    assert_eq!((answer, tally.iter().sum()), (0, steps));
 }

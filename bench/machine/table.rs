@@ -1,4 +1,5 @@
-//! The table that is printed: a section has a title, a row has the times of the proved code, of plain Rust and of A+.
+//! The table that is printed: a section has a title, a row has the times of the proved code, of what it is held against, which
+//! is plain Rust or the proved code itself by another way, and of A+.
 use crate::rows::Row;
 use crate::windows::{Times, Windows};
 use std::collections::HashMap;
@@ -26,29 +27,29 @@ impl Table {
         Table { aplus: runs.into_iter().map(|(key, windows)| (key, of_runs(windows))).collect() }
     }
 
-    pub fn section(&self, title: &str) {
+    pub fn section(&self, title: &str, [ours, other]: [&str; 2]) {
         println!();
-        self.line(title, "n", "proved: best, mid", "plain Rust", "ratio", "A+", "target");
+        self.line(title, "n", &format!("{ours}: best, mid"), other, "ratio", "A+", "target");
     }
 
     pub fn row(&self, row: Row) {
         let (name, n, target) = (row.name.clone(), row.n, row.target);
-        let [proved, plain] = row.times();
+        let [proved, other] = row.times();
         let aplus = n.and_then(|n| self.aplus.get(&(name.clone(), n)));
         self.line(
             &name,
             &n.map_or(String::new(), |n| n.to_string()),
             &pair(&proved),
-            &pair(&plain),
-            &format!("{:.2}", proved.best / plain.best),
+            &pair(&other),
+            &format!("{:.2}", proved.best / other.best),
             &aplus.map_or(String::new(), pair),
             &target.map_or(String::new(), |t| t.to_string()),
         );
     }
 
-    fn line(&self, name: &str, n: &str, proved: &str, plain: &str, ratio: &str, aplus: &str, target: &str) {
+    fn line(&self, name: &str, n: &str, proved: &str, other: &str, ratio: &str, aplus: &str, target: &str) {
         let aplus = if self.aplus.is_empty() { String::new() } else { format!("  {aplus:>15}") };
-        println!("{name:<50} {n:>6}  {proved:>17}  {plain:>15}  {ratio:>5}{aplus}  {target:>6}");
+        println!("{name:<50} {n:>6}  {proved:>17}  {other:>15}  {ratio:>5}{aplus}  {target:>6}");
     }
 }
 

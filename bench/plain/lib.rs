@@ -4,4 +4,6 @@ pub mod arrays;
 pub mod control;
 pub mod decode;
 pub mod elements;
+pub mod imports;
 pub mod machine;
+pub mod storage;

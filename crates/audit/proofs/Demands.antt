@@ -3,7 +3,7 @@ use Prim.Native.Nat.{ℕ, _-_, _≤_}
 use mathlib.Core.Path.{_≡_, refl, sym, _∙_, ap, subst}
 use mathlib.Core.Bool.{true, false}
 use mathlib.Core.Logic.{_↔_, _≢_, inl, inr, ⊎-elim}
-use mathlib.Core.List.{List, [], _∷_, map}
+use mathlib.Core.List.{List, [], _∷_, _++_, map}
 use native.Mathlib.Omega.{arith}
 use lib.ListN.{length}
 use borrow.Author.Tests.{ne-eqb}
@@ -29,8 +29,9 @@ use Rattle.operations.specs.Answers as operations
 use Rattle.audit.specs.Calls.{Procedures, Call, layOut, run, load, look, Answer, refused, done, ran, trapped, scalar, array, answerOf, runAnswer, lookAnswer, firstFailed, tests, Passes, globalValue, LentProcedures, LentCall}
 use Rattle.audit.specs.Steps.{StepOutcome, trapsBy, finishes, Step, traps, full, does, EffectsDone, inVain}
 use Rattle.audit.specs.Runs.{Runs}
-use Rattle.audit.specs.Did.{LaidOut, Ran, Loaded, Tells, Did, isRefused, isLaidOut, hasRun, isLoaded, hasTold}
-use Rattle.audit.specs.Lists.{refusalOf, Answers, Kept, LoadInVain, FullExactly, Event, Happened, AllLent}
+use Rattle.audit.specs.Did.{LaidOut, Ran, Loaded, Tells, Did, isRefused, isLaidOut, hasRun, isLoaded, hasTold, Event}
+use Rattle.audit.specs.Replays.{OneByOne}
+use Rattle.audit.specs.Lists.{refusalOf, Answers, Kept, LoadInVain, FullExactly, Item, call, replay, Happening, called, replayed, itemOf, Happened, callsIn, AllLent}
 use Rattle.audit.specs.Demands.{Demand1, Demand2, AllHold, Demand3, Demands}
 use Rattle.audit.proofs.Accepts.{accepted-of, passes-of}
 use Rattle.audit.proofs.Steps.{due-small, outcomeFrom, step-done, step-accepted}
@@ -39,6 +40,7 @@ use Rattle.audit.proofs.LayOut.{lay-out-did, lay-out-words}
 use Rattle.audit.proofs.Run.{run-did, run-words}
 use Rattle.audit.proofs.Look.{look-did}
 use Rattle.audit.proofs.Load.{load-did, load-words, load-full}
+use Rattle.audit.proofs.Replay.{replay-theorems}
 
 -- ---- what is answered that is not refused
 
@@ -226,23 +228,43 @@ full-exactly {s = s} {t = t} {c = c} {a = a} h = record {
         let f = load-full s p g lengths ravel in
         (λ e. f .0 (sym n ∙ ap refusalOf e), λ k. refusal-24 a (n ∙ f .1 k))
 
-hold : (s : List ℕ) → Good s → (events : List Event) → Happened s events → AllHold s events
-hold s g [] h = kept g
-hold s g (e ∷ events) h = (kept g, h .0, full-exactly (h .0), hold (e .after) (good g (h .0)) events (h .1))
+hold : (s : List ℕ) → Good s → (events : List Event) (t : List ℕ) → OneByOne s events t → AllHold s events
+hold s g [] t h = kept g
+hold s g (e ∷ events) t h = (kept g, h .0, full-exactly (h .0), hold (e .after) (good g (h .0)) events t (h .1))
 
-happens : (s : List ℕ) → Words s → (calls : List Call) → AllLent calls
-    → (events : List Event) × (map (λ (e : Event). e .call) events ≡ calls) × Happened s events
+-- ---- replays in a list
+
+one-by-one-then : (s : List ℕ) (events : List Event) (t : List ℕ) → OneByOne s events t → (more : List Event) (u : List ℕ) → OneByOne t more u → OneByOne s (events ++ more) u
+one-by-one-then s [] t h more u k = subst (λ (s : List ℕ). OneByOne s more u) (sym h) k
+one-by-one-then s (e ∷ events) t h more u k = (h .0, one-by-one-then (e .after) events t (h .1) more u k)
+
+-- the calls of a list happened one by one
+in-turn : (s : List ℕ) (list : List Happening) → Happened s list → (t : List ℕ) × OneByOne s (callsIn list) t
+in-turn s [] h = (s, refl)
+in-turn s (called e ∷ list) h = let rest = in-turn (e .after) list (h .1) in (rest .0, (h .0, rest .1))
+in-turn s (replayed e ∷ list) h =
+    let rest = in-turn (e .after) list (h .1) in
+    (rest .0, one-by-one-then s (e .calls) (e .after) (replay-theorems .oneByOne (h .0)) (callsIn list) (rest .0) (rest .1))
+
+held : (s : List ℕ) (p : Procedures) → Passes s p → (list : List Happening) → Happened s list → AllHold s (callsIn list)
+held s p e list h = let turn = in-turn s list h in hold s (record { beside = p; accepted = e }) (callsIn list) (turn .0) (turn .1)
+
+happens : (s : List ℕ) → Words s → (items : List Item) → AllLent items → (list : List Happening) × (map itemOf list ≡ items) × Happened s list
 happens s words [] lent = ([], refl, tt)
-happens s words (c ∷ calls) lent =
+happens s words (call c ∷ items) lent =
     let m = ends s words c (lent .0) in
-    let more = happens (m .1) (m .3) calls (lent .1) in
-    (record { call = c; answer = m .0; after = m .1 } ∷ more .0, ap (λ (l : List Call). c ∷ l) (more .1), (m .2, more .2))
+    let rest = happens (m .1) (m .3) items (lent .1) in
+    (called (record { call = c; answer = m .0; after = m .1 }) ∷ rest .0, ap (λ (l : List Item). call c ∷ l) (rest .1), (m .2, rest .2))
+happens s words (replay p file ∷ items) lent =
+    let m = replay-theorems .ends s words p (lent .0 .0) file (lent .0 .1) in
+    let rest = happens (m .1) (m .5) items (lent .1) in (
+      replayed (record { procedures = p; file = file; answer = m .0; counts = m .2; calls = m .3; after = m .1 }) ∷ rest .0,
+      ap (λ (l : List Item). replay p file ∷ l) (rest .1),
+      (m .4, rest .2),
+    )
 
 pub demand-3 : Demand3
-demand-3 = record {
-  list = λ s p e. hold s (record { beside = p; accepted = e });
-  happens = happens;
-}
+demand-3 = record { list = held; happens = happens }
 
 pub demands : Demands
 demands = record { first = demand-1; second = demand-2; third = demand-3 }

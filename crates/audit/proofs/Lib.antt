@@ -1,4 +1,4 @@
--- Steps, runs and each call, the demands, the par list, and the examples by computation.
+-- Steps, runs and each call, replays and what they count, the demands, the par list, and the examples by computation.
 pub mod Full
 pub mod Steps
 pub mod Runs
@@ -8,6 +8,8 @@ pub mod LayOut
 pub mod Run
 pub mod Look
 pub mod Load
+pub mod Tally
+pub mod Replay
 pub mod Demands
 pub mod RuledOut
 pub mod ParList

@@ -1,6 +1,6 @@
--- A run does what `Did` says, and leaves words of 32 bits.
+-- A run does what `Did` says, counts what its steps count, and leaves words of 32 bits.
 use Prim.Native.Nat.{ℕ, _<_}
-use mathlib.Core.Path.{_≡_, sym, _∙_, subst}
+use mathlib.Core.Path.{_≡_, sym, _∙_}
 use mathlib.Core.Logic.{_≢_}
 use mathlib.Core.List.{List}
 use native.Mathlib.Omega.{arith}
@@ -13,29 +13,43 @@ use Rattle.acceptance_storage.proofs.Tests.{by-eq}
 use Rattle.acceptance.specs.Refusal.{refusal}
 use Rattle.acceptance.proofs.Structure.{structure}
 use Rattle.effects.specs.Run.{runOf}
+use Rattle.effects.specs.Tally.{talliedFrom}
 use Rattle.operations.specs.declared.Run.the-variants as answers
 use Rattle.operations.specs.Run as operations
 use Rattle.operations.specs.Run.{Ended, ended, ran}
+use Rattle.operations.specs.Replay.{tallied}
 use Rattle.audit.specs.Calls.{Procedures, runAnswer, run, LentProcedures}
-use Rattle.audit.specs.Did.{Ran, Did, isRefused, hasRun}
+use Rattle.audit.specs.Did.{Did, isRefused, hasRun}
+use Rattle.audit.specs.Replays.{countsOf}
 use Rattle.audit.proofs.Tests.{segment-told}
 use Rattle.audit.proofs.Accepts.{passes-of}
-use Rattle.audit.proofs.Runs.{answerOf, Ready, run-steps, run-ready, run-all, run-full}
+use Rattle.audit.proofs.Runs.{Ready, run-ran, run-all, run-full}
 
 module _ (s : List ℕ) (p : Procedures) (budget : ℕ) where
   abbrev number : ℕ
   number = refusal s (p .regular) (p .alternate)
 
-  abbrev RunDid : Ended → Type 0
-  RunDid e = Did s (run p budget) (runAnswer (e .answer)) (e .words)
+  -- with the counts that it leaves
+  abbrev RunDid : Ended → (List ℕ → List ℕ) → Type 0
+  RunDid e tally = (did : Did s (run p budget) (runAnswer (e .answer)) (e .words)) × ((counts : List ℕ) → countsOf did counts ≡ tally counts)
 
-  run-refused : number ≢ 0 → ran s (p .regular) (p .alternate) budget ≡ ended (answers.Refused number) s
-  unfolding ran
-  run-refused h = simp (ne-eqb number 0 h)
+  module _ (h : number ≢ 0) where
+    run-refused : ran s (p .regular) (p .alternate) budget ≡ ended (answers.Refused number) s
+    unfolding ran
+    run-refused = simp (ne-eqb number 0 h)
 
-  run-done : number ≡ 0 → ran s (p .regular) (p .alternate) budget ≡ operations.acceptedEnd (runOf (p .regular) (p .alternate) s budget)
-  unfolding ran
-  run-done e = simp (eq-eqb number 0 e)
+    none-tallied : (counts : List ℕ) → tallied s (p .regular) (p .alternate) budget counts ≡ counts
+    unfolding tallied
+    none-tallied counts = simp (ne-eqb number 0 h)
+
+  module _ (e : number ≡ 0) where
+    run-done : ran s (p .regular) (p .alternate) budget ≡ operations.acceptedEnd (runOf (p .regular) (p .alternate) s budget)
+    unfolding ran
+    run-done = simp (eq-eqb number 0 e)
+
+    steps-tallied : (counts : List ℕ) → tallied s (p .regular) (p .alternate) budget counts ≡ talliedFrom budget counts (p .regular) (p .alternate) (set s 3 0)
+    unfolding tallied
+    steps-tallied counts = simp (eq-eqb number 0 e)
 
   module _ (words : Words s) (bytes : LentProcedures p) where
     start : number ≡ 0 → Ready s p
@@ -44,21 +58,28 @@ module _ (s : List ℕ) (p : Procedures) (budget : ℕ) where
       accepted = structure .sound s (p .regular) (p .alternate) e;
     }
 
-    has-run : (e : number ≡ 0) → Ran s p budget (answerOf (runOf (p .regular) (p .alternate) s budget .answer)) (runOf (p .regular) (p .alternate) s budget .words)
+    has-run : (e : number ≡ 0) → RunDid (operations.acceptedEnd (runOf (p .regular) (p .alternate) s budget)) (tallied s (p .regular) (p .alternate) budget)
     has-run e =
-        let steps = run-steps p s (start e) budget in
+        let from = run-ran p s (start e) budget in
         let there : 3 < length s = omega (arith, start e .accepted .shortest) in
         let zero : trapWord (set s 3 0) ≡ 0 = rw getD-set-same in
-        record { steps = steps; all = run-all steps zero; full = run-full steps; accepted = passes-of (runOf (p .regular) (p .alternate) s budget .words) p (run-ready p s (start e) budget .accepted) }
+        let passes = passes-of (runOf (p .regular) (p .alternate) s budget .words) p (from .ready .accepted) in (
+          hasRun (segment-told s p ∙ e) (record { steps = from .runs; all = run-all (from .runs) zero; full = run-full (from .runs); accepted = passes }),
+          λ counts. from .counts counts ∙ sym (steps-tallied e counts),
+        )
 
-    pub run-did : RunDid (ran s (p .regular) (p .alternate) budget)
-    run-did =
+    -- what a run does, and what it counts
+    pub run-counted : RunDid (ran s (p .regular) (p .alternate) budget) (tallied s (p .regular) (p .alternate) budget)
+    run-counted =
         by-eq number 0
-        (λ e. subst RunDid (sym (run-done e)) (hasRun (segment-told s p ∙ e) (has-run e)))
-        (λ d. subst RunDid (sym (run-refused d)) (isRefused d (segment-told s p)))
+        (λ e. rw (run-done e) (has-run e))
+        (λ d. rw (run-refused d) (isRefused d (segment-told s p), λ counts. sym (none-tallied d counts)))
+
+    pub run-did : Did s (run p budget) (runAnswer (ran s (p .regular) (p .alternate) budget .answer)) (ran s (p .regular) (p .alternate) budget .words)
+    run-did = run-counted .0
 
     pub run-words : Words (ran s (p .regular) (p .alternate) budget .words)
     run-words =
         by-eq number 0
-        (λ e. rw (run-done e) (run-ready p s (start e) budget .lent .words))
+        (λ e. rw (run-done e) (run-ran p s (start e) budget .ready .lent .words))
         (λ d. rw (run-refused d) words)

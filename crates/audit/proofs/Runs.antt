@@ -17,12 +17,14 @@ use Rattle.segment.proofs.Words.{words-set}
 use Rattle.acceptance.specs.Structure.{Accepted}
 use Rattle.manual.specs.Traps.{listed}
 use Rattle.manual.proofs.Traps.{traps-listed}
+use Rattle.tally.specs.Counts.{counted}
 use Rattle.effects.specs.declared.Stepped.{Stepped}
 use Rattle.effects.specs.declared.Stepped.the-variants as S
 use Rattle.effects.specs.declared.Ran.{Ran}
 use Rattle.effects.specs.Step.{stepOf}
 use Rattle.effects.specs.Run as stepping
 use Rattle.effects.specs.Run.{following, stepsFrom, runOf}
+use Rattle.effects.specs.Tally.{firstByte, tallying, talliedFrom}
 use Rattle.effects_theorems.proofs.Tests.{never}
 use Rattle.operations.specs.Run as operations
 use Rattle.step_theorems.proofs.Again.{trap-accepted}
@@ -30,6 +32,7 @@ use Rattle.step_theorems.proofs.Planned.{plan-listed}
 use Rattle.audit.specs.Calls.{Procedures, Answer, ran, trapped, runAnswer, Passes}
 use Rattle.audit.specs.Steps.{StepOutcome, trapsBy, finishes, Step, traps, full, does, inVain}
 use Rattle.audit.specs.Runs.{Runs, over, goesOn, traced, stops, RequestInVain, SomeRequestInVain, ReportsFull}
+use Rattle.audit.specs.Replays.{countsAfter}
 use Rattle.audit.proofs.Accepts.{accepted-of, passes-of}
 use Rattle.audit.proofs.Steps.{outcomeFrom, Some, step-done, step-accepted, step-words}
 
@@ -57,23 +60,34 @@ module _ (p : Procedures) where
     accepted = step-accepted s p (r .lent) (r .accepted);
   }
 
-  record RanFrom (budget steps : ℕ) (s : List ℕ) (o : stepping.RunResult) : Type 0 where
-    runs : Runs p budget steps s (answerOf (o .answer)) (o .words)
-    ready : Ready (o .words) p
+  -- the instruction of `s` has finished
+  abbrev more : List ℕ → List ℕ → List ℕ
+  more s before = counted (firstByte regular alternate s) before
 
-  run-from : (budget steps : ℕ) (s : List ℕ) → Ready s p → RanFrom budget steps s (stepsFrom budget steps regular alternate s)
-  unfolding stepsFrom
-  run-from zero steps s r = record { runs = over; ready = r }
+  -- with the counts that the steps leave of those before them
+  pub record RanFrom (budget steps : ℕ) (s : List ℕ) (o : stepping.RunResult) (tally : List ℕ → List ℕ) : Type 0 where
+    pub runs : Runs p budget steps s (answerOf (o .answer)) (o .words)
+    pub ready : Ready (o .words) p
+    pub counts : (before : List ℕ) → countsAfter runs before ≡ tally before
+
+  abbrev RunsOn : ℕ → ℕ → List ℕ → Type 0
+  RunsOn budget steps s = RanFrom budget steps s (stepsFrom budget steps regular alternate s) (λ before. talliedFrom budget before regular alternate s)
+
+  run-from : (budget steps : ℕ) (s : List ℕ) → Ready s p → RunsOn budget steps s
+  unfolding stepsFrom talliedFrom
+  run-from zero steps s r = record { runs = over; ready = r; counts = λ before. refl }
   run-from (suc budget) steps s r =
       go (stepOf regular alternate s .answer) (stepOf regular alternate s .words) (step-done s p (r .lent) (r .accepted)) (next-ready s r)
       (λ t k. run-from budget (steps + 1) t k)
     where
-      go : (answer : Stepped) (t : List ℕ) → Step p s (outcomeFrom answer) t × Some answer → Ready t p
-          → ((u : List ℕ) → Ready u p → RanFrom budget (steps + 1) u (stepsFrom budget (steps + 1) regular alternate u))
+      go : (answer : Stepped) (t : List ℕ) → Step p s (outcomeFrom answer) t × Some answer → Ready t p → ((u : List ℕ) → Ready u p → RunsOn budget (steps + 1) u)
           → RanFrom (suc budget) steps s (following steps answer t (λ u. stepsFrom budget (steps + 1) regular alternate u))
-      go S.Finished t e k more = record { runs = goesOn (passes-of s p (r .accepted)) (e .0) (more t k .runs); ready = more t k .ready }
-      go (S.Traced class number) t e k more = record { runs = traced (passes-of s p (r .accepted)) (e .1) (e .0); ready = k }
-      go (S.Trapped class number) t e k more = record { runs = stops (passes-of s p (r .accepted)) (e .0); ready = k }
+          (λ before. tallying answer before (more s before) (λ after. talliedFrom budget after regular alternate t))
+      go S.Finished t e k later =
+          let rest = later t k in
+          record { runs = goesOn (passes-of s p (r .accepted)) (e .0) (rest .runs); ready = rest .ready; counts = λ before. rest .counts (more s before) }
+      go (S.Traced class number) t e k later = record { runs = traced (passes-of s p (r .accepted)) (e .1) (e .0); ready = k; counts = λ before. refl }
+      go (S.Trapped class number) t e k later = record { runs = stops (passes-of s p (r .accepted)) (e .0); ready = k; counts = λ before. refl }
 
   -- a run sets word 3 to zero first
   started : (s : List ℕ) → Ready s p → Ready (set s 3 0) p
@@ -82,13 +96,9 @@ module _ (p : Procedures) where
     accepted = trap-accepted s regular alternate (r .accepted) 0 (omega arith);
   }
 
-  pub run-steps : (s : List ℕ) → Ready s p → (budget : ℕ) → Runs p budget 0 (set s 3 0) (answerOf (runOf regular alternate s budget .answer)) (runOf regular alternate s budget .words)
+  pub run-ran : (s : List ℕ) → Ready s p → (budget : ℕ) → RanFrom budget 0 (set s 3 0) (runOf regular alternate s budget) (λ before. talliedFrom budget before regular alternate (set s 3 0))
   unfolding runOf
-  run-steps s r budget = run-from budget 0 (set s 3 0) (started s r) .runs
-
-  pub run-ready : (s : List ℕ) → Ready s p → (budget : ℕ) → Ready (runOf regular alternate s budget .words) p
-  unfolding runOf
-  run-ready s r budget = run-from budget 0 (set s 3 0) (started s r) .ready
+  run-ran s r budget = run-from budget 0 (set s 3 0) (started s r)
 
 -- ---- the trap word, and what was counted
 

@@ -1,4 +1,4 @@
--- What a replay does: the calls that its records are, one after the other, and what they count. Document 02, paper 1; decision 82.
+-- What a replay does: the calls that its records are, one after the other, and what they count. Document 02, paper 1; decisions 83 to 85.
 -- The contract of `replay` is this relation. Assumes nothing.
 use Prim.Native.Nat.{ℕ, _+_, _<_}
 use mathlib.Core.Path.{_≡_}

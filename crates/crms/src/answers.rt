@@ -1,5 +1,5 @@
 // Answers on standard output, a line each.
-use crate::session::first_bytes;
+use crate::buffers::first_bytes;
 use libc::STDOUT_FILENO;
 use line_tool::explain::Last;
 use line_tool::explain::put_last;
@@ -14,12 +14,13 @@ use line_tool::writing::put;
 use line_tool::writing::put_decimal;
 use line_tool::writing::put_hex;
 
-pub fn error(out: &mut [u8], fault: Fault, line: &[u8], token: Token) {
-    let a = put(out, 0, b"error ");
-    let b = put_fault(out, a, fault);
-    let c = put(out, b, b": ");
-    let d = put_token(out, c, text(line, shown(line, token)));
-    end(out, d);
+pub fn error(fault: Fault, line: &[u8], token: Token) {
+    let mut out = io::buffer();
+    let a = put(&mut out, 0, b"error ");
+    let b = put_fault(&mut out, a, fault);
+    let c = put(&mut out, b, b": ");
+    let d = put_token(&mut out, c, text(line, shown(line, token)));
+    end(&mut out, d);
 }
 
 // Where the line ends too soon, what there is of it.
@@ -34,67 +35,104 @@ fn shown(line: &[u8], token: Token) -> Token {
 }
 
 // A command's name, with a blank, and a status.
-pub fn status(out: &mut [u8], name: &[u8], n: u8) {
-    let a = put(out, 0, name);
-    let b = put_decimal(out, a, n as u32);
-    end(out, b);
+pub fn status(name: &[u8], n: u8) {
+    let mut out = io::buffer();
+    let a = put(&mut out, 0, name);
+    let b = put_decimal(&mut out, a, n as u32);
+    end(&mut out, b);
 }
 
-pub fn ran(out: &mut [u8], n: u8, steps: u32, trap: u32) {
-    let a = put(out, 0, b"run ");
+pub fn ran(n: u8, steps: u32, trap: u32) {
+    let mut out = io::buffer();
+    let a = put(&mut out, 0, b"run ");
+    let b = put_decimal(&mut out, a, n as u32);
+    let c = put(&mut out, b, b" ");
+    let d = put_decimal(&mut out, c, steps);
+    let e = put(&mut out, d, b" ");
+    let f = put_hex(&mut out, e, trap);
+    end(&mut out, f);
+}
+
+// A replay that halted at a place of the file.
+pub fn halted(n: u8, place: usize) {
+    let mut out = io::buffer();
+    let a = put_halted(&mut out, n, place);
+    end(&mut out, a);
+}
+
+pub fn halted_by_trap(place: usize, trap: u32) {
+    let mut out = io::buffer();
+    let a = put_halted(&mut out, 3, place);
+    let b = put(&mut out, a, b" ");
+    let c = put_hex(&mut out, b, trap);
+    end(&mut out, c);
+}
+
+fn put_halted(out: &mut [u8], n: u8, place: usize) -> usize {
+    let a = put(out, 0, b"replay ");
     let b = put_decimal(out, a, n as u32);
     let c = put(out, b, b" ");
-    let d = put_decimal(out, c, steps);
-    let e = put(out, d, b" ");
-    let f = put_hex(out, e, trap);
-    end(out, f);
+    put_decimal(out, c, (place % 0x1_0000_0000) as u32)
 }
 
-pub fn scalar(out: &mut [u8], word: u32) {
-    let a = put(out, 0, b"look 0 scalar ");
-    let b = put_hex(out, a, word);
-    end(out, b);
+pub fn scalar(word: u32) {
+    let mut out = io::buffer();
+    let a = put(&mut out, 0, b"look 0 scalar ");
+    let b = put_hex(&mut out, a, word);
+    end(&mut out, b);
 }
 
-pub fn array(out: &mut [u8], lengths: &[u32], elements: &[u32]) {
-    let a = put(out, 0, b"look 0 array ");
-    let b = put_decimal(out, a, (lengths.len() % 0x1_0000_0000) as u32);
-    let c = put_all(out, b, Base::Decimal, lengths);
-    let d = put(out, c, b" |");
-    let e = put_all(out, d, Base::Hex, elements);
-    end(out, e);
+pub fn array(lengths: &[u32], elements: &[u32]) {
+    let mut out = io::large_buffer();
+    let a = put(&mut out, 0, b"look 0 array ");
+    let b = put_decimal(&mut out, a, (lengths.len() % 0x1_0000_0000) as u32);
+    let c = put_all(&mut out, b, Base::Decimal, lengths);
+    let d = put(&mut out, c, b" |");
+    let e = put_all(&mut out, d, Base::Hex, elements);
+    end(&mut out, e);
 }
 
-pub fn dump(out: &mut [u8], seg: &[u32]) {
-    let a = put(out, 0, b"dump");
-    let b = put_all(out, a, Base::Hex, seg);
-    end(out, b);
+pub fn dump(seg: &[u32]) {
+    let mut out = io::large_buffer();
+    let a = put(&mut out, 0, b"dump");
+    let b = put_all(&mut out, a, Base::Hex, seg);
+    end(&mut out, b);
 }
 
-pub fn hash(out: &mut [u8], h: u32) {
-    let a = put(out, 0, b"hash ");
-    let b = put_hex(out, a, h);
-    end(out, b);
+pub fn hash(h: u32) {
+    let mut out = io::buffer();
+    let a = put(&mut out, 0, b"hash ");
+    let b = put_hex(&mut out, a, h);
+    end(&mut out, b);
 }
 
-pub fn explain(out: &mut [u8], last: Last) {
-    let a = put_last(out, 0, last);
-    end(out, a);
+pub fn tally(counts: &[u32]) {
+    let mut out = io::buffer();
+    let a = put(&mut out, 0, b"tally");
+    let b = put_all(&mut out, a, Base::Decimal, counts);
+    end(&mut out, b);
 }
 
-pub fn help(out: &mut [u8]) {
+pub fn explain(last: Last) {
+    let mut out = io::buffer();
+    let a = put_last(&mut out, 0, last);
+    end(&mut out, a);
+}
+
+pub fn help() {
+    let mut out = io::buffer();
     let a = put(
-        out,
+        &mut out,
         0,
-        b"seg N, word I HEX, words I HEX .., reg HEXBYTES, alt HEXBYTES, ",
+        b"seg N, word I HEX, words I HEX .., reg HEXBYTES, alt HEXBYTES, file HEXBYTES, ",
     );
     let b = put(
-        out,
+        &mut out,
         a,
         b"layout P FN GLOBALS ARRAYWORDS, run BUDGET, load ADDR RANK LEN .. | HEX .., look ADDR, ",
     );
-    let c = put(out, b, b"dump, hash, explain, help");
-    end(out, c);
+    let c = put(&mut out, b, b"replay, dump, hash, tally, explain, help");
+    end(&mut out, c);
 }
 
 // Numbers, each after a blank. They may be more than the buffer holds.
@@ -142,8 +180,9 @@ fn flush(out: &[u8], at: usize) {
 }
 
 // Told on standard error, with the reason why the last call failed.
-pub fn cannot_read(name: &[u8], out: &mut [u8]) {
-    let a = put(out, 0, b"crms: cannot read ");
-    let b = put(out, a, name);
-    os::fail(first_bytes(out, b));
+pub fn cannot_read(name: &[u8]) {
+    let mut out = io::large_buffer();
+    let a = put(&mut out, 0, b"crms: cannot read ");
+    let b = put(&mut out, a, name);
+    os::fail(first_bytes(&out, b));
 }

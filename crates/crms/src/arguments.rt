@@ -15,29 +15,23 @@ pub enum Place {
 }
 
 // So many decimal numbers and nothing else?
-pub fn takes(count: usize, line: &[u8], at: usize, numbers: &mut [u32], out: &mut [u8]) -> bool {
-    let Place::After(next) = decimals(count, line, at, numbers, out) else {
+pub fn takes(count: usize, line: &[u8], at: usize, numbers: &mut [u32]) -> bool {
+    let Place::After(next) = decimals(count, line, at, numbers) else {
         return false;
     };
-    ends(line, next, out)
+    ends(line, next)
 }
 
 // The place after so many decimal numbers.
-pub fn decimals(
-    count: usize,
-    line: &[u8],
-    at: usize,
-    numbers: &mut [u32],
-    out: &mut [u8],
-) -> Place {
+pub fn decimals(count: usize, line: &[u8], at: usize, numbers: &mut [u32]) -> Place {
     match numbers_at(Base::Decimal, line, at, count, numbers) {
         Listed::Wrong(fault, token) => {
-            error(out, fault, line, token);
+            error(fault, line, token);
             Place::Wrong
         }
         Listed::Numbers(n, next) => {
             if n < count {
-                missing(line, next, out);
+                missing(line, next);
                 return Place::Wrong;
             }
             Place::After(next)
@@ -46,28 +40,28 @@ pub fn decimals(
 }
 
 // The place after so many lengths and the bar.
-pub fn lengths(rank: usize, line: &[u8], at: usize, numbers: &mut [u32], out: &mut [u8]) -> Place {
-    let Place::After(next) = decimals(rank, line, at, numbers, out) else {
+pub fn lengths(rank: usize, line: &[u8], at: usize, numbers: &mut [u32]) -> Place {
+    let Place::After(next) = decimals(rank, line, at, numbers) else {
         return Place::Wrong;
     };
     let bar = token_at(line, next);
     if is(text(line, bar), b"|") {
         return Place::After(bar.end);
     }
-    error(out, Fault::NoBar, line, bar);
+    error(Fault::NoBar, line, bar);
     Place::Wrong
 }
 
 // Is a place the end of the line?
-pub fn ends(line: &[u8], at: usize, out: &mut [u8]) -> bool {
+pub fn ends(line: &[u8], at: usize) -> bool {
     let token = token_at(line, at);
     if token.is_empty() {
         return true;
     }
-    error(out, Fault::Extra, line, token);
+    error(Fault::Extra, line, token);
     false
 }
 
-pub fn missing(line: &[u8], at: usize, out: &mut [u8]) {
-    error(out, Fault::Missing, line, Token { start: at, end: at });
+pub fn missing(line: &[u8], at: usize) {
+    error(Fault::Missing, line, Token { start: at, end: at });
 }

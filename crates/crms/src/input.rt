@@ -1,9 +1,9 @@
 // The lines of one file, each obeyed as soon as it has ended.
 use crate::answers::cannot_read;
 use crate::answers::error;
+use crate::buffers::first_bytes;
 use crate::commands::obey;
 use crate::session::Session;
-use crate::session::first_bytes;
 use line_tool::fault::Fault;
 use line_tool::tokens::is_passed_over;
 use line_tool::tokens::line_end;
@@ -11,29 +11,10 @@ use line_tool::tokens::token_at;
 use line_tool::writing::put;
 
 // All lines of a file, in a session of their own. The last may lack its line feed.
-pub fn obey_all(
-    fd: i32,
-    name: &[u8],
-    line: &mut [u8],
-    numbers: &mut [u32],
-    data: &mut [u32],
-    regular: &mut [u8],
-    alternate: &mut [u8],
-    out: &mut [u8],
-) {
+pub fn obey_all(fd: i32, name: &[u8], line: &mut [u8], data: &mut [u32], bytes: &mut [u8]) {
     let mut buffer = io::large_buffer();
-    let session = read_all(
-        fd,
-        name,
-        &mut buffer,
-        line,
-        numbers,
-        data,
-        regular,
-        alternate,
-        out,
-    );
-    end_line(session, line, numbers, data, regular, alternate, out);
+    let session = read_all(fd, name, &mut buffer, line, data, bytes);
+    end_line(session, line, data, bytes);
 }
 
 // Reads until the file ends. Where it cannot be read on, the line that was begun is dropped.
@@ -42,86 +23,58 @@ fn read_all(
     name: &[u8],
     buffer: &mut [u8],
     line: &mut [u8],
-    numbers: &mut [u32],
     data: &mut [u32],
-    regular: &mut [u8],
-    alternate: &mut [u8],
-    out: &mut [u8],
+    bytes: &mut [u8],
 ) -> Session {
     let mut session = Session::new();
     let mut left: u64 = 0xffff_ffff_ffff_ffff;
     while 0 < left {
         let got = libc::read(fd, buffer);
         if got < 0 {
-            cannot_read(name, out);
+            cannot_read(name);
             return session.with_held(0, false);
         }
         let n = io::count(got, buffer);
         if n == 0 {
             return session;
         }
-        session = take(
-            session,
-            &buffer[..n],
-            line,
-            numbers,
-            data,
-            regular,
-            alternate,
-            out,
-        );
+        session = take(session, &buffer[..n], line, data, bytes);
         left -= 1;
     }
     session
 }
 
-// Bytes of the file: each line that ends in them is obeyed, and what is left is held.
+// Text of the file: each line that ends in it is obeyed, and what is left is held.
 fn take(
     start: Session,
-    bytes: &[u8],
+    text: &[u8],
     line: &mut [u8],
-    numbers: &mut [u32],
     data: &mut [u32],
-    regular: &mut [u8],
-    alternate: &mut [u8],
-    out: &mut [u8],
+    bytes: &mut [u8],
 ) -> Session {
     let mut session = start;
     let mut at = 0;
-    while at < bytes.len() {
-        let end = line_end(bytes, at);
+    while at < text.len() {
+        let end = line_end(text, at);
         let next = end + 1;
-        session = take_part(
-            session,
-            &bytes[at..end],
-            end < bytes.len(),
-            line,
-            numbers,
-            data,
-            regular,
-            alternate,
-            out,
-        );
+        session = take_part(session, &text[at..end], end < text.len(), line, data, bytes);
         at = next;
     }
     session
 }
 
-// Bytes of one line, which may end with them.
+// A part of one line, which may end with it.
 fn take_part(
     session: Session,
     part: &[u8],
     ends: bool,
     line: &mut [u8],
-    numbers: &mut [u32],
     data: &mut [u32],
-    regular: &mut [u8],
-    alternate: &mut [u8],
-    out: &mut [u8],
+    bytes: &mut [u8],
 ) -> Session {
     let longer = hold(session, part, line);
     if ends {
-        return end_line(longer, line, numbers, data, regular, alternate, out);
+        return end_line(longer, line, data, bytes);
     }
     longer
 }
@@ -141,34 +94,26 @@ fn hold(session: Session, more: &[u8], line: &mut [u8]) -> Session {
 }
 
 // The line that is held has ended.
-fn end_line(
-    session: Session,
-    line: &[u8],
-    numbers: &mut [u32],
-    data: &mut [u32],
-    regular: &mut [u8],
-    alternate: &mut [u8],
-    out: &mut [u8],
-) -> Session {
+fn end_line(session: Session, line: &[u8], data: &mut [u32], bytes: &mut [u8]) -> Session {
     let next = session.with_held(0, false);
     let whole = first_bytes(line, session.held);
     if session.long {
-        end_long_line(whole, out);
+        end_long_line(whole);
         return next;
     }
     if is_passed_over(whole) {
         return next;
     }
-    obey(next, whole, numbers, data, regular, alternate, out)
+    obey(next, whole, data, bytes)
 }
 
 // Of a line that is too long only the beginning is known: it may be passed over as a comment, but not as a blank line.
-fn end_long_line(beginning: &[u8], out: &mut [u8]) {
+fn end_long_line(beginning: &[u8]) {
     let first = token_at(beginning, 0);
     if is_passed_over(beginning) {
         if !first.is_empty() {
             return;
         }
     }
-    error(out, Fault::LongLine, beginning, first);
+    error(Fault::LongLine, beginning, first);
 }

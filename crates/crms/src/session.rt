@@ -1,5 +1,4 @@
-// What the tool holds besides its buffers: how much of each is in use, and what was answered last.
-ghost use Prim.Native.Nat.{_≤_};
+// What the tool holds besides its buffers: how much of each is in use, what was answered last, and what the last replay counted.
 use line_tool::explain::Last;
 
 pub struct Session {
@@ -9,7 +8,9 @@ pub struct Session {
     pub words: usize,
     pub regular: usize,
     pub alternate: usize,
+    pub file: usize,
     pub last: Last,
+    pub counts: [u32; 8],
 }
 
 impl Session {
@@ -20,7 +21,9 @@ impl Session {
             words: 0,
             regular: 0,
             alternate: 0,
+            file: 0,
             last: Last::Nothing,
+            counts: [0u32; 8],
         }
     }
 
@@ -45,40 +48,26 @@ impl Session {
         self
     }
 
+    pub fn with_file(mut self, n: usize) -> Session {
+        self.file = n;
+        self
+    }
+
     pub fn with_last(self, last: Last) -> Session {
+        let counts = self.counts;
+        self.with_replayed(last, counts)
+    }
+
+    pub fn with_replayed(self, last: Last, counts: [u32; 8]) -> Session {
         Session {
             held: self.held,
             long: self.long,
             words: self.words,
             regular: self.regular,
             alternate: self.alternate,
+            file: self.file,
             last,
+            counts,
         }
     }
-}
-
-// The part of a buffer that is in use.
-pub fn first_words(words: &[u32], n: usize) -> &[u32] {
-    if words.len() < n {
-        return words;
-    }
-    &words[0..n]
-}
-
-pub fn words_from(words: &[u32], n: usize) -> &[u32] {
-    let from = least(n, words.len());
-    &words[from..]
-}
-
-pub fn first_bytes(bytes: &[u8], n: usize) -> &[u8] {
-    if bytes.len() < n {
-        return bytes;
-    }
-    &bytes[0..n]
-}
-
-pub fn least(a: usize, b: usize) -> usize
-    ensures { λ r. ⌜ r ≤ b ⌝ }
-{
-    if a < b { a } else { b }
 }

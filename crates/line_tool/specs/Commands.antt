@@ -6,7 +6,7 @@ use mathlib.Core.List.{List, [], _∷_}
 use lib.Dec.{eqb}
 use Rattle.line_tool.specs.Text.{bytes}
 use Rattle.line_tool.specs.declared.command.Command.{Command}
-use Rattle.line_tool.specs.declared.command.Command.the-variants.{Seg, Word, Words, Reg, Alt, Layout, Run, Load, Look, Dump, Hash, Explain, Help, Unknown}
+use Rattle.line_tool.specs.declared.command.Command.the-variants.{Seg, Word, Words, Reg, Alt, File, Layout, Run, Load, Look, Replay, Dump, Hash, Tally, Explain, Help, Unknown}
 
 -- Two texts are the same.
 unfoldable pub is : List ℕ → List ℕ → Bool
@@ -20,18 +20,20 @@ unfoldable pub questionOf : List ℕ → Command
 questionOf word =
     cond (is word (bytes "dump")) Dump
     (cond (is word (bytes "hash")) Hash
+    (cond (is word (bytes "tally")) Tally
     (cond (is word (bytes "explain")) Explain
     (cond (is word (bytes "help")) Help
-    Unknown)))
+    Unknown))))
 
--- The commands over the four operations.
+-- The commands over the operations.
 unfoldable pub operationOf : List ℕ → Command
 operationOf word =
     cond (is word (bytes "layout")) Layout
     (cond (is word (bytes "run")) Run
     (cond (is word (bytes "load")) Load
     (cond (is word (bytes "look")) Look
-    (questionOf word))))
+    (cond (is word (bytes "replay")) Replay
+    (questionOf word)))))
 
 -- First those that set what the operations are lent.
 unfoldable pub commandOf : List ℕ → Command
@@ -41,7 +43,8 @@ commandOf word =
     (cond (is word (bytes "words")) Words
     (cond (is word (bytes "reg")) Reg
     (cond (is word (bytes "alt")) Alt
-    (operationOf word)))))
+    (cond (is word (bytes "file")) File
+    (operationOf word))))))
 
 same : is (bytes "run") (bytes "run") ≡ true
 unfolding is

@@ -37,6 +37,7 @@ statuses =
     ∷ (22, "the global is undefined")
     ∷ (23, "rank above 15, a length above 65535, a count that is not the lengths' product, or a word that is no scalar")
     ∷ (24, "no free block is long enough")
+    ∷ (25, "no record stands at that place of the file")
     ∷ []
 
 unfoldable pub statusWords : ℕ → String
@@ -109,6 +110,10 @@ a-frame = refl
 undefined-global : lastText (Status 22) ≡ bytes "status 22: the global is undefined"
 unfolding lastText statusText statusWords decimal
 undefined-global = refl
+
+no-record : lastText (Status 25) ≡ bytes "status 25: no record stands at that place of the file"
+unfolding lastText statusText statusWords decimal
+no-record = refl
 
 no-status : lastText (Status 1) ≡ bytes "status 1: no such status"
 unfolding lastText statusText statusWords decimal

@@ -20,6 +20,7 @@ faultText F.NotHex = "not only digits 0 to 9 and a to f"
 faultText F.TooLong = "a word of more than 8 digits"
 faultText F.Odd = "an odd number of digits, two are a byte"
 faultText F.TooManyBytes = "more than 40000 bytes"
+faultText F.LongFile = "more than 100000 bytes"
 faultText F.TooManyWords = "more than 40000 words"
 faultText F.PastEnd = "past the end of the segment"
 faultText F.NoBar = "no bar | where the lengths end"
@@ -36,10 +37,11 @@ faultLine F.NotHex = 5
 faultLine F.TooLong = 6
 faultLine F.Odd = 7
 faultLine F.TooManyBytes = 8
-faultLine F.TooManyWords = 9
-faultLine F.PastEnd = 10
-faultLine F.NoBar = 11
-faultLine F.LongLine = 12
+faultLine F.LongFile = 9
+faultLine F.TooManyWords = 10
+faultLine F.PastEnd = 11
+faultLine F.NoBar = 12
+faultLine F.LongLine = 13
 
 -- A token of an error: its first 40 bytes.
 unfoldable pub shown : List ℕ → List ℕ

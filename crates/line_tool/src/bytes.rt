@@ -1,4 +1,4 @@
-// The bytes of a procedure segment: two HEX digits a byte, - for none.
+// The bytes of a procedure segment or of a file of imports: two HEX digits a byte, - for none.
 ghost use mathlib.Core.Path.{_≡_};
 ghost use lib.Seq.{sets};
 ghost use Rattle.line_tool.specs.Bytes as meaning;
@@ -11,9 +11,9 @@ pub enum Counted {
     Wrong(Fault),
 }
 
-// How many bytes a word writes, of which there is room for so many.
-pub fn count(word: &[u8], room: usize) -> Counted
-    ensures { λ r. ⌜ r ≡ meaning.byteCount (now (word .entry)) room ⌝ }
+// How many bytes a word writes, of which there is room for so many; the fault where it writes more.
+pub fn count(word: &[u8], room: usize, more: Fault) -> Counted
+    ensures { λ r. ⌜ r ≡ meaning.byteCount (now (word .entry)) room more ⌝ }
 {
     if word.len() == 0 {
         return Counted::Wrong(Fault::Missing);
@@ -28,7 +28,7 @@ pub fn count(word: &[u8], room: usize) -> Counted
         return Counted::Wrong(Fault::Odd);
     }
     if room < word.len() / 2 {
-        return Counted::Wrong(Fault::TooManyBytes);
+        return Counted::Wrong(more);
     }
     Counted::Bytes(word.len() / 2)
 }

@@ -8,12 +8,15 @@ pub enum Command {
     Words,
     Reg,
     Alt,
+    File,
     Layout,
     Run,
     Load,
     Look,
+    Replay,
     Dump,
     Hash,
+    Tally,
     Explain,
     Help,
     Unknown,
@@ -37,10 +40,13 @@ pub fn command_of(word: &[u8]) -> Command
     if is(word, b"alt") {
         return Command::Alt;
     }
+    if is(word, b"file") {
+        return Command::File;
+    }
     operation_of(word)
 }
 
-// The commands over the four operations.
+// The commands over the operations.
 fn operation_of(word: &[u8]) -> Command
     ensures { λ r. ⌜ r ≡ meaning.operationOf (now (word .entry)) ⌝ }
 {
@@ -56,6 +62,9 @@ fn operation_of(word: &[u8]) -> Command
     if is(word, b"look") {
         return Command::Look;
     }
+    if is(word, b"replay") {
+        return Command::Replay;
+    }
     question_of(word)
 }
 
@@ -68,6 +77,9 @@ fn question_of(word: &[u8]) -> Command
     }
     if is(word, b"hash") {
         return Command::Hash;
+    }
+    if is(word, b"tally") {
+        return Command::Tally;
     }
     if is(word, b"explain") {
         return Command::Explain;

@@ -16,6 +16,7 @@ pub enum Fault {
     TooLong,
     Odd,
     TooManyBytes,
+    LongFile,
     TooManyWords,
     PastEnd,
     NoBar,
@@ -34,6 +35,7 @@ not only digits 0 to 9 and a to f
 a word of more than 8 digits
 an odd number of digits, two are a byte
 more than 40000 bytes
+more than 100000 bytes
 more than 40000 words
 past the end of the segment
 no bar | where the lengths end
@@ -56,10 +58,11 @@ fn line_of(fault: Fault) -> usize
         Fault::TooLong => 6,
         Fault::Odd => 7,
         Fault::TooManyBytes => 8,
-        Fault::TooManyWords => 9,
-        Fault::PastEnd => 10,
-        Fault::NoBar => 11,
-        Fault::LongLine => 12,
+        Fault::LongFile => 9,
+        Fault::TooManyWords => 10,
+        Fault::PastEnd => 11,
+        Fault::NoBar => 12,
+        Fault::LongLine => 13,
     }
 }
 

@@ -9,14 +9,16 @@ use borrow.Author.Tests.{eq-eqb, ne-eqb, eqb-true, eqb-false}
 use mir.Val.{boolByte}
 use Rattle.procedure.specs.declared.header.Block.{Block}
 use Rattle.procedure.specs.declared.directory.Function.the-variants as F
+use Rattle.procedure.specs.Bytes.{byteAt}
 use Rattle.procedure.specs.Directory.{selected, functionOf}
 use Rattle.segment.specs.State.{lbase, flags, stepFlag, setTrap}
 use Rattle.segment.specs.Stack.{codeWordAt, alternateBit as bitP, functionNumber, pctr}
-use Rattle.manual.specs.Instructions.{Running, running, headerOf, planAt}
+use Rattle.manual.specs.Instructions.{Running, running, headerOf, codeIn, planAt}
 use Rattle.effects.specs.declared.Outcome.{Outcome}
 use Rattle.effects.specs.Carried.{CarriesOut}
 use Rattle.effects.specs.declared.Stepped.the-variants.{Finished, Traced, Trapped}
 use Rattle.machine.specs.Resuming.{stepAt}
+use Rattle.effects.specs.Tally.{firstIn, firstByte}
 use Rattle.effects.specs.Step.{stepResult, selectorOf, currentFunction, trapped, finished, settled, settle, stepIn, stepFound, stepOf}
 
 -- a class and a number of eight bits are themselves
@@ -78,15 +80,28 @@ module _ (s : List ℕ) where
     unfolding stepOf
     found = rw (← P, ← n)
 
+    first : firstIn (selected selector regular alternate) s (functionOf (selected selector regular alternate) number) ≡ firstByte regular alternate s
+    unfolding firstByte
+    first = rw (← P, ← n)
+
     pub step-absent : functionOf (selected selector regular alternate) number ≡ F.Absent → trapped s 3 1 ≡ stepOf regular alternate s
     step-absent is = ap (stepFound regular alternate s selector) (sym is) ∙ found
 
-    pub step-found : (block : Block) → functionOf (selected selector regular alternate) number ≡ F.At block → stepIn (running regular alternate selector block) s ≡ stepOf regular alternate s
-    step-found block is = ap (stepFound regular alternate s selector) (sym is) ∙ found
+    module _ (block : Block) (is : functionOf (selected selector regular alternate) number ≡ F.At block) where
+      pub step-found : stepIn (running regular alternate selector block) s ≡ stepOf regular alternate s
+      step-found = ap (stepFound regular alternate s selector) (sym is) ∙ found
+
+      pub first-found : firstIn (selected selector regular alternate) s (F.At block) ≡ firstByte regular alternate s
+      first-found = ap (firstIn (selected selector regular alternate) s) (sym is) ∙ first
 
   -- the function that the second word of the current frame tells at once
-  pub step-here : (regular alternate : List ℕ) (P : Bool) {number : ℕ} (block : Block) {w : ℕ} → number < 2 ^ 11 → functionOf (selected P regular alternate) number ≡ F.At block → w ≡ codeWordAt s (lbase s) → w / 2 ^ 16 % 2 ^ 12 ≡ number + 2048 * boolByte P → stepIn (running regular alternate P block) s ≡ stepOf regular alternate s
-  step-here regular alternate P {number} block {w} small is held same =
-      let word = codeWordAt s (lbase s) in
-      let told : word / 2 ^ 16 % 2 ^ 12 ≡ number + 2048 * boolByte P = rw (← held) same in
-      step-found regular alternate (selector-of word number small P told) (number-of word number small P told) block is
+  module _ (regular alternate : List ℕ) (P : Bool) {number : ℕ} (block : Block) {w : ℕ} (small : number < 2 ^ 11) (is : functionOf (selected P regular alternate) number ≡ F.At block) (held : w ≡ codeWordAt s (lbase s)) (same : w / 2 ^ 16 % 2 ^ 12 ≡ number + 2048 * boolByte P) where
+    told : codeWordAt s (lbase s) / 2 ^ 16 % 2 ^ 12 ≡ number + 2048 * boolByte P
+    told = rw (← held) same
+
+    pub step-here : stepIn (running regular alternate P block) s ≡ stepOf regular alternate s
+    step-here = step-found regular alternate (selector-of (codeWordAt s (lbase s)) number small P told) (number-of (codeWordAt s (lbase s)) number small P told) block is
+
+    -- the first byte there, of the function's code
+    pub first-here : {code : List ℕ} {place : ℕ} → code ≡ codeIn (running regular alternate P block) → place ≡ pctr (codeWordAt s (lbase s)) → byteAt code place ≡ firstByte regular alternate s
+    first-here {code} {place} bytes counted = rw (bytes, counted) (first-found regular alternate (selector-of (codeWordAt s (lbase s)) number small P told) (number-of (codeWordAt s (lbase s)) number small P told) block is)

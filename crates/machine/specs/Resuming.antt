@@ -12,6 +12,7 @@ use Rattle.effects.specs.Seen.{seen}
 use Rattle.effects.specs.Carried.{carry}
 use Rattle.effects.specs.Step.{StepResult, selectorOf, currentFunction, settle}
 use Rattle.effects.specs.Run.{RunResult, runResult, stepsFrom}
+use Rattle.effects.specs.Tally.{talliedFrom}
 
 -- A step of the instruction at that place of the function `f`, wherever PCTR is.
 abbrev pub stepAt : Running → ℕ → List ℕ → StepResult
@@ -23,17 +24,34 @@ pub record Current (f : Running) (number : ℕ) (s : List ℕ) : Type 0 where
   pub selects : selectorOf s ≡ f .selector
   pub numbers : currentFunction s ≡ number
 
+-- A run with its counts: what it answers, the words and the counts after it.
+pub record Whole : Type 0 where
+  pub result : RunResult
+  pub counts : List ℕ
+
+-- A run that has ended.
+abbrev pub ending : Ran → List ℕ → List ℕ → Whole
+ending r counts s = record { result = runResult r s; counts = counts }
+
+-- A run of at most `budget` more instructions, so many having finished before it.
+abbrev pub whole : ℕ → ℕ → List ℕ → List ℕ → List ℕ → List ℕ → Whole
+whole budget steps regular alternate counts s = record {
+  result = stepsFrom budget steps regular alternate s;
+  counts = talliedFrom budget counts regular alternate s;
+}
+
 -- What the whole run comes to, of `budget` instructions, when a part of it has answered so.
-abbrev pub resumed : Ran → ℕ → List ℕ → List ℕ → List ℕ → RunResult
-resumed (Done n) budget regular alternate s = stepsFrom (budget - n) n regular alternate s
-resumed (Trapped n) budget regular alternate s = runResult (Trapped n) s
+abbrev pub resumed : Ran → ℕ → List ℕ → List ℕ → List ℕ → List ℕ → Whole
+resumed (Done n) budget regular alternate counts s = whole (budget - n) n regular alternate counts s
+resumed (Trapped n) budget regular alternate counts s = ending (Trapped n) counts s
 
 -- A part that begins after `start` instructions and has not trapped has done at least one more.
 abbrev pub Advanced : ℕ → ℕ → Ran → Type 0
 Advanced start budget (Done n) = (start < n) × (n ≤ budget)
 Advanced start budget (Trapped n) = Unit {0}
 
--- A part's contract: begun after `start` instructions on the words `s`, it answers `r` and leaves the words `t`.
-abbrev pub Resumes : List ℕ → List ℕ → ℕ → ℕ → List ℕ → Ran → List ℕ → Type 0
-Resumes regular alternate start budget s r t =
-    (resumed r budget regular alternate t ≡ stepsFrom (budget - start) start regular alternate s) × Advanced start budget r
+-- A part's contract: begun after `start` instructions with the counts `before` and the words `s`, it answers `r` and leaves the
+-- counts `after` and the words `t`.
+abbrev pub Resumes : List ℕ → List ℕ → ℕ → ℕ → List ℕ → List ℕ → Ran → List ℕ → List ℕ → Type 0
+Resumes regular alternate start budget before s r after t =
+    (resumed r budget regular alternate after t ≡ whole (budget - start) start regular alternate before s) × Advanced start budget r

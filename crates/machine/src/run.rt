@@ -8,8 +8,10 @@ ghost use Rattle.segment.specs.Stack as frames;
 ghost use Rattle.manual.specs.Instructions as plan;
 ghost use Rattle.effects.specs.Step.{selectorOf, currentFunction};
 ghost use Rattle.effects.specs.Run.{runResult, stepsFrom};
+ghost use Rattle.effects.specs.Tally.{talliedFrom};
 ghost use Rattle.effects.specs.declared.Ran.the-variants as R;
-ghost use Rattle.machine.specs.Resuming.{Resumes, Current};
+ghost use Rattle.machine.specs.Resuming.{Resumes, Current, ending, whole};
+use super::counting::count_step;
 use super::step::step_in;
 use effects::Ran;
 use effects::Stepped;
@@ -22,13 +24,21 @@ use segment::state::sbase;
 use segment::state::set_trap;
 use segment::word;
 
-// At most `budget` instructions.
-pub fn run(seg: &mut [u32], regular: &[u8], alternate: &[u8], budget: u32) -> Ran
+// At most `budget` instructions. What finishes is counted where counts are lent.
+pub fn run(
+    seg: &mut [u32],
+    regular: &[u8],
+    alternate: &[u8],
+    budget: u32,
+    counts: &mut [u32],
+) -> Ran
     requires { ⌜ length (now seg) ≤ 16384 ⌝ }
     ensures { λ r. ⌜ runResult r (now (seg .exit)) ≡ stepsFrom budget 0 (now (regular .entry)) (now (alternate .entry)) (now (seg .entry)) ⌝ }
+    ensures { λ r. ⌜ now (counts .exit)
+        ≡ talliedFrom budget (now (counts .entry)) (now (regular .entry)) (now (alternate .entry)) (now (seg .entry)) ⌝ }
 {
     let mut scratch = [0u32; 16384];
-    steps_up_to(seg, regular, alternate, budget, &mut scratch)
+    steps_up_to(seg, regular, alternate, budget, counts, &mut scratch)
 }
 
 fn steps_up_to(
@@ -36,14 +46,16 @@ fn steps_up_to(
     regular: &[u8],
     alternate: &[u8],
     budget: u32,
+    counts: &mut [u32],
     scratch: &mut [u32],
 ) -> Ran
     requires { ⌜ (length (now seg) ≤ 16384) × (length (now scratch) ≡ 16384) ⌝ }
-    ensures { λ r. ⌜ runResult r (now (seg .exit)) ≡ stepsFrom budget 0 (now (regular .entry)) (now (alternate .entry)) (now (seg .entry)) ⌝ }
+    ensures { λ r. ⌜ ending r (now (counts .exit)) (now (seg .exit))
+        ≡ whole budget 0 (now (regular .entry)) (now (alternate .entry)) (now (counts .entry)) (now (seg .entry)) ⌝ }
 {
     let mut steps = 0;
     while steps < budget {
-        match run_current(seg, regular, alternate, steps, budget, scratch) {
+        match run_current(seg, regular, alternate, steps, budget, counts, scratch) {
             Ran::Trapped(n) => {
                 return Ran::Trapped(n);
             }
@@ -62,10 +74,12 @@ fn run_current(
     alternate: &[u8],
     start: u32,
     budget: u32,
+    counts: &mut [u32],
     scratch: &mut [u32],
 ) -> Ran
     requires { ⌜ (length (now seg) ≤ 16384) × (length (now scratch) ≡ 16384) × (start < budget) ⌝ }
-    ensures { λ r. ⌜ Resumes (now (regular .entry)) (now (alternate .entry)) start budget (now (seg .entry)) r (now (seg .exit)) ⌝ }
+    ensures { λ r. ⌜ Resumes (now (regular .entry)) (now (alternate .entry)) start budget (now (counts .entry)) (now (seg .entry))
+        r (now (counts .exit)) (now (seg .exit)) ⌝ }
 {
     let base = lbase(seg);
     let number = stack::function_number(seg, base);
@@ -79,6 +93,7 @@ fn run_current(
             true,
             start,
             budget,
+            counts,
             scratch,
         );
     }
@@ -91,6 +106,7 @@ fn run_current(
         false,
         start,
         budget,
+        counts,
         scratch,
     )
 }
@@ -105,12 +121,14 @@ fn run_function(
     selector: bool,
     start: u32,
     budget: u32,
+    counts: &mut [u32],
     scratch: &mut [u32],
 ) -> Ran
     requires { ⌜ (length (now seg) ≤ 16384) × (length (now scratch) ≡ 16384) × (start < budget) ⌝ }
     requires { ⌜ now p ≡ selected selector (now regular) (now alternate) ⌝ }
     requires { ⌜ (selectorOf (now seg) ≡ selector) × (currentFunction (now seg) ≡ number) ⌝ }
-    ensures { λ r. ⌜ Resumes (now (regular .entry)) (now (alternate .entry)) start budget (now (seg .entry)) r (now (seg .exit)) ⌝ }
+    ensures { λ r. ⌜ Resumes (now (regular .entry)) (now (alternate .entry)) start budget (now (counts .entry)) (now (seg .entry))
+        r (now (counts .exit)) (now (seg .exit)) ⌝ }
 {
     match find(p, number as u16) {
         Function::Absent => trap_absent(seg, start),
@@ -124,6 +142,7 @@ fn run_function(
             block.code(p),
             start,
             budget,
+            counts,
             scratch,
         ),
     }
@@ -147,12 +166,14 @@ fn steps_in(
     code: &[u8],
     start: u32,
     budget: u32,
+    counts: &mut [u32],
     scratch: &mut [u32],
 ) -> Ran
     requires { ⌜ (length (now seg) ≤ 16384) × (length (now scratch) ≡ 16384) × (start < budget) ⌝ }
     requires { ⌜ now code ≡ plan.codeIn (plan.running (now regular) (now alternate) selector block) ⌝ }
     requires { ⌜ Current (plan.running (now regular) (now alternate) selector block) number (now seg) ⌝ }
-    ensures { λ r. ⌜ Resumes (now (regular .entry)) (now (alternate .entry)) start budget (now (seg .entry)) r (now (seg .exit)) ⌝ }
+    ensures { λ r. ⌜ Resumes (now (regular .entry)) (now (alternate .entry)) start budget (now (counts .entry)) (now (seg .entry))
+        r (now (counts .exit)) (now (seg .exit)) ⌝ }
 {
     let function = number + 0x800 * selector as u32;
     let mut steps = start;
@@ -163,9 +184,11 @@ fn steps_in(
         let at = stack::pctr(seg, lbase(seg));
         match step_in(seg, regular, alternate, selector, block, code, at, scratch) {
             Stepped::Finished => {
+                count_step(counts, code, at);
                 steps += 1;
             }
             Stepped::Traced(_, _) => {
+                count_step(counts, code, at);
                 return Ran::Trapped(steps + 1);
             }
             Stepped::Trapped(_, _) => {

@@ -1,6 +1,6 @@
 -- Replay: the loads and runs of a file of imports, one after the other. Document 02, paper 1: "Replay gives what the same loads and
 -- runs give one by one, and halts at the first trap or refusal with the number returned for it (3 for a trap); 0 says that every
--- record was done"; 25 for what is no record, "the earlier records stand"; the tally "is zeroed first". Decision 82. Assumes
+-- record was done"; 25 for what is no record, "the earlier records stand"; the tally "is zeroed first". Decision 83. Assumes
 -- nothing.
 use Prim.Native.Nat.{ℕ}
 use mathlib.Core.Bool.{cond}

@@ -57,8 +57,7 @@ module _ {before : List ℕ} {at : ℕ} {a after : List ℕ} {to : ℕ} (w : Wro
 module _ (before bytes all : List ℕ) (same : bytes ≡ all) {after : List ℕ} {to : ℕ} (w : Wrote before 0 bytes after to) where
   pub in-front : length bytes ≤ length before → (take to after ≡ all) × (to ≤ length before)
   in-front h =
-      let parts : sets before 0 bytes ≡ bytes ++ drop (0 + length bytes) before = sets-eq bytes before 0 (omega arith) in
-      (
+      let parts : sets before 0 bytes ≡ bytes ++ drop (0 + length bytes) before = sets-eq bytes before 0 (omega arith) in (
         rw (w .stands, parts) (take-at bytes (drop (0 + length bytes) before) to (omega (arith, w .place))) ∙ same,
         omega (arith, w .place),
       )

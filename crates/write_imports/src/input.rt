@@ -109,7 +109,13 @@ fn take(start: Reading, chunk: &[u8], line: &mut [u8], out: &mut [u8]) -> Readin
 }
 
 // Bytes of one line, which may end with them.
-fn take_part(reading: Reading, part: &[u8], ends: bool, line: &mut [u8], out: &mut [u8]) -> Reading {
+fn take_part(
+    reading: Reading,
+    part: &[u8],
+    ends: bool,
+    line: &mut [u8],
+    out: &mut [u8],
+) -> Reading {
     let longer = hold(reading, part, line);
     if ends {
         return end_line(longer, line, out);
@@ -177,7 +183,14 @@ fn end_long_line(reading: Reading, beginning: &[u8], out: &mut [u8]) {
             return;
         }
     }
-    tell(reading.show, reading.lines, Wrong::Text(Fault::LongLine), beginning, first, out);
+    tell(
+        reading.show,
+        reading.lines,
+        Wrong::Text(Fault::LongLine),
+        beginning,
+        first,
+        out,
+    );
 }
 
 fn first_bytes(bytes: &[u8], n: usize) -> &[u8] {

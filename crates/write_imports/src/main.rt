@@ -20,7 +20,10 @@ use line_tool::command::is;
 // A line may have the most elements that a record may have, with room to spare.
 fn main() {
     let Asked::For(show) = argument() else {
-        io::write_all(STDERR_FILENO, b"write_imports: the one argument that it takes is show\n");
+        io::write_all(
+            STDERR_FILENO,
+            b"write_imports: the one argument that it takes is show\n",
+        );
         return;
     };
     let mut line = [0u8; 262144];

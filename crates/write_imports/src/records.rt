@@ -58,7 +58,13 @@ fn write_run(line: &[u8], at: usize, out: &mut [u8]) -> Written
 }
 
 // A load: the address and the lengths stand before the bar, the elements after it.
-fn write_load(line: &[u8], at: usize, lengths: &mut [u32], ravel: &mut [u32], out: &mut [u8]) -> Written
+fn write_load(
+    line: &[u8],
+    at: usize,
+    lengths: &mut [u32],
+    ravel: &mut [u32],
+    out: &mut [u8],
+) -> Written
     requires { ⌜ meaning.Room (now lengths) (now ravel) (now out) ⌝ }
     ensures { λ r. ⌜ meaning.Writes r (now (out .exit)) ⌝ }
 {
@@ -66,7 +72,13 @@ fn write_load(line: &[u8], at: usize, lengths: &mut [u32], ravel: &mut [u32], ou
     if bar.is_empty() {
         return Written::Wrong(Wrong::Text(Fault::NoBar), bar);
     }
-    let before = text(line, Token { start: 0, end: bar.start });
+    let before = text(
+        line,
+        Token {
+            start: 0,
+            end: bar.start,
+        },
+    );
     let address = token_at(before, at);
     match number_in(Limit::Number, text(before, address)) {
         Limited::Wrong(wrong) => Written::Wrong(wrong, shown(address, at)),
@@ -120,7 +132,15 @@ fn write_elements(
     match numbers_from(Limit::Element, line, at, ravel) {
         Taken::More(token) => Written::Wrong(Wrong::Elements, token),
         Taken::Wrong(wrong, token) => Written::Wrong(wrong, token),
-        Taken::Numbers(count) => write_counted(global, rank, lengths, count, ravel, line.len(), out),
+        Taken::Numbers(count) => write_counted(
+            global,
+            rank,
+            lengths,
+            count,
+            ravel,
+            line.len(),
+            out,
+        ),
     }
 }
 

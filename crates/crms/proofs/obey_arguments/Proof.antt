@@ -5,12 +5,10 @@ use Rattle.crms.proofs.obey_arguments.Statement.{statement}
 use Rattle.crms.proofs.obey_arguments.Tie as tie
 
 abbrev Inv-loop : tie.InvT-loop
-Inv-loop count line₀ numbers₀ data₀ regular₀ alternate₀ out₀ k₀ line numbers «data» regular alternate out k =
-    Kept line₀ numbers₀ data₀ regular₀ alternate₀ out₀ line numbers «data» regular alternate out
+Inv-loop count line₀ data₀ bytes₀ k₀ line «data» bytes k = Kept line₀ data₀ bytes₀ line «data» bytes
 
 abbrev μ-loop : tie.MeasureT-loop
-μ-loop count line₀ numbers₀ data₀ regular₀ alternate₀ out₀ k₀ line numbers «data» regular alternate out k =
-    count - k
+μ-loop count line₀ data₀ bytes₀ k₀ line «data» bytes k = count - k
 
 pub obey-arguments-spec : {M : Type 1} → statement M
 obey-arguments-spec =
@@ -26,7 +24,4 @@ obey-arguments-spec =
     (λ c. search needs)  -- same-length
     (λ c. search needs)  -- same-length-2
     (λ c. search needs)  -- same-length-3
-    (λ c. search needs)  -- same-length-4
-    (λ c. search needs)  -- same-length-5
-    (λ c. search needs)  -- same-length-6
     (λ c. search needs))  -- returns

@@ -16,11 +16,10 @@ same-length : tie.Need-same-length
 same-length c = search needs
 
 returns : tie.Need-returns
-returns c =
-    (
-      c .replay-number .ensures ∙ ap replayNumber (c .before .before .before .replay-into .ensures .0),
-      (c .before .before .before .replay-into .ensures .1 .0, tally-told _ _ _ _ _ _ (c .before .before .before .replay-into .ensures .1 .1) (omega arith)),
-    )
+returns c = (
+  c .replay-number .ensures ∙ ap replayNumber (c .before .before .before .replay-into .ensures .0),
+  (c .before .before .before .replay-into .ensures .1 .0, tally-told _ _ _ _ _ _ (c .before .before .before .replay-into .ensures .1 .1) (omega arith)),
+)
 
 pub crms-replay-spec : {M : Type 1} → statement M
 crms-replay-spec = tie.close (tie.spec replay-into-requires replay-number-requires same-length returns)

@@ -6,12 +6,11 @@ use Rattle.crms.proofs.input.read_all.Statement.{statement}
 use Rattle.crms.proofs.input.read_all.Tie as tie
 
 abbrev Inv-loop : tie.InvT-loop
-Inv-loop fd name buffer₀ line₀ numbers₀ data₀ regular₀ alternate₀ out₀ session₀ left₀ buffer line numbers «data» regular alternate out session left =
-    (length buffer ≡ length buffer₀) × Kept line₀ numbers₀ data₀ regular₀ alternate₀ out₀ line numbers «data» regular alternate out
+Inv-loop fd name buffer₀ line₀ data₀ bytes₀ session₀ left₀ buffer line «data» bytes session left =
+    (length buffer ≡ length buffer₀) × Kept line₀ data₀ bytes₀ line «data» bytes
 
 abbrev μ-loop : tie.MeasureT-loop
-μ-loop fd name buffer₀ line₀ numbers₀ data₀ regular₀ alternate₀ out₀ session₀ left₀ buffer line numbers «data» regular alternate out session left =
-    left
+μ-loop fd name buffer₀ line₀ data₀ bytes₀ session₀ left₀ buffer line «data» bytes session left = left
 
 pub read-all-spec : {M : Type 1} → statement M
 read-all-spec =
@@ -28,18 +27,12 @@ read-all-spec =
     (λ c. search needs)  -- same-length-2
     (λ c. search needs)  -- same-length-3
     (λ c. search needs)  -- same-length-4
+    (λ c. search needs)  -- returns
+    (λ c κs. search needs)  -- count-requires
     (λ c. search needs)  -- same-length-5
     (λ c. search needs)  -- same-length-6
     (λ c. search needs)  -- same-length-7
-    (λ c. search needs)  -- returns
-    (λ c κs. search needs)  -- count-requires
     (λ c. search needs)  -- same-length-8
-    (λ c. search needs)  -- same-length-9
-    (λ c. search needs)  -- same-length-10
-    (λ c. search needs)  -- same-length-11
-    (λ c. search needs)  -- same-length-12
-    (λ c. search needs)  -- same-length-13
-    (λ c. search needs)  -- same-length-14
     (λ c. search needs)  -- returns-2
     (λ c. search needs)  -- slice-reshare-prefix-take
     (λ c. search needs)  -- slice-aggregate-take
@@ -47,11 +40,8 @@ read-all-spec =
     (λ c. search needs)  -- sub-left
     (λ c. search needs)  -- loop-less
     (λ c. search needs)  -- loop-again
-    (λ c. search needs)  -- same-length-15
-    (λ c. search needs)  -- same-length-16
-    (λ c. search needs)  -- same-length-17
-    (λ c. search needs)  -- same-length-18
-    (λ c. search needs)  -- same-length-19
-    (λ c. search needs)  -- same-length-20
-    (λ c. search needs)  -- same-length-21
+    (λ c. search needs)  -- same-length-9
+    (λ c. search needs)  -- same-length-10
+    (λ c. search needs)  -- same-length-11
+    (λ c. search needs)  -- same-length-12
     (λ c. search needs))  -- returns-3

@@ -6,12 +6,10 @@ use Rattle.crms.proofs.input.take.Statement.{statement}
 use Rattle.crms.proofs.input.take.Tie as tie
 
 abbrev Inv-loop : tie.InvT-loop
-Inv-loop bytes line₀ numbers₀ data₀ regular₀ alternate₀ out₀ session₀ at₀ line numbers «data» regular alternate out session at =
-    Kept line₀ numbers₀ data₀ regular₀ alternate₀ out₀ line numbers «data» regular alternate out
+Inv-loop text line₀ data₀ bytes₀ session₀ at₀ line «data» bytes session at = Kept line₀ data₀ bytes₀ line «data» bytes
 
 abbrev μ-loop : tie.MeasureT-loop
-μ-loop bytes line₀ numbers₀ data₀ regular₀ alternate₀ out₀ session₀ at₀ line numbers «data» regular alternate out session at =
-    length bytes - at
+μ-loop text line₀ data₀ bytes₀ session₀ at₀ line «data» bytes session at = length text - at
 
 pub take-spec : {M : Type 1} → statement M
 take-spec =
@@ -31,7 +29,4 @@ take-spec =
     (λ c. search needs)  -- same-length
     (λ c. search needs)  -- same-length-2
     (λ c. search needs)  -- same-length-3
-    (λ c. search needs)  -- same-length-4
-    (λ c. search needs)  -- same-length-5
-    (λ c. search needs)  -- same-length-6
     (λ c. search needs))  -- returns

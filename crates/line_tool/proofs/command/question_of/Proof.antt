@@ -20,4 +20,7 @@ question-of-spec =
     (λ c. search needs)
     (λ c κs. search needs)
     (λ c. simp (← c .before .before .before .before .before .before .before .before .before .before .is .ensures, c .before .before .before .before .before .before .before .before .before .if1 .left, ← c .before .before .before .before .before .before .before .is2 .ensures, c .before .before .before .before .before .before .if2 .left, ← c .before .before .before .before .is3 .ensures, c .before .before .before .if3 .left, ← c .before .is4 .ensures, c .if4 .taken))
-    (λ c. simp (← c .before .before .before .before .before .before .before .before .before .before .is .ensures, c .before .before .before .before .before .before .before .before .before .if1 .left, ← c .before .before .before .before .before .before .before .is2 .ensures, c .before .before .before .before .before .before .if2 .left, ← c .before .before .before .before .is3 .ensures, c .before .before .before .if3 .left, ← c .before .is4 .ensures, c .if4 .left)))
+    (λ c. search needs)
+    (λ c κs. search needs)
+    (λ c. simp (← c .before .before .before .before .before .before .before .before .before .before .before .before .before .is .ensures, c .before .before .before .before .before .before .before .before .before .before .before .before .if1 .left, ← c .before .before .before .before .before .before .before .before .before .before .is2 .ensures, c .before .before .before .before .before .before .before .before .before .if2 .left, ← c .before .before .before .before .before .before .before .is3 .ensures, c .before .before .before .before .before .before .if3 .left, ← c .before .before .before .before .is4 .ensures, c .before .before .before .if4 .left, ← c .before .is5 .ensures, c .if5 .taken))
+    (λ c. simp (← c .before .before .before .before .before .before .before .before .before .before .before .before .before .is .ensures, c .before .before .before .before .before .before .before .before .before .before .before .before .if1 .left, ← c .before .before .before .before .before .before .before .before .before .before .is2 .ensures, c .before .before .before .before .before .before .before .before .before .if2 .left, ← c .before .before .before .before .before .before .before .is3 .ensures, c .before .before .before .before .before .before .if3 .left, ← c .before .before .before .before .is4 .ensures, c .before .before .before .if4 .left, ← c .before .is5 .ensures, c .if5 .left)))

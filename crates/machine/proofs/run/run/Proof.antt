@@ -1,4 +1,6 @@
+use mathlib.Core.Path.{ap}
 use borrow.Author.Needs.{needs}
+use Rattle.machine.specs.Resuming.{Whole}
 use Rattle.machine.proofs.run.run.Statement.{statement}
 use Rattle.machine.proofs.run.run.Tie as tie
 
@@ -9,4 +11,5 @@ run-spec =
     (λ c. search needs)
     (λ c κs. search needs)
     (λ c. search needs)
-    (λ c. (cc)))
+    (λ c. search needs)
+    (λ c. let e = c .before .before .before .before .before .steps-up-to .ensures in (ap (λ (w : Whole). w .result) e, ap (λ (w : Whole). w .counts) e)))

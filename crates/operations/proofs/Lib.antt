@@ -1,0 +1,2 @@
+-- Laws of the operations' answers.
+pub mod Answers

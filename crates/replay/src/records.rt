@@ -1,0 +1,128 @@
+// The records of a file of imports, one after the other: the loads and runs that they are.
+ghost use mathlib.Core.Path.{_≡_};
+ghost use Prim.Native.Nat.{_≤_};
+ghost use lib.ListN.{length};
+ghost use Rattle.imports.specs.Records.{recordsOf};
+ghost use Rattle.operations.specs.Load.{loadRefusal, loaded};
+ghost use Rattle.operations.specs.Run.{ran};
+ghost use Rattle.operations.specs.Replay as meaning;
+use engine::load::load;
+use engine::run::run_tallied;
+use imports::parse::Parsed;
+use imports::parse::record_at;
+use operations::Answer;
+use operations::Replayed;
+use operations::Run;
+
+pub fn replay_records(
+    seg: &mut [u32],
+    regular: &[u8],
+    alternate: &[u8],
+    file: &[u8],
+    counts: &mut [u32],
+) -> Replayed
+    ensures { λ r. ⌜ meaning.replay r (now (seg .exit)) (now (counts .exit))
+        ≡ meaning.replayFrom (now (regular .entry)) (now (alternate .entry)) (recordsOf (now (file .entry))) (now (seg .entry)) (now (counts .entry)) ⌝ }
+{
+    let mut lengths = [0u32; 15];
+    let mut ravel = [0u32; 16384];
+    one_by_one(
+        seg,
+        regular,
+        alternate,
+        file,
+        counts,
+        &mut lengths,
+        &mut ravel,
+    )
+}
+
+// A load's lengths and elements are read into the last two slices.
+fn one_by_one(
+    seg: &mut [u32],
+    regular: &[u8],
+    alternate: &[u8],
+    file: &[u8],
+    counts: &mut [u32],
+    lengths: &mut [u32],
+    ravel: &mut [u32],
+) -> Replayed
+    requires { ⌜ (length (now lengths) ≡ 15) × (length (now ravel) ≡ 16384) ⌝ }
+    ensures { λ r. ⌜ meaning.replay r (now (seg .exit)) (now (counts .exit))
+        ≡ meaning.replayFrom (now (regular .entry)) (now (alternate .entry)) (recordsOf (now (file .entry))) (now (seg .entry)) (now (counts .entry)) ⌝ }
+{
+    let mut place = 0;
+    while place < file.len() {
+        match record_at(file, place, lengths, ravel) {
+            Parsed::Malformed => {
+                return Replayed::Malformed(place);
+            }
+            Parsed::Run { budget, next } => {
+                let halt = run_record(seg, regular, alternate, budget, counts);
+                if halt != 0 {
+                    return Replayed::Halted(halt, place);
+                }
+                place = next;
+            }
+            Parsed::Load {
+                global,
+                rank,
+                count,
+                next,
+            } => {
+                let halt = load_record(
+                    seg,
+                    regular,
+                    alternate,
+                    global,
+                    &lengths[..rank],
+                    &ravel[..count],
+                );
+                if halt != 0 {
+                    return Replayed::Halted(halt, place);
+                }
+                place = next;
+            }
+        }
+    }
+    Replayed::Done
+}
+
+// The number that halts a replay; 0 where it goes on.
+fn run_record(
+    seg: &mut [u32],
+    regular: &[u8],
+    alternate: &[u8],
+    budget: u32,
+    counts: &mut [u32],
+) -> u8
+    ensures { λ r. ⌜ r ≡ meaning.runHalt (ran (now (seg .entry)) (now (regular .entry)) (now (alternate .entry)) budget .answer) ⌝ }
+    ensures { λ _. ⌜ now (seg .exit) ≡ ran (now (seg .entry)) (now (regular .entry)) (now (alternate .entry)) budget .words ⌝ }
+    ensures { λ _. ⌜ now (counts .exit)
+        ≡ meaning.tallied (now (seg .entry)) (now (regular .entry)) (now (alternate .entry)) budget (now (counts .entry)) ⌝ }
+{
+    match run_tallied(seg, regular, alternate, budget, counts) {
+        Run::Done(_) => 0,
+        Run::Trapped(_) => 3,
+        Run::Refused(number) => number,
+    }
+}
+
+fn load_record(
+    seg: &mut [u32],
+    regular: &[u8],
+    alternate: &[u8],
+    global: u32,
+    lengths: &[u32],
+    ravel: &[u32],
+) -> u8
+    ensures { λ r. ⌜ r ≡ loadRefusal (now (seg .entry)) (now (regular .entry)) (now (alternate .entry))
+        global (now (lengths .entry)) (now (ravel .entry)) ⌝ }
+    ensures { λ _. ⌜ now (seg .exit) ≡ loaded (now (seg .entry)) (now (regular .entry)) (now (alternate .entry))
+        global (now (lengths .entry)) (now (ravel .entry)) ⌝ }
+{
+    match load(seg, regular, alternate, global, lengths, ravel) {
+        Answer::Done => 0,
+        Answer::Refused(number) => number,
+    }
+}
