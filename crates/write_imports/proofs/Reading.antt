@@ -1,7 +1,7 @@
--- What was read of a line can be written, and is.
+-- What was read of a line can be written, and what was written is read back.
 use Prim.Native.Nat.{ℕ, _≤_, min}
 use native.Mathlib.Omega.{arith}
-use mathlib.Core.Path.{_≡_, sym, _∙_}
+use mathlib.Core.Path.{_≡_, sym, ap, _∙_}
 use mathlib.Core.List.{List}
 use lib.ListN.{length, take}
 use lib.Seq.{length-take-le}
@@ -10,9 +10,10 @@ use Rattle.segment.specs.Blocks.{product}
 use Rattle.imports.specs.Records as file
 use Rattle.imports.specs.Records.{elementLimit, numberLimit}
 use Rattle.imports.specs.Encoding.{encodeRecord, AtMost}
+use Rattle.imports.proofs.Theorem.{imports-theorems}
 use Rattle.write_imports.specs.declared.records.Written.{Written}
 use Rattle.write_imports.specs.declared.records.Written.the-variants.{Record}
-use Rattle.write_imports.specs.Lines.{Room, Short, Encoded, Writes}
+use Rattle.write_imports.specs.Lines.{Room, Short, Encoded, Writes, ReadBack}
 
 -- the part in front
 pub cut : (n : ℕ) (l : List ℕ) → n ≤ length l → n ≡ length (take n l)
@@ -56,3 +57,8 @@ run-encoded budget b bytes h = record { written = file.run budget; writable = b;
 
 pub encoded : (n : ℕ) (out : List ℕ) {r : Written} → r ≡ Record n → Writes r out → Encoded n out
 encoded n out e w = rw e at w
+
+pub read-back : ReadBack
+read-back n out e before after =
+    let long : length (encodeRecord (e .written)) ≡ n = sym (ap length (e .bytes)) ∙ length-take-le n out (e .within) in
+    rw (e .bytes, ← long) (imports-theorems .recordReadsBack before after (e .written) (e .writable))

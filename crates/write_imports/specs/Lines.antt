@@ -1,13 +1,12 @@
--- What the program writes for a line: nothing, or the bytes of a record that can be written, which the theorems of `imports` say
--- is read back. Contracts of the program cite it. That the record is the one which the line says is not said here. Assumes
--- nothing.
+-- What the program writes for a line: nothing, or the bytes of a record that is read back, whatever stands before and after it.
+-- Contracts of the program cite it. That the record is the one which the line says is not said here. Assumes nothing.
 use Prim.Native.Nat.{ℕ, _+_, _*_, _≤_}
 use mathlib.Core.Path.{_≡_}
-use mathlib.Core.List.{List}
+use mathlib.Core.List.{List, _++_}
 use lib.ListN.{length, take}
 use Rattle.descriptor.specs.Fields.{integerLimit}
 use Rattle.imports.specs.Records as file
-use Rattle.imports.specs.Records.{elementLimit, numberLimit}
+use Rattle.imports.specs.Records.{elementLimit, numberLimit, found, recordAt}
 use Rattle.imports.specs.Encoding.{encodeRecord, AtMost, Writable}
 use Rattle.write_imports.specs.declared.numbers.Limit.{Limit}
 use Rattle.write_imports.specs.declared.numbers.Limit.the-variants as limit
@@ -59,3 +58,9 @@ pub record Encoded (n : ℕ) (out : List ℕ) : Type 0 where
 abbrev pub Writes : Written → List ℕ → Type 0
 Writes (written.Record n) out = Encoded n out
 Writes (written.Wrong wrong token) out = Unit {0}
+
+-- Proved in proofs/Reading.
+abbrev pub ReadBack : Type 0
+ReadBack =
+    (n : ℕ) (out : List ℕ) (e : Encoded n out) (before after : List ℕ)
+    → recordAt (before ++ (take n out ++ after)) (length before) ≡ found (e .written) (length before + n)
