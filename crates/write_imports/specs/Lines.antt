@@ -59,7 +59,7 @@ abbrev pub Writes : Written → List ℕ → Type 0
 Writes (written.Record n) out = Encoded n out
 Writes (written.Wrong wrong token) out = Unit {0}
 
--- Proved in proofs/Reading.
+-- Such bytes are read as that record, wherever they stand in a file. Proved in proofs/Reading.
 abbrev pub ReadBack : Type 0
 ReadBack =
     (n : ℕ) (out : List ℕ) (e : Encoded n out) (before after : List ℕ)

@@ -1,4 +1,3 @@
-use native.Mathlib.Omega.{arith}
 use borrow.Author.Needs.{needs}
 use Rattle.crms_export.proofs.replay_number.Statement.{statement}
 use Rattle.crms_export.proofs.replay_number.Tie as tie

@@ -1,4 +1,3 @@
-use native.Mathlib.Omega.{arith}
 use borrow.Author.Needs.{needs}
 use Rattle.write_imports.proofs.Writing.{wrote, run-front}
 use Rattle.write_imports.proofs.encode.encode_run.Statement.{statement}

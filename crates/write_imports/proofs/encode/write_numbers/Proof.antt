@@ -1,7 +1,6 @@
 use Prim.Native.Nat.{_-_}
 use native.Mathlib.Omega.{arith}
 use lib.ListN.{length}
-use borrow.Author.Needs.{needs}
 use Rattle.write_imports.proofs.Writing.{numbers-short, Going, going, going-on, going-done}
 use Rattle.write_imports.proofs.encode.write_numbers.Statement.{statement}
 use Rattle.write_imports.proofs.encode.write_numbers.Tie as tie
