@@ -42,7 +42,7 @@ use Rattle.operations.specs.Run as operations
 use Rattle.crms_export.specs.Numbers.{fields, lookNumber}
 use Rattle.crms_export.specs.Apart.{statusIn, rankIn, firstIn, countIn, RunApart, ReplayApart, LookApart, Apart}
 use Rattle.crms_export.proofs.Numbers.{part-length}
-use Rattle.crms_export.proofs.Replays.{place-inside}
+use Rattle.operations.proofs.Replays.{place-inside}
 
 -- ---- runs
 

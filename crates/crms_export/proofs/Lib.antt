@@ -1,4 +1,3 @@
 -- Laws of the crate.
 pub mod Numbers
-pub mod Replays
 pub mod Apart

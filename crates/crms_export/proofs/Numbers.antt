@@ -1,4 +1,4 @@
--- A status is the number that refused; a run's answer and words are its definition's; an array's parts are short.
+-- A run's answer and words are its definition's; an array's parts are short.
 use Prim.Native.Nat.{ℕ, zero, suc, _+_, _-_, _≤_, _<_, _^_}
 use native.Mathlib.Omega.{arith}
 use mathlib.Core.Path.{_≡_, refl, ap, _∙_}
@@ -6,17 +6,11 @@ use mathlib.Core.Bool.{Bool, true, false, cond}
 use mathlib.Core.List.{List, []}
 use lib.ListN.{length}
 use lib.Dec.{leb}
-use borrow.Author.Tests.{ne-eqb}
 use Rattle.segment.specs.Blocks.{part, sizeAt, rankAt}
 use Rattle.segment.specs.Parts.{within, shapePart, elementsPart}
 use Rattle.operations.specs.declared.Run.{Run}
-use Rattle.operations.specs.Answers.{doneOrRefused, statusOf}
 use Rattle.operations.specs.Run.{Ended, ended}
 use Rattle.crms_export.specs.Numbers.{runNumber}
-
-pub status-answer : (number : ℕ) → statusOf (doneOrRefused number) ≡ number
-status-answer zero = refl
-status-answer (suc n) = simp (ne-eqb (suc n) 0 (λ e. omega (arith, e)))
 
 pub run-told : (number : ℕ) (answer : Run) (s : List ℕ) (e : Ended) → number ≡ runNumber answer → ended answer s ≡ e
     → (number ≡ runNumber (e .answer)) × (s ≡ e .words)

@@ -1,25 +1,31 @@
 -- A step by the ways that the code goes.
 use Prim.Native.Nat.{ℕ, _+_, _*_, _/_, _%_, _^_, _<_, _≤_}
 use native.Mathlib.Omega.{arith}
-use mathlib.Core.Path.{_≡_, sym, ap, _∙_}
-use mathlib.Core.Bool.{Bool, true, false}
+use mathlib.Core.Path.{_≡_, refl, sym, ap, _∙_}
+use mathlib.Core.Bool.{Bool, true, false, cond}
 use mathlib.Core.List.{List}
-use lib.Dec.{eqb}
-use borrow.Author.Tests.{eq-eqb, ne-eqb, eqb-true, eqb-false}
+use lib.Dec.{ltb, eqb}
+use lib.ListN.{length}
+use borrow.Author.Tests.{le-ltb, eq-eqb, ne-eqb, eqb-true, eqb-false}
 use mir.Val.{boolByte}
 use Rattle.procedure.specs.declared.header.Block.{Block}
 use Rattle.procedure.specs.declared.directory.Function.the-variants as F
 use Rattle.procedure.specs.Bytes.{byteAt}
+use Rattle.procedure.specs.Headers.{codeStart}
 use Rattle.procedure.specs.Directory.{selected, functionOf}
+use Rattle.instruction.specs.declared.Decoded.the-variants.{Trap}
+use Rattle.instruction.specs.Reading.{fetchByte}
+use Rattle.instruction.specs.Decoding.{instructionAt}
 use Rattle.segment.specs.State.{lbase, flags, stepFlag, setTrap}
 use Rattle.segment.specs.Stack.{codeWordAt, alternateBit as bitP, functionNumber, pctr}
 use Rattle.manual.specs.Instructions.{Running, running, headerOf, codeIn, planAt}
 use Rattle.effects.specs.declared.Outcome.{Outcome}
 use Rattle.effects.specs.Carried.{CarriesOut}
+use Rattle.effects.specs.declared.Stepped.{Stepped}
 use Rattle.effects.specs.declared.Stepped.the-variants.{Finished, Traced, Trapped}
 use Rattle.machine.specs.Resuming.{stepAt}
 use Rattle.effects.specs.Tally.{firstIn, firstByte}
-use Rattle.effects.specs.Step.{stepResult, selectorOf, currentFunction, trapped, finished, settled, settle, stepIn, stepFound, stepOf}
+use Rattle.effects.specs.Step.{StepResult, stepResult, selectorOf, currentFunction, trapped, finished, settled, settle, stepIn, stepFound, stepOf}
 
 -- a class and a number of eight bits are themselves
 eight-bits : (n : ℕ) → n < 256 → n % 2 ^ 8 ≡ n
@@ -50,6 +56,14 @@ module _ (w number : ℕ) where
     number-of true is = omega arith
     number-of false is = omega arith
 
+same-either : (b : Bool) → cond b (Trap 3 1) (Trap 3 1) ≡ Trap 3 1
+same-either true = refl
+same-either false = refl
+
+outside : (code : List ℕ) (place : ℕ) → length code ≤ place → instructionAt code place ≡ Trap 3 1
+unfolding instructionAt fetchByte
+outside code place past = simp (le-ltb place (length code) past) (same-either (ltb place codeStart))
+
 module _ (s : List ℕ) where
   pub trap-set : (class number : ℕ) → class < 256 → number < 256 → stepResult (Trapped class number) (setTrap s class number) ≡ trapped s class number
   trap-set class number c n = rw (eight-bits class c, eight-bits number n)
@@ -63,6 +77,11 @@ module _ (s : List ℕ) where
   pub step-clear : eqb (stepFlag (flags s)) 1 ≡ false → stepResult Finished s ≡ finished (stepFlag (flags s)) s
   step-clear clear = ap (λ (n : ℕ). finished n s) (sym (flag-clear (flags s) (eqb-false (stepFlag (flags s)) 1 clear)))
 
+  -- no instruction stands outside the code
+  step-outside : (f : Running) → length (codeIn f) ≤ pctr (codeWordAt s (lbase s)) → stepIn f s ≡ trapped s 3 1
+  unfolding stepIn planAt
+  step-outside f past = rw (outside (codeIn f) (pctr (codeWordAt s (lbase s))) past)
+
   -- the instruction at PCTR, done as its plan says
   module _ (f : Running) {place : ℕ} (counted : place ≡ pctr (codeWordAt s (lbase s))) where
     pub step-done : {r : Outcome} {t : List ℕ} → CarriesOut s r t (λ sees. planAt f sees place) → settled (f .regular) (f .alternate) (headerOf f .rtntrace) r t ≡ stepIn f s
@@ -73,6 +92,19 @@ module _ (s : List ℕ) where
     pub step-kept : (u : List ℕ) → u ≡ s → stepAt f place u ≡ stepIn f s
     unfolding stepIn
     step-kept u kept = ap (stepAt f place) kept ∙ ap (λ (n : ℕ). stepAt f n s) counted
+
+    -- an instruction that has not trapped stands in the function's code
+    module _ {code : List ℕ} (bytes : code ≡ codeIn f) {r : Stepped} {t : List ℕ} (is : stepResult r t ≡ stepIn f s) where
+      stands : (r ≡ Trapped 3 1 → ⊥) → place < length code
+      stands done =
+          let inside : (length code ≤ place → ⊥) = λ past. done (ap (λ (x : StepResult). x .answer) (is ∙ step-outside f (rw (bytes, counted) at past))) in
+          omega (arith, inside)
+
+      pub finished-stands : r ≡ Finished → place < length code
+      finished-stands told = stands (λ e. let k : Finished ≡ Trapped 3 1 = sym told ∙ e in let z : _≡_ {A = ℕ} 0 1 = cc in absurd (omega arith))
+
+      pub traced-stands : (class number : ℕ) → r ≡ Traced class number → place < length code
+      traced-stands class number told = stands (λ e. let k : Traced class number ≡ Trapped 3 1 = sym told ∙ e in let z : _≡_ {A = ℕ} 0 1 = cc in absurd (omega arith))
 
   -- the function of the current frame
   module _ (regular alternate : List ℕ) {selector : Bool} {number : ℕ} (P : selectorOf s ≡ selector) (n : currentFunction s ≡ number) where

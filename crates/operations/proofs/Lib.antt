@@ -1,2 +1,3 @@
--- Laws of the operations' answers.
+-- Laws of the operations' answers: a status is the number that refused; a replay's counts are eight, its place lies in the file.
 pub mod Answers
+pub mod Replays

@@ -1,15 +1,16 @@
 -- Numbers written one after the other: where their bytes stand, and that no number takes more than four.
 use Prim.Native.Nat.{ℕ, zero, suc, _+_, _*_, _/_, _%_, _≤_, _<_}
-use native.Mathlib.Nat.{add-zero, add-suc, suc-add}
 use native.Mathlib.Numerals.{add-one}
 use native.Mathlib.Omega.{arith}
 use mathlib.Core.Path.{_≡_, refl, sym, ap, _∙_}
 use mathlib.Core.Bool.{Bool, true, false, cond}
-use mathlib.Core.List.{List, [], _∷_, _++_, append-assoc}
-use lib.ListN.{length, getD, set, take, drop, length-append, drop-of-length-le}
+use mathlib.Core.List.{List, [], _∷_, _++_}
+use lib.ListN.{length, getD, take, drop, length-append, drop-of-length-le}
 use lib.Dec.{ltb}
 use lib.Seq.{sets, sets-eq, length-sets, drop-cons, take-at}
 use Rattle.imports.specs.Records as file
+use Rattle.line_tool.proofs.Putting.{sets-append}
+use Rattle.imports.proofs.ReadBack.{numbers-append}
 use Rattle.imports.specs.Encoding.{encodeGroups, encodeNumber, encodeNumbers, encodeRecord}
 
 -- ---- how many bytes
@@ -32,10 +33,6 @@ numbers-short [] = omega arith
 numbers-short (n ∷ ns) = rw (length-append (encodeNumber n) (encodeNumbers ns)) (omega (arith, number-short n, numbers-short ns))
 
 -- ---- one after the other
-
-sets-append : (l : List ℕ) (i : ℕ) (a b : List ℕ) → sets l i (a ++ b) ≡ sets (sets l i a) (i + length a) b
-sets-append l i [] b = rw (add-zero i)
-sets-append l i (x ∷ a) b = rw (add-suc i (length a), ← suc-add i (length a)) (sets-append (set l i x) (suc i) a b)
 
 -- bytes stand in a buffer from a place on, and another place is the one after them
 pub record Wrote (before : List ℕ) (at : ℕ) (bytes after : List ℕ) (to : ℕ) : Type 0 where
@@ -99,11 +96,6 @@ module _ {numbers before : List ℕ} {at : ℕ} where
         record { stands = last; place = omega (arith, place-so) }
 
 -- ---- records
-
-numbers-append : (a b : List ℕ) → encodeNumbers (a ++ b) ≡ encodeNumbers a ++ encodeNumbers b
-numbers-append [] b = refl
-numbers-append (n ∷ a) b =
-    ap (λ (l : List ℕ). encodeNumber n ++ l) (numbers-append a b) ∙ sym (append-assoc (encodeNumber n) (encodeNumbers a) (encodeNumbers b))
 
 load-bytes : (global : ℕ) (lengths ravel : List ℕ)
     → encodeNumbers (0 ∷ global ∷ length lengths ∷ []) ++ encodeNumbers lengths ++ encodeNumbers ravel ≡ encodeRecord (file.load global lengths ravel)

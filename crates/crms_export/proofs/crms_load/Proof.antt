@@ -1,6 +1,6 @@
 use mathlib.Core.Path.{ap, _∙_}
 use Rattle.operations.specs.Answers.{statusOf}
-use Rattle.crms_export.proofs.Numbers.{status-answer}
+use Rattle.operations.proofs.Answers.{status-answer}
 use borrow.Author.Needs.{needs}
 use Rattle.crms_export.proofs.crms_load.Statement.{statement}
 use Rattle.crms_export.proofs.crms_load.Tie as tie

@@ -1,6 +1,6 @@
 use mathlib.Core.Path.{ap, _∙_}
 use Rattle.crms_export.specs.Numbers.{replayNumber}
-use Rattle.crms_export.proofs.Replays.{tally-told}
+use Rattle.operations.proofs.Replays.{tally-told}
 use native.Mathlib.Omega.{arith}
 use borrow.Author.Needs.{needs}
 use Rattle.crms_export.proofs.crms_replay.Statement.{statement}

@@ -1,4 +1,4 @@
-use mathlib.Core.Path.{sym, _∙_}
+use mathlib.Core.Path.{refl, sym, _∙_}
 use Rattle.effects.specs.declared.Ran.the-variants.{Done, Trapped}
 use Rattle.acceptance.proofs.Structure.{table-sound}
 use Rattle.engine.proofs.Running.{unaccepted, has-ended}
@@ -10,7 +10,7 @@ refusal-of-requires : tie.Need-refusal-of-requires
 refusal-of-requires c κs = search needs
 
 same-length : tie.Need-same-length
-same-length c = search needs
+same-length c = refl
 
 returns : tie.Need-returns
 returns c = let a = c .before .before .before .before .before .before .before .args in unaccepted _ _ _ (a .budget) (a .counts .now) _ (c .before .refusal-of .ensures) (c .if1 .taken)
@@ -31,10 +31,10 @@ enum-known-steps-2 : tie.Need-enum-known-steps-2
 enum-known-steps-2 c = search needs
 
 same-length-2 : tie.Need-same-length-2
-same-length-2 c = search needs
+same-length-2 c = c .before .before .before .before .before .before .before .run .kept .0 ∙ c .before .before .before .before .before .before .before .before .before .before .before .before .put .kept .0
 
 same-length-3 : tie.Need-same-length-3
-same-length-3 c = search needs
+same-length-3 c = c .before .before .before .before .before .before .before .run .kept .1 .1 .1 .1 .0
 
 returns-2 : tie.Need-returns-2
 returns-2 c =
@@ -44,10 +44,10 @@ returns-2 c =
     (c .before .steps .given .1) (answered .0) (answered .1)
 
 same-length-4 : tie.Need-same-length-4
-same-length-4 c = search needs
+same-length-4 c = c .before .before .before .before .before .before .before .run .kept .0 ∙ c .before .before .before .before .before .before .before .before .before .before .before .before .put .kept .0
 
 same-length-5 : tie.Need-same-length-5
-same-length-5 c = search needs
+same-length-5 c = c .before .before .before .before .before .before .before .run .kept .1 .1 .1 .1 .0
 
 returns-3 : tie.Need-returns-3
 returns-3 c =

@@ -12,7 +12,7 @@ count-step-spec =
     (λ c. sym (count-past _ _ _ refl (omega arith)))
     (λ c κs. search needs)
     (λ c. search needs)
-    (λ c κs. search needs)
+    (λ c. search needs)
     (λ c κs. search needs)
     (λ c. search needs)
     (λ c. (cc)))

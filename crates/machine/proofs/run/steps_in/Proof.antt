@@ -7,7 +7,7 @@ use Rattle.segment.specs.State.{lbase}
 use Rattle.segment.specs.Stack.{codeWordAt}
 use Rattle.machine.specs.Resuming.{whole}
 use Rattle.machine.proofs.Budget.{later, begun, within, left-later, run-goes, run-traced, run-trapped}
-use Rattle.machine.proofs.Stepping.{bit-small, number-small, function-in, step-here, first-here}
+use Rattle.machine.proofs.Stepping.{bit-small, number-small, function-in, finished-stands, traced-stands, step-here, first-here}
 use Rattle.machine.proofs.run.steps_in.Statement.{statement}
 use Rattle.machine.proofs.run.steps_in.Tie as tie
 
@@ -41,12 +41,12 @@ steps-in-spec =
     (λ c κs. search needs)
     (λ c κs. (search needs, (c .before .before .before .before .before .before .before .before .before .before .before .before .before .before .before .before .pre .1 .0, (cc))))
     (λ c. search needs)
-    (λ c κs. search needs)
+    (λ c κs. let q = c .before .before .before .before .before .before .before .before .before .before .before .before .before .before .before .before .before .before .before .before .before .before .before .before .pre in let p = c .before .before .before .before .before .before .before .step-in in finished-stands (c .before .before .before .before .before .before .before .before .before .before .before .before .before .before .before .before .before .loop .seg) _ (cc) (q .1 .0) (p .ensures) (c .before .enum-told .given .1))
     (λ c. let fits = c .before .before .before .before .before .before .before .before .before .before .before .before .before .before .before .before .before .before .before .before .before .before .before .before .before .before .before .fits .budget in search needs)
     (λ c. search needs)
     (λ c. let a = c .before .before .before .before .before .before .before .before .before .before .before .before .before .before .before .before .before .before .before .before .before .before .before .before .before .before .before .args in let q = c .before .before .before .before .before .before .before .before .before .before .before .before .before .before .before .before .before .before .before .before .before .before .before .before .before .before .before .pre in let l = c .before .before .before .before .before .before .before .before .before .before .before .before .before .before .before .before .before .before .before .before .loop in let p = c .before .before .before .before .before .before .before .before .before .before .step-in in let more = c .before .before .before .before .before .before .before .before .before .before .before .before .before .before .before .before .before .before .before .loop-test .taken in let small = number-small (a .seg .now) (q .1 .1 .numbers) in let held = c .before .before .before .before .before .before .before .before .before .before .before .before .before .before .before .before .before .here .ensures in let same = c .before .before .before .before .before .before .before .before .before .before .before .before .before .before .before .before .if1 .left in let is = p .ensures ∙ step-here (l .seg) (a .regular .now) (a .alternate .now) (a .selector) (a .block) small (q .1 .1 .found) held same in let first = first-here (l .seg) (a .regular .now) (a .alternate .now) (a .selector) (a .block) small (q .1 .1 .found) held same (q .1 .0) (cc) in let u = c .before .before .count-step in (later (l .inv .0), within more, p .kept .0 ∙ l .inv .2, p .kept .1 .1 .1 .1 .1 .1 .1 .0 ∙ l .inv .3, (λ e. begun (l .inv .0) e), u .kept .0 ∙ l .inv .5, run-goes _ _ _ _ _ _ (p .result) (p .last .0) more is first (u .ensures) (c .before .before .before .before .enum-told .given .1) ∙ l .inv .6))
     (λ c. search needs)
-    (λ c κs. search needs)
+    (λ c κs. let q = c .before .before .before .before .before .before .before .before .before .before .before .before .before .before .before .before .before .before .before .before .before .before .before .before .pre in let p = c .before .before .before .before .before .before .before .step-in in traced-stands (c .before .before .before .before .before .before .before .before .before .before .before .before .before .before .before .before .before .loop .seg) _ (cc) (q .1 .0) (p .ensures) _ _ (c .before .enum-told2 .given .1))
     (λ c. let fits = c .before .before .before .before .before .before .before .before .before .before .before .before .before .before .before .before .before .before .before .before .before .before .before .before .before .before .before .fits .budget in search needs)
     (λ c. search needs)
     (λ c. search needs)

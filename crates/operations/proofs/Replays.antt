@@ -4,37 +4,26 @@ use native.Mathlib.Omega.{arith}
 use mathlib.Core.Path.{_≡_, refl, sym, ap, _∙_}
 use mathlib.Core.Bool.{Bool, true, false, cond}
 use mathlib.Core.List.{List, [], _++_, append-nil}
-use lib.ListN.{length, getD, set, length-set, drop, drop-of-length-le}
+use lib.ListN.{length, set, drop, drop-of-length-le}
 use lib.Dec.{ltb, eqb}
 use lib.Seq.{sets, sets-eq}
 use borrow.Author.Tests.{ltb-true}
 use Rattle.imports.specs.Records as file
 use Rattle.imports.specs.Records.{Record, FoundRecord, Records, ends, malformed, entry, continued, recordAt, recordsUpTo, recordsFrom, recordsOf}
-use Rattle.tally.specs.Counts.{countLimit, countUp, counted, noneCounted}
+use Rattle.tally.specs.Counts.{noneCounted}
+use Rattle.tally.proofs.Laws.{counted-length}
 use Rattle.acceptance.specs.Refusal.{refusal}
 use Rattle.effects.specs.declared.Stepped.{Stepped}
 use Rattle.effects.specs.declared.Stepped.the-variants as stepped
 use Rattle.effects.specs.Step.{stepOf}
 use Rattle.effects.specs.Tally.{tallying, talliedFrom}
 use Rattle.operations.specs.declared.Replayed.the-variants.{Halted}
 use Rattle.operations.specs.Answers.{replayPlace}
 use Rattle.operations.specs.Load.{loadRefusal, loaded}
 use Rattle.operations.specs.Run.{ran}
 use Rattle.operations.specs.Replay.{Replay, replay, tallied, runHalt, replayFrom, replayed}
 
 -- ---- counts
-
-set-if : (b : Bool) (counts : List ℕ) (i n : ℕ) → length (cond b (set counts i n) counts) ≡ length counts
-set-if true counts i n = length-set counts i n
-set-if false counts i n = refl
-
-count-up-length : (i : ℕ) (counts : List ℕ) → length (countUp i counts) ≡ length counts
-unfolding countUp
-count-up-length i counts = set-if (ltb (getD counts i 0) countLimit) counts i (getD counts i 0 + 1)
-
-counted-length : (first : ℕ) (counts : List ℕ) → length (counted first counts) ≡ length counts
-unfolding counted
-counted-length first counts = count-up-length _ counts
 
 tallying-length : (n : ℕ) (answer : Stepped) (counts more : List ℕ) (rest : List ℕ → List ℕ) → length counts ≡ n → length more ≡ n
     → ((l : List ℕ) → length l ≡ n → length (rest l) ≡ n) → length (tallying answer counts more rest) ≡ n
