@@ -284,3 +284,9 @@ module _ (s : List ℕ) (p : Procedures) (g : ℕ) (lengths ravel : List ℕ) wh
 
   pub load-words : Words s → Words ravel → Words (loaded s (p .regular) (p .alternate) g lengths ravel)
   load-words h k = by-eq number 0 (λ e. done-words e h k) (λ d. subst Words (sym (load-refused d)) h)
+
+  -- whatever the words are
+  pub load-accepts : number ≡ 0 → refusal (loaded s (p .regular) (p .alternate) g lengths ravel) (p .regular) (p .alternate) ≡ 0
+  load-accepts e =
+      ap (λ (t : List ℕ). refusal t (p .regular) (p .alternate)) (load-done e)
+      ∙ sym (segment-told (perform s effect) p) ∙ load-loaded e .accepted

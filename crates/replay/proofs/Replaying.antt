@@ -1,6 +1,7 @@
 -- A replay from a place of the file on: by the record that stands there, and by what it returned.
 use Prim.Native.Nat.{ℕ, _<_, _≤_}
 use mathlib.Core.Path.{_≡_, sym, ap, _∙_}
+use mathlib.Core.Bool.{Bool, true}
 use mathlib.Core.List.{List}
 use lib.ListN.{length, take}
 use borrow.Author.Tests.{ne-eqb}
@@ -9,13 +10,14 @@ use Rattle.imports.specs.declared.parse.Parsed.{Parsed}
 use Rattle.imports.specs.declared.parse.Parsed.the-variants as P
 use Rattle.imports.specs.Parsing.{parsed, Within}
 use Rattle.imports.proofs.Files as reading
+use Rattle.acceptance.specs.Refusal.{refusal}
+use Rattle.audit.specs.Calls.{procedures}
+use Rattle.audit.proofs.Load.{load-accepts}
 use Rattle.operations.specs.declared.Replayed.the-variants.{Done, Halted, Malformed}
 use Rattle.operations.specs.Load.{loadRefusal, loaded}
-use Rattle.operations.specs.declared.Answer.{Answer}
 use Rattle.operations.specs.declared.Run.{Run}
-use Rattle.operations.specs.Answers.{doneOrRefused, statusOf}
-use Rattle.operations.proofs.Answers.{status-answer}
 use Rattle.operations.specs.Run.{Ended, ended, ran}
+use Rattle.replay.specs.Tested.{Tested}
 use Rattle.operations.specs.Replay.{Replay, replay, runHalt, tallied, afterRecord, replayFrom}
 
 -- ---- what was read
@@ -80,8 +82,14 @@ module _ (regular alternate file : List ℕ) where
 
 -- ---- the number that a call returned
 
-pub load-number : (number : ℕ) {told : Answer} (answer : Answer) → told ≡ answer → told ≡ doneOrRefused number → statusOf answer ≡ number
-load-number number answer known is = ap statusOf (sym known ∙ is) ∙ status-answer number
+pub known : (s regular alternate : List ℕ) {tested : Bool} → tested ≡ true → Tested tested s regular alternate → 0 ≡ refusal s regular alternate
+known s regular alternate is told = rw is at told
+
+-- a load leaves what passes tests 10–18
+pub load-passes : (s regular alternate : List ℕ) (g : ℕ) (lengths ravel : List ℕ) {halt : ℕ} {t : List ℕ} → halt ≡ loadRefusal s regular alternate g lengths ravel → halt ≡ 0
+    → t ≡ loaded s regular alternate g lengths ravel → 0 ≡ refusal t regular alternate
+load-passes s regular alternate g lengths ravel is zero left =
+    sym (ap (λ (t : List ℕ). refusal t regular alternate) left ∙ load-accepts s (procedures regular alternate) g lengths ravel (sym is ∙ zero))
 
 pub run-number : {e : Ended} {told : Run} {t : List ℕ} (answer : Run) → told ≡ answer → ended told t ≡ e → (runHalt answer ≡ runHalt (e .answer)) × (t ≡ e .words)
 run-number answer known is = (ap runHalt (sym known) ∙ ap (λ (e : Ended). runHalt (e .answer)) is, ap (λ (e : Ended). e .words) is)

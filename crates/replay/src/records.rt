@@ -3,10 +3,13 @@ ghost use mathlib.Core.Path.{_≡_};
 ghost use Prim.Native.Nat.{_≤_};
 ghost use lib.ListN.{length};
 ghost use Rattle.imports.specs.Records.{recordsOf};
+ghost use Rattle.operations.specs.Answers.{statusOf};
 ghost use Rattle.operations.specs.Load.{loadRefusal, loaded};
 ghost use Rattle.operations.specs.Run.{ran};
 ghost use Rattle.operations.specs.Replay as meaning;
+ghost use Rattle.replay.specs.Tested.{Tested};
 use engine::load::load;
+use engine::load::load_accepted;
 use engine::run::run_tallied;
 use imports::parse::Parsed;
 use imports::parse::record_at;
@@ -37,7 +40,8 @@ pub fn replay_records(
     )
 }
 
-// A load's lengths and elements are read into the last two slices.
+// A load's lengths and elements are read into the last two slices. A load leaves what passes tests 10 to 18, so that a load after it
+// need not make them again.
 fn one_by_one(
     seg: &mut [u32],
     regular: &[u8],
@@ -51,6 +55,7 @@ fn one_by_one(
     ensures { λ r. ⌜ meaning.replay r (now (seg .exit)) (now (counts .exit))
         ≡ meaning.replayFrom (now (regular .entry)) (now (alternate .entry)) (recordsOf (now (file .entry))) (now (seg .entry)) (now (counts .entry)) ⌝ }
 {
+    let mut tested = false;
     let mut place = 0;
     while place < file.len() {
         match record_at(file, place, lengths, ravel) {
@@ -62,6 +67,7 @@ fn one_by_one(
                 if halt != 0 {
                     return Replayed::Halted(halt, place);
                 }
+                tested = false;
                 place = next;
             }
             Parsed::Load {
@@ -74,6 +80,7 @@ fn one_by_one(
                     seg,
                     regular,
                     alternate,
+                    tested,
                     global,
                     &lengths[..rank],
                     &ravel[..count],
@@ -81,6 +88,7 @@ fn one_by_one(
                 if halt != 0 {
                     return Replayed::Halted(halt, place);
                 }
+                tested = true;
                 place = next;
             }
         }
@@ -108,20 +116,32 @@ fn run_record(
     }
 }
 
+// Are tests 10 to 18 known to pass?
 fn load_record(
     seg: &mut [u32],
     regular: &[u8],
     alternate: &[u8],
+    tested: bool,
     global: u32,
     lengths: &[u32],
     ravel: &[u32],
 ) -> u8
+    requires { ⌜ Tested tested (now seg) (now regular) (now alternate) ⌝ }
     ensures { λ r. ⌜ r ≡ loadRefusal (now (seg .entry)) (now (regular .entry)) (now (alternate .entry))
         global (now (lengths .entry)) (now (ravel .entry)) ⌝ }
     ensures { λ _. ⌜ now (seg .exit) ≡ loaded (now (seg .entry)) (now (regular .entry)) (now (alternate .entry))
         global (now (lengths .entry)) (now (ravel .entry)) ⌝ }
 {
-    match load(seg, regular, alternate, global, lengths, ravel) {
+    if tested {
+        return number(load_accepted(seg, global, lengths, ravel));
+    }
+    number(load(seg, regular, alternate, global, lengths, ravel))
+}
+
+fn number(answer: Answer) -> u8
+    ensures { λ r. ⌜ r ≡ statusOf answer ⌝ }
+{
+    match answer {
         Answer::Done => 0,
         Answer::Refused(number) => number,
     }

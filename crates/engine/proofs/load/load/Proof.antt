@@ -1,7 +1,5 @@
 use mathlib.Core.Path.{sym, _∙_}
-use native.Mathlib.Omega.{arith}
-use borrow.Author.Tests.{not-true, not-false}
-use Rattle.engine.proofs.Loading.{one-scalar, unaccepted, no-global, no-value, scalar-stored, full, array-stored, promised}
+use Rattle.engine.proofs.Loading.{unaccepted, promised}
 use borrow.Author.Needs.{needs}
 use Rattle.engine.proofs.load.load.Statement.{statement}
 use Rattle.engine.proofs.load.load.Tie as tie
@@ -15,90 +13,14 @@ same-length c = search needs
 returns : tie.Need-returns
 returns c = promised _ _ _ _ _ _ _ _ (unaccepted _ _ _ _ _ _ _ (c .before .refusal-of .ensures) (c .if1 .taken))
 
-is-global-requires : tie.Need-is-global-requires
-is-global-requires c κs = search needs
+load-accepted-requires : tie.Need-load-accepted-requires
+load-accepted-requires c κs = search needs
 
 same-length-2 : tie.Need-same-length-2
 same-length-2 c = search needs
 
 returns-2 : tie.Need-returns-2
-returns-2 c = promised _ _ _ _ _ _ _ _ (no-global _ _ _ _ _ _ (sym (c .before .before .before .if1 .left) ∙ c .before .before .before .before .refusal-of .ensures) (sym (c .before .is-global .ensures) ∙ not-true _ (c .if2 .taken)))
-
-is-value-requires : tie.Need-is-value-requires
-is-value-requires c κs = search needs
-
-same-length-3 : tie.Need-same-length-3
-same-length-3 c = search needs
-
-returns-3 : tie.Need-returns-3
-returns-3 c = promised _ _ _ _ _ _ _ _ (no-value _ _ _ _ _ _ (sym (c .before .before .before .before .before .if1 .left) ∙ c .before .before .before .before .before .before .refusal-of .ensures) (sym (c .before .before .before .is-global .ensures) ∙ not-false _ (c .before .before .if2 .left)) (sym (c .before .is-value .ensures) ∙ not-true _ (c .if3 .taken)))
-
-of-requires : tie.Need-of-requires
-of-requires c κs = search needs
-
-shared-slice-read-store-share : tie.Need-shared-slice-read-store-share
-shared-slice-read-store-share c =
-    let v = c .before .before .before .before in
-    omega (arith, one-scalar _ _ (sym (v .before .is-value .ensures) ∙ not-false _ (v .if3 .left)) (c .before .before .if4 .taken) .0)
-
-store-share-requires : tie.Need-store-share-requires
-store-share-requires c κs = search needs
-
-same-length-4 : tie.Need-same-length-4
-same-length-4 c = search needs
-
-returns-4 : tie.Need-returns-4
-returns-4 c =
-    let v = c .before .before .before .before .before .before .before in
-    promised _ _ _ _ _ _ _ _ (scalar-stored _ _ _ _ _ _ (sym (v .before .before .before .before .before .if1 .left) ∙ v .before .before .before .before .before .before .refusal-of .ensures) (sym (v .before .before .before .is-global .ensures) ∙ not-false _ (v .before .before .if2 .left)) (sym (v .before .is-value .ensures) ∙ not-false _ (v .if3 .left)) _ (c .before .before .before .before .before .before .of .ensures) _ (c .before .before .before .before .before .if4 .taken) (cc))
-
-store-array-requires : tie.Need-store-array-requires
-store-array-requires c κs = search needs
-
-enum-told : tie.Need-enum-told
-enum-told c = search needs
-
-enum-told-2 : tie.Need-enum-told-2
-enum-told-2 c = search needs
-
-same-length-5 : tie.Need-same-length-5
-same-length-5 c = search needs
-
-returns-5 : tie.Need-returns-5
-returns-5 c =
-    let v = c .before .before .before .before .before .before .before .before in
-    promised _ _ _ _ _ _ _ _ (full _ _ _ _ _ _ (sym (v .before .before .before .before .before .if1 .left) ∙ v .before .before .before .before .before .before .refusal-of .ensures) (sym (v .before .before .before .is-global .ensures) ∙ not-false _ (v .before .before .if2 .left)) (sym (v .before .is-value .ensures) ∙ not-false _ (v .if3 .left)) _ (c .before .before .before .before .before .before .before .of .ensures) _ (c .before .before .before .before .before .before .if4 .left) (cc) (cc))
-
-same-length-6 : tie.Need-same-length-6
-same-length-6 c = search needs
-
-returns-6 : tie.Need-returns-6
-returns-6 c =
-    let v = c .before .before .before .before .before .before .before .before in
-    promised _ _ _ _ _ _ _ _ (array-stored _ _ _ _ _ _ (sym (v .before .before .before .before .before .if1 .left) ∙ v .before .before .before .before .before .before .refusal-of .ensures) (sym (v .before .before .before .is-global .ensures) ∙ not-false _ (v .before .before .if2 .left)) (sym (v .before .is-value .ensures) ∙ not-false _ (v .if3 .left)) _ (c .before .before .before .before .before .before .before .of .ensures) _ (c .before .before .before .before .before .before .if4 .left) (cc) (cc))
+returns-2 c = promised _ _ _ _ _ _ _ _ (c .before .before .load-accepted .ensures _ _ (sym (c .before .before .before .before .if1 .left) ∙ c .before .before .before .before .before .refusal-of .ensures))
 
 pub load-spec : {M : Type 1} → statement M
-load-spec =
-    tie.close
-    (tie.spec
-    refusal-of-requires
-    same-length
-    returns
-    is-global-requires
-    same-length-2
-    returns-2
-    is-value-requires
-    same-length-3
-    returns-3
-    of-requires
-    shared-slice-read-store-share
-    store-share-requires
-    same-length-4
-    returns-4
-    store-array-requires
-    enum-told
-    enum-told-2
-    same-length-5
-    returns-5
-    same-length-6
-    returns-6)
+load-spec = tie.close (tie.spec refusal-of-requires same-length returns load-accepted-requires same-length-2 returns-2)

@@ -1,6 +1,8 @@
-use Rattle.operations.specs.declared.Answer.the-variants.{Done, Refused}
+use mathlib.Core.Path.{ap, _∙_}
+use Rattle.operations.specs.Answers.{statusOf}
+use Rattle.operations.proofs.Answers.{status-answer}
 use borrow.Author.Needs.{needs}
-use Rattle.replay.proofs.Replaying.{load-number}
+use Rattle.replay.proofs.Replaying.{known}
 use Rattle.replay.proofs.records.load_record.Statement.{statement}
 use Rattle.replay.proofs.records.load_record.Tie as tie
 
@@ -9,9 +11,12 @@ load-record-spec =
     tie.close
     (tie.spec
     (λ c κs. search needs)
+    (λ c κs. search needs)
     (λ c. search needs)
+    (λ c.
+    let told = c .before .before .before .load-accepted .ensures _ _ (known _ _ _ (c .before .before .before .before .before .if1 .taken) (c .before .before .before .before .before .before .before .before .before .before .before .pre)) in
+    (c .number .ensures ∙ ap statusOf (told .0) ∙ status-answer _, told .1))
+    (λ c κs. search needs)
+    (λ c κs. search needs)
     (λ c. search needs)
-    (λ c. search needs)
-    (λ c. let p = c .before .before .before .before .load in (load-number _ Done (c .enum-told .given .1) (p .ensures .0), p .ensures .1 .0))
-    (λ c. search needs)
-    (λ c. let p = c .before .before .before .before .before .load in (load-number _ (Refused (c .before .number .given .0 .0)) (c .before .number .given .1) (p .ensures .0), p .ensures .1 .0)))
+    (λ c. let p = c .before .before .before .load in (c .number2 .ensures ∙ ap statusOf (p .ensures .0) ∙ status-answer _, p .ensures .1 .0)))

@@ -1,0 +1,2 @@
+-- What the loop over the records knows of the segment.
+pub mod Tested
