@@ -1,5 +1,5 @@
 //! A file of imports as one reads and replays it in Rust: one record at a time into two vectors that are used again, then the load
-//! with every test of the table, on the words of a segment. There is no machine on these words here: what a run does, the caller
+//! with the tests of the table, on the words of a segment. There is no machine on these words here: what a run does, the caller
 //! says.
 use crate::{acceptance, elements, storage};
 
@@ -92,12 +92,8 @@ fn is_value(lengths: &[u32], ravel: &[u32]) -> bool {
         && product(lengths) == ravel.len() as u64
 }
 
-/// The number that a load returns: 0 where it is done. The old value is released last.
-pub fn load(seg: &mut [u32], [regular, alternate]: [&[u8]; 2], global: u32, lengths: &[u32], ravel: &[u32]) -> u32 {
-    let refused = acceptance::judge(seg, regular, alternate);
-    if refused != 0 {
-        return refused as u32;
-    }
+/// The number that a load returns into a segment that tests 10 to 18 accept: 0 where it is done. The old value is released last.
+pub fn load(seg: &mut [u32], global: u32, lengths: &[u32], ravel: &[u32]) -> u32 {
     if global < 8 || global >= seg[4] {
         return 21;
     }
@@ -119,15 +115,24 @@ pub fn load(seg: &mut [u32], [regular, alternate]: [&[u8]; 2], global: u32, leng
 /// 0 where every record was done, else the number at which it halted times 2^32, and the place of that record; and the tally.
 pub fn replay(seg: &mut [u32], procedures: [&[u8]; 2], file: &[u8], run: Run) -> (u64, [u32; 8]) {
     let (mut reader, mut value, mut tally) = (Reader { file, place: 0 }, Value::default(), [0; 8]);
+    // A load leaves what is accepted, so a load after it is not judged again.
+    let mut accepted = false;
     while reader.place < file.len() {
         let place = reader.place;
         let number = match reader.record(&mut value) {
             None => NO_RECORD,
-            Some(Record::Load(global)) => load(seg, procedures, global, &value.lengths, &value.elements),
-            Some(Record::Run(budget)) => match run(seg, procedures, budget, &mut tally) {
-                RUN_DONE => 0,
-                number => number,
-            },
+            Some(Record::Load(global)) => {
+                let refused = if accepted { 0 } else { acceptance::judge(seg, procedures[0], procedures[1]) as u32 };
+                accepted = true;
+                if refused != 0 { refused } else { load(seg, global, &value.lengths, &value.elements) }
+            }
+            Some(Record::Run(budget)) => {
+                accepted = false;
+                match run(seg, procedures, budget, &mut tally) {
+                    RUN_DONE => 0,
+                    number => number,
+                }
+            }
         };
         if number != 0 {
             return ((number as u64) << 32 | place as u64, tally);
