@@ -1,4 +1,4 @@
--- The table of document 01's marked examples, and the story of a list and its copy, by computation.
+-- The table of document 01's marked examples, the story of a list and its copy, and small files of imports, by computation.
 use mathlib.Core.Path.{refl}
 use lib.Ieee.{size}
 use Rattle.descriptor.specs.Kinds.{kindOf, integerKind, undefinedKind, unsignedKind, isScalar, arrayKind}
@@ -45,10 +45,16 @@ use Rattle.fresh_segment.specs.LayOut.{functionTest, partsTest, layOutRefusal, 
 use Rattle.operations.specs.Run.{ran}
 use Rattle.operations.specs.Load.{isGlobal, isValue, lacksRoom, loadRefusal, loaded}
 use Rattle.operations.specs.Look.{looked}
+use Rattle.operations.specs.Replay.{tallied, replayFrom, replayed}
+use Rattle.imports.specs.Numbers.{groupsAt, numberAt, severalAt}
+use Rattle.imports.specs.Records.{importedElements, importedLengths, importedLoad, importedRun, recordAt, recordsUpTo, recordsFrom}
+use Rattle.tally.specs.Counts.{countUp, counted}
+use Rattle.effects.specs.Tally.{firstByte, talliedFrom}
 use Rattle.audit.specs.Table.{Table}
 use Rattle.audit.specs.Story.{Story}
+use Rattle.audit.specs.Imported.{Imported}
 
-computed : Table × Story
+computed : Table × Story × Imported
 unfolding laidOut layOutRefusal functionTest partsTest fresh freshHead freshStorage freshFrame hasFunction headerAt wordAt
     procedureRefusal segmentLengthTest contentsTest entriesTest functionsTest functionPasses headerTest refusal dataRefusal
     headTest blocksTest freeSpan blockSpan walkFrom walkTest startsFrom freeStarts arrayStarts linked roundFrom ringTest known
@@ -62,7 +68,8 @@ unfolding laidOut layOutRefusal functionTest partsTest fresh freshHead freshStor
     operatorOf plus sum ratioOf quotient size shapeAt elementsAt shapePart elementsPart arraySpan arrayTest memoryOf addressIn
     addressAt loadAt memoryAt discard storeAt store unshare writeElement storeElement whole isGlobal isValue lacksRoom loadRefusal
     loaded looked arrays.share arrays.raise arrays.lower memory.assignNoResult memory.assignIndexed memory.eat loads.load
-    values.ravelPlace arrayKind countTest within
+    values.ravelPlace arrayKind countTest within tallied replayFrom replayed groupsAt numberAt severalAt importedElements
+    importedLengths importedLoad importedRun recordAt recordsUpTo recordsFrom countUp counted firstByte talliedFrom
 computed = (
   record {
     m1 = record { word0 = refl; word1 = refl; word12 = refl; word13 = refl; word33 = refl; word34 = refl };
@@ -85,6 +92,16 @@ computed = (
     listAfter = record { seen = refl; shape = refl; ravel = refl };
     copyAfter = record { seen = refl; shape = refl; ravel = refl };
   },
+  record {
+    none = (refl, refl);
+    stands = refl;
+    loads = refl;
+    counts = refl;
+    trap = refl;
+    trapCounts = refl;
+    refusal = refl;
+    limit = refl;
+  },
 )
 
 pub table : Table
@@ -92,3 +109,6 @@ table = computed .0
 
 pub story : Story
 story = computed .1
+
+pub imported : Imported
+imported = computed .2

@@ -20,14 +20,14 @@ use Rattle.operations.specs.Load.{loadRefusal, loaded}
 use Rattle.operations.specs.Replay.{Replay, replay, runHalt, afterRecord, tallied, replayFrom, replayed}
 use Rattle.audit.specs.Calls.{Procedures, procedures, Call, load, Answer, answerOf, runAnswer, LentProcedures}
 use Rattle.audit.specs.Did.{Did, isRefused, isLoaded, Event, event}
-use Rattle.audit.specs.Replays.{countsOf, callOf, haltOf, Replays, allDone, isMalformed, continues, halts, PromisedReplay, OneByOne, callsOf, ReplayTheorems}
+use Rattle.audit.specs.Replays.{callCounts, recordCall, haltOf, Replays, allDone, isMalformed, continues, halts, PromisedReplay, OneByOne, recordCalls, ReplayTheorems}
 use Rattle.audit.proofs.Run.{run-counted, run-words}
 use Rattle.audit.proofs.Load.{load-did, load-words}
 use Rattle.audit.proofs.Tally.{replay-sum}
 
 -- ---- a record's call
 
-load-counts : {p : Procedures} {s t lengths ravel : List ℕ} {g : ℕ} {a : Answer} (did : Did s (load p g lengths ravel) a t) (counts : List ℕ) → countsOf did counts ≡ counts
+load-counts : {p : Procedures} {s t lengths ravel : List ℕ} {g : ℕ} {a : Answer} (did : Did s (load p g lengths ravel) a t) (counts : List ℕ) → callCounts did counts ≡ counts
 load-counts (isRefused some number) counts = refl
 load-counts (isLoaded passed did) counts = refl
 
@@ -53,15 +53,15 @@ module _ (p : Procedures) (bytes : LentProcedures p) where
   Made records s counts r = (events : List Event) × Replays p records s counts (r .answer) (r .words) (r .counts) events × Words (r .words)
 
   -- by the number that the first record's call returned
-  module _ (place : ℕ) (r : file.Record) (rest : Records) (s counts t after : List ℕ) (a : Answer) (did : Did s (callOf p r) a t) (words : Words t)
-      (same : countsOf did counts ≡ after) (number : ℕ) (halt : haltOf a ≡ number) (more : Replay) (made : Made rest t after more) where
+  module _ (place : ℕ) (r : file.Record) (rest : Records) (s counts t after : List ℕ) (a : Answer) (did : Did s (recordCall p r) a t) (words : Words t)
+      (same : callCounts did counts ≡ after) (number : ℕ) (halt : haltOf a ≡ number) (more : Replay) (made : Made rest t after more) where
     goes-on : number ≡ 0 → Made (entry place r rest) s counts more
     goes-on z =
         let replays = subst (λ (c : List ℕ). Replays p rest t c (more .answer) (more .words) (more .counts) (made .0)) (sym same) (made .1) in
-        (event (callOf p r) a t ∷ made .0, continues did (halt ∙ z) replays, made .2)
+        (event (recordCall p r) a t ∷ made .0, continues did (halt ∙ z) replays, made .2)
 
     stops : number ≢ 0 → Made (entry place r rest) s counts (replay (Halted number place) t after)
-    stops d = (event (callOf p r) a t ∷ [], rw (sym same, sym halt) (halts did (λ z. d (sym halt ∙ z))), words)
+    stops d = (event (recordCall p r) a t ∷ [], rw (sym same, sym halt) (halts did (λ z. d (sym halt ∙ z))), words)
 
     record-made : Made (entry place r rest) s counts (afterRecord place number t after more)
     record-made = by-eq number 0 (λ z. rw (eq-eqb number 0 z) (goes-on z)) (λ d. rw (ne-eqb number 0 d) (stops d))
@@ -111,16 +111,16 @@ abbrev callsMade : List Event → List Call
 callsMade events = map (λ (e : Event). e .call) events
 
 in-order : {p : Procedures} {records : Records} {s t counts after : List ℕ} {answer : Replayed} {events : List Event}
-    → Replays p records s counts answer t after events → (later : List Call) × (callsOf p records ≡ callsMade events ++ later)
+    → Replays p records s counts answer t after events → (later : List Call) × (recordCalls p records ≡ callsMade events ++ later)
 in-order allDone = ([], refl)
 in-order isMalformed = ([], refl)
-in-order {p = p} (continues {r = r} did z rest) = let more = in-order rest in (more .0, ap (λ (calls : List Call). callOf p r ∷ calls) (more .1))
-in-order {p = p} (halts {rest = rest} did d) = (callsOf p rest, refl)
+in-order {p = p} (continues {r = r} did z rest) = let more = in-order rest in (more .0, ap (λ (calls : List Call). recordCall p r ∷ calls) (more .1))
+in-order {p = p} (halts {rest = rest} did d) = (recordCalls p rest, refl)
 
 all-made : {p : Procedures} {records : Records} {s t counts after : List ℕ} {events : List Event}
-    → Replays p records s counts Done t after events → callsOf p records ≡ callsMade events
+    → Replays p records s counts Done t after events → recordCalls p records ≡ callsMade events
 all-made allDone = refl
-all-made {p = p} (continues {r = r} did z rest) = ap (λ (calls : List Call). callOf p r ∷ calls) (all-made rest)
+all-made {p = p} (continues {r = r} did z rest) = ap (λ (calls : List Call). recordCall p r ∷ calls) (all-made rest)
 
 pub replay-theorems : ReplayTheorems
 replay-theorems = record {

@@ -20,7 +20,7 @@ use Rattle.operations.specs.Run.{Ended, ended, ran}
 use Rattle.operations.specs.Replay.{tallied}
 use Rattle.audit.specs.Calls.{Procedures, runAnswer, run, LentProcedures}
 use Rattle.audit.specs.Did.{Did, isRefused, hasRun}
-use Rattle.audit.specs.Replays.{countsOf}
+use Rattle.audit.specs.Replays.{callCounts}
 use Rattle.audit.proofs.Tests.{segment-told}
 use Rattle.audit.proofs.Accepts.{passes-of}
 use Rattle.audit.proofs.Runs.{Ready, run-ran, run-all, run-full}
@@ -31,7 +31,7 @@ module _ (s : List ℕ) (p : Procedures) (budget : ℕ) where
 
   -- with the counts that it leaves
   abbrev RunDid : Ended → (List ℕ → List ℕ) → Type 0
-  RunDid e tally = (did : Did s (run p budget) (runAnswer (e .answer)) (e .words)) × ((counts : List ℕ) → countsOf did counts ≡ tally counts)
+  RunDid e tally = (did : Did s (run p budget) (runAnswer (e .answer)) (e .words)) × ((counts : List ℕ) → callCounts did counts ≡ tally counts)
 
   module _ (h : number ≢ 0) where
     run-refused : ran s (p .regular) (p .alternate) budget ≡ ended (answers.Refused number) s

@@ -43,7 +43,7 @@ use Rattle.audit.specs.Calls.{Procedures, Answer, Passes}
 use Rattle.audit.specs.Steps.{finishes, Step, does}
 use Rattle.audit.specs.Runs.{Runs, over, goesOn, traced, stops}
 use Rattle.audit.specs.Did.{Did, isRefused, hasRun, isLoaded, Event}
-use Rattle.audit.specs.Replays.{countsAfter, countsOf, callOf, Replays, allDone, isMalformed, continues, halts, stepsOf, finishedIn, total, AllBelow}
+use Rattle.audit.specs.Replays.{countsAfter, callCounts, recordCall, Replays, allDone, isMalformed, continues, halts, finishedOf, finishedIn, total, AllBelow}
 use Rattle.audit.proofs.Accepts.{accepted-of}
 
 -- ---- a finished instruction has a family
@@ -150,7 +150,7 @@ counted-more counts long first h = one-more counts long (placeOf (familyOf first
 
 record RunCounts (steps : ℕ) (answer : Answer) (before after : List ℕ) : Type 0 where
   finished : ℕ
-  told : stepsOf answer ≡ steps + finished
+  told : finishedOf answer ≡ steps + finished
   more : More before finished after
 
 run-counts : {p : Procedures} {budget steps : ℕ} {s t : List ℕ} {answer : Answer} (r : Runs p budget steps s answer t) (counts : List ℕ) → length counts ≡ 8
@@ -164,14 +164,14 @@ run-counts {p = p} (traced {steps = steps} {s = s} passes some step) counts long
     record { finished = 1; told = omega arith; more = counted-more counts long (firstByte (p .regular) (p .alternate) s) (step-counts passes step) }
 run-counts (stops {steps = steps} passes step) counts long = record { finished = 0; told = omega arith; more = no-more counts long }
 
-call-counts : (p : Procedures) (r : file.Record) {s t : List ℕ} {a : Answer} (did : Did s (callOf p r) a t) (counts : List ℕ) → length counts ≡ 8
-    → More counts (stepsOf a) (countsOf did counts)
+call-counts : (p : Procedures) (r : file.Record) {s t : List ℕ} {a : Answer} (did : Did s (recordCall p r) a t) (counts : List ℕ) → length counts ≡ 8
+    → More counts (finishedOf a) (callCounts did counts)
 call-counts p (file.load g lengths ravel) (isRefused some number) counts long = no-more counts long
 call-counts p (file.load g lengths ravel) (isLoaded passed did) counts long = no-more counts long
 call-counts p (file.run budget) (isRefused some number) counts long = no-more counts long
 call-counts p (file.run budget) {a = a} (hasRun passed did) counts long =
     let r = run-counts (did .steps) counts long in
-    let told : r .finished ≡ stepsOf a = omega (arith, r .told) in
+    let told : r .finished ≡ finishedOf a = omega (arith, r .told) in
     subst (λ (n : ℕ). More counts n (countsAfter (did .steps) counts)) told (r .more)
 
 replay-counts : {p : Procedures} {records : Records} {s t counts after : List ℕ} {answer : Replayed} {events : List Event}
@@ -183,7 +183,7 @@ replay-counts {p = p} (continues {r = r} {counts = counts} did z rest) long =
     more-later first (replay-counts rest (first .long))
 replay-counts {p = p} (halts {r = r} {counts = counts} did d) long =
     let first = call-counts p r did counts long in
-    more-later first (no-more (countsOf did counts) (first .long))
+    more-later first (no-more (callCounts did counts) (first .long))
 
 pub replay-sum : {p : Procedures} {records : Records} {s t after : List ℕ} {answer : Replayed} {events : List Event}
     → Replays p records s noneCounted answer t after events → AllBelow countLimit after → (length after ≡ 8) × (total after ≡ finishedIn events)

@@ -11,3 +11,4 @@ pub mod RuledOut
 pub mod ParList
 pub mod Table
 pub mod Story
+pub mod Imported

@@ -26,18 +26,18 @@ countsAfter {p = p} (traced {s = s} accepted some step) counts = counted (firstB
 countsAfter (stops accepted step) counts = counts
 
 -- No call but a run counts.
-abbrev pub countsOf : {s t : List ℕ} {c : Call} {a : Answer} → Did s c a t → List ℕ → List ℕ
-countsOf (isRefused some number) counts = counts
-countsOf (isLaidOut passed did) counts = counts
-countsOf (hasRun passed did) counts = countsAfter (did .steps) counts
-countsOf (isLoaded passed did) counts = counts
-countsOf (hasTold passed did) counts = counts
+abbrev pub callCounts : {s t : List ℕ} {c : Call} {a : Answer} → Did s c a t → List ℕ → List ℕ
+callCounts (isRefused some number) counts = counts
+callCounts (isLaidOut passed did) counts = counts
+callCounts (hasRun passed did) counts = countsAfter (did .steps) counts
+callCounts (isLoaded passed did) counts = counts
+callCounts (hasTold passed did) counts = counts
 
 -- ---- the calls
 
-abbrev pub callOf : Procedures → Record → Call
-callOf p (file.load g lengths ravel) = load p g lengths ravel
-callOf p (file.run budget) = run p budget
+abbrev pub recordCall : Procedures → Record → Call
+recordCall p (file.load g lengths ravel) = load p g lengths ravel
+recordCall p (file.run budget) = run p budget
 
 -- The number that halts a replay: "the number returned for it (3 for a trap)"; 0 where it goes on.
 abbrev pub haltOf : Answer → ℕ
@@ -56,11 +56,11 @@ pub data Replays (p : Procedures) : Records → List ℕ → List ℕ → Replay
   isMalformed : {place : ℕ} {s counts : List ℕ} → Replays p (malformed place) s counts (Malformed place) s counts []
   -- a record's call is done, and the replay goes on from what it left
   continues : {place : ℕ} {r : Record} {rest : Records} {s t u counts after : List ℕ} {a : Answer} {answer : Replayed} {events : List Event}
-      → (did : Did s (callOf p r) a t) → haltOf a ≡ 0 → Replays p rest t (countsOf did counts) answer u after events
-      → Replays p (entry place r rest) s counts answer u after (event (callOf p r) a t ∷ events)
+      → (did : Did s (recordCall p r) a t) → haltOf a ≡ 0 → Replays p rest t (callCounts did counts) answer u after events
+      → Replays p (entry place r rest) s counts answer u after (event (recordCall p r) a t ∷ events)
   -- a trap or a refusal halts it, at the place of the record
-  halts : {place : ℕ} {r : Record} {rest : Records} {s t counts : List ℕ} {a : Answer} → (did : Did s (callOf p r) a t) → haltOf a ≢ 0
-      → Replays p (entry place r rest) s counts (Halted (haltOf a) place) t (countsOf did counts) (event (callOf p r) a t ∷ [])
+  halts : {place : ℕ} {r : Record} {rest : Records} {s t counts : List ℕ} {a : Answer} → (did : Did s (recordCall p r) a t) → haltOf a ≢ 0
+      → Replays p (entry place r rest) s counts (Halted (haltOf a) place) t (callCounts did counts) (event (recordCall p r) a t ∷ [])
 
 -- What `replay` promises, of 32-bit words and bytes, as its types say in code: "zeroed first".
 unfoldable pub PromisedReplay : List ℕ → Procedures → List ℕ → Replayed → List ℕ → List ℕ → Type 0
@@ -74,23 +74,23 @@ abbrev pub OneByOne : List ℕ → List Event → List ℕ → Type 0
 OneByOne s [] t = s ≡ t
 OneByOne s (e ∷ events) t = Did s (e .call) (e .answer) (e .after) × OneByOne (e .after) events t
 
-abbrev pub callsOf : Procedures → Records → List Call
-callsOf p ends = []
-callsOf p (malformed place) = []
-callsOf p (entry place r rest) = callOf p r ∷ callsOf p rest
+abbrev pub recordCalls : Procedures → Records → List Call
+recordCalls p ends = []
+recordCalls p (malformed place) = []
+recordCalls p (entry place r rest) = recordCall p r ∷ recordCalls p rest
 
 -- The number of finished instructions.
-abbrev pub stepsOf : Answer → ℕ
-stepsOf (ran steps) = steps
-stepsOf (trapped steps) = steps
-stepsOf (refused number) = 0
-stepsOf done = 0
-stepsOf (scalar w) = 0
-stepsOf (array block) = 0
+abbrev pub finishedOf : Answer → ℕ
+finishedOf (ran steps) = steps
+finishedOf (trapped steps) = steps
+finishedOf (refused number) = 0
+finishedOf done = 0
+finishedOf (scalar w) = 0
+finishedOf (array block) = 0
 
 abbrev pub finishedIn : List Event → ℕ
 finishedIn [] = 0
-finishedIn (e ∷ events) = stepsOf (e .answer) + finishedIn events
+finishedIn (e ∷ events) = finishedOf (e .answer) + finishedIn events
 
 abbrev pub total : List ℕ → ℕ
 total [] = 0
@@ -106,10 +106,10 @@ pub record ReplayTheorems : Type 0 where
       → Replays p records s counts answer t after events → OneByOne s events t
   -- they are the records' calls, in order, up to the one that halts
   pub inOrder : {p : Procedures} {records : Records} {s t counts after : List ℕ} {answer : Replayed} {events : List Event}
-      → Replays p records s counts answer t after events → (later : List Call) × (callsOf p records ≡ map (λ (e : Event). e .call) events ++ later)
+      → Replays p records s counts answer t after events → (later : List Call) × (recordCalls p records ≡ map (λ (e : Event). e .call) events ++ later)
   -- "0 says that every record was done"
   pub all : {p : Procedures} {records : Records} {s t counts after : List ℕ} {events : List Event}
-      → Replays p records s counts Done t after events → callsOf p records ≡ map (λ (e : Event). e .call) events
+      → Replays p records s counts Done t after events → recordCalls p records ≡ map (λ (e : Event). e .call) events
   -- the tally's sum is the number of finished instructions where no count is at its limit
   pub sum : {p : Procedures} {records : Records} {s t after : List ℕ} {answer : Replayed} {events : List Event}
       → Replays p records s noneCounted answer t after events → AllBelow countLimit after → (length after ≡ 8) × (total after ≡ finishedIn events)

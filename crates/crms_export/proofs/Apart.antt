@@ -40,7 +40,7 @@ use Rattle.operations.specs.Look.{seenAs, looked}
 use Rattle.operations.specs.Replay.{replayed}
 use Rattle.operations.specs.Run as operations
 use Rattle.crms_export.specs.Numbers.{fields, lookNumber}
-use Rattle.crms_export.specs.Apart.{statusIn, rankIn, firstIn, countIn, RunApart, ReplayApart, LookApart, Apart}
+use Rattle.crms_export.specs.Apart.{statusIn, rankIn, firstWordIn, countIn, RunApart, ReplayApart, LookApart, Apart}
 use Rattle.crms_export.proofs.Numbers.{part-length}
 use Rattle.operations.proofs.Replays.{place-inside}
 
@@ -88,7 +88,7 @@ replays s regular alternate file l = replay-apart _ (place-inside s regular alte
 record Fields (n status rank first count : ℕ) : Type 0 where
   status-is : statusIn n ≡ status
   rank-is : rankIn n ≡ rank
-  first-is : firstIn n ≡ first
+  first-is : firstWordIn n ≡ first
   count-is : countIn n ≡ count
 
 told : (status rank first count : ℕ) → rank < 2 ^ 4 → first < 2 ^ 14 → count < 2 ^ 14 → Fields (fields status rank first count) status rank first count

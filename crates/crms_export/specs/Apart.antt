@@ -29,8 +29,8 @@ placeIn n = n % 2 ^ 32
 abbrev pub rankIn : ℕ → ℕ
 rankIn n = n / 2 ^ 28 % 2 ^ 4
 
-abbrev pub firstIn : ℕ → ℕ
-firstIn n = n / 2 ^ 14 % 2 ^ 14
+abbrev pub firstWordIn : ℕ → ℕ
+firstWordIn n = n / 2 ^ 14 % 2 ^ 14
 
 abbrev pub countIn : ℕ → ℕ
 countIn n = n % 2 ^ 14
@@ -45,10 +45,10 @@ pub record ReplayApart (answer : Replayed) : Type 0 where
 
 -- The elements from `first` up, and the lengths just below it.
 abbrev pub elementsIn : List ℕ → ℕ → List ℕ
-elementsIn s n = part s (firstIn n) (countIn n)
+elementsIn s n = part s (firstWordIn n) (countIn n)
 
 abbrev pub lengthsIn : List ℕ → ℕ → List ℕ
-lengthsIn s n = part s (firstIn n - rankIn n) (rankIn n)
+lengthsIn s n = part s (firstWordIn n - rankIn n) (rankIn n)
 
 -- Where a number leads to.
 abbrev pub Leads : List ℕ → ℕ → Looked → Type 0
@@ -59,8 +59,8 @@ Leads s n (Refused number) = Unit {0}
 
 pub record LookApart (s : List ℕ) (g : ℕ) (answer : Looked) : Type 0 where
   pub status : statusIn (lookNumber s g answer) ≡ lookStatus answer
-  pub low : rankIn (lookNumber s g answer) ≤ firstIn (lookNumber s g answer)
-  pub high : firstIn (lookNumber s g answer) + countIn (lookNumber s g answer) ≤ length s
+  pub low : rankIn (lookNumber s g answer) ≤ firstWordIn (lookNumber s g answer)
+  pub high : firstWordIn (lookNumber s g answer) + countIn (lookNumber s g answer) ≤ length s
   pub leads : Leads s (lookNumber s g answer) answer
 
 -- Of any words, any file up to 2^32 bytes and any global. A budget has 32 bits.

@@ -13,8 +13,8 @@ use Rattle.segment.specs.Lent.{Words}
 use Rattle.imports.specs.declared.number.FoundNumber.{FoundNumber}
 use Rattle.imports.specs.declared.number.FoundNumber.the-variants.{Number, Bad}
 use Rattle.imports.specs.Numbers as several
-use Rattle.imports.specs.Numbers.{Numbers, numbers, numberAt, withNumber, andMore, numbersAt, withNumbers}
-use Rattle.imports.specs.Records.{Record, load, run, FoundRecord, found, bad, Records, ends, malformed, entry, elementLimit, numberLimit, elementsAt, lengthsAt, loadAt, runAt, recordAt, continued, recordsUpTo, recordsFrom, recordsOf}
+use Rattle.imports.specs.Numbers.{Numbers, numbers, numberAt, ifNumber, andMore, severalAt, ifNumbers}
+use Rattle.imports.specs.Records.{Record, load, run, FoundRecord, found, bad, Records, ends, malformed, entry, elementLimit, numberLimit, importedElements, importedLengths, importedLoad, importedRun, recordAt, continued, recordsUpTo, recordsFrom, recordsOf}
 use Rattle.imports.specs.Encoding.{AtMost}
 
 -- what holds of both ways holds of the one that is taken
@@ -22,7 +22,7 @@ by-test : {A : Type 0} (P : A → Type 0) (b : Bool) (one other : A) → (b ≡ 
 by-test P true one other h k = h refl
 by-test P false one other h k = k refl
 
-by-number : {A : Type 0} (P : A → Type 0) (n : FoundNumber) (none : A) (f : ℕ → ℕ → A) → P none → ((n next : ℕ) → P (f n next)) → P (withNumber n none f)
+by-number : {A : Type 0} (P : A → Type 0) (n : FoundNumber) (none : A) (f : ℕ → ℕ → A) → P none → ((n next : ℕ) → P (f n next)) → P (ifNumber n none f)
 by-number P (Number n next) none f h k = k n next
 by-number P Bad none f h k = h
 
@@ -40,17 +40,17 @@ and-more : (limit n : ℕ) → n ≤ limit → (more : Numbers) → AllAtMost li
 and-more limit n h (numbers ns next) k = one-more limit n ns h k
 and-more limit n h several.bad k = tt
 
-numbers-at-most : (limit count : ℕ) (file : List ℕ) (place : ℕ) → AllAtMost limit (numbersAt limit count file place)
-unfolding numbersAt
+numbers-at-most : (limit count : ℕ) (file : List ℕ) (place : ℕ) → AllAtMost limit (severalAt limit count file place)
+unfolding severalAt
 numbers-at-most limit zero file place = λ i. omega arith
 numbers-at-most limit (suc count) file place =
     by-number (AllAtMost limit) (numberAt file place) several.bad _ tt
     (λ n next.
-    by-test (AllAtMost limit) (ltb limit n) several.bad (andMore n (numbersAt limit count file next)) (λ e. tt)
-    (λ e. and-more limit n (ltb-false limit n e) (numbersAt limit count file next) (numbers-at-most limit count file next)))
+    by-test (AllAtMost limit) (ltb limit n) several.bad (andMore n (severalAt limit count file next)) (λ e. tt)
+    (λ e. and-more limit n (ltb-false limit n e) (severalAt limit count file next) (numbers-at-most limit count file next)))
 
 by-numbers : {A : Type 0} (P : A → Type 0) (limit : ℕ) (ns : Numbers) (none : A) (f : List ℕ → ℕ → A) → AllAtMost limit ns → P none
-    → ((ns : List ℕ) (next : ℕ) → AtMost limit ns → P (f ns next)) → P (withNumbers ns none f)
+    → ((ns : List ℕ) (next : ℕ) → AtMost limit ns → P (f ns next)) → P (ifNumbers ns none f)
 by-numbers P limit (numbers ns next) none f h k l = l ns next h
 by-numbers P limit several.bad none f h k l = k
 
@@ -64,30 +64,30 @@ abbrev FoundOfWords : FoundRecord → Type 0
 FoundOfWords (found r next) = OfWords r
 FoundOfWords bad = Unit {0}
 
-elements-of-words : (file : List ℕ) (place global : ℕ) (lengths : List ℕ) → Words lengths → FoundOfWords (elementsAt file place global lengths)
-unfolding elementsAt
+elements-of-words : (file : List ℕ) (place global : ℕ) (lengths : List ℕ) → Words lengths → FoundOfWords (importedElements file place global lengths)
+unfolding importedElements
 elements-of-words file place global lengths h =
     by-test FoundOfWords (ltb elementLimit (product lengths)) bad _ (λ e. tt)
     (λ e.
-    by-numbers FoundOfWords integerLimit (numbersAt integerLimit (product lengths) file place) bad _
+    by-numbers FoundOfWords integerLimit (severalAt integerLimit (product lengths) file place) bad _
     (numbers-at-most integerLimit (product lengths) file place) tt (λ ravel next k. (h, λ i. omega (arith, k i))))
 
-lengths-of-words : (file : List ℕ) (place global rank : ℕ) → FoundOfWords (lengthsAt file place global rank)
-unfolding lengthsAt
+lengths-of-words : (file : List ℕ) (place global rank : ℕ) → FoundOfWords (importedLengths file place global rank)
+unfolding importedLengths
 lengths-of-words file place global rank =
     by-test FoundOfWords (ltb 15 rank) bad _ (λ e. tt)
     (λ e.
-    by-numbers FoundOfWords numberLimit (numbersAt numberLimit rank file place) bad _ (numbers-at-most numberLimit rank file place) tt
+    by-numbers FoundOfWords numberLimit (severalAt numberLimit rank file place) bad _ (numbers-at-most numberLimit rank file place) tt
     (λ lengths next k. elements-of-words file next global lengths (λ i. omega (arith, k i))))
 
-load-of-words : (file : List ℕ) (place : ℕ) → FoundOfWords (loadAt file place)
-unfolding loadAt
+load-of-words : (file : List ℕ) (place : ℕ) → FoundOfWords (importedLoad file place)
+unfolding importedLoad
 load-of-words file place =
     by-number FoundOfWords (numberAt file place) bad _ tt
     (λ global next. by-number FoundOfWords (numberAt file next) bad _ tt (λ rank after. lengths-of-words file after global rank))
 
-run-of-words : (file : List ℕ) (place : ℕ) → FoundOfWords (runAt file place)
-unfolding runAt
+run-of-words : (file : List ℕ) (place : ℕ) → FoundOfWords (importedRun file place)
+unfolding importedRun
 run-of-words file place = by-number FoundOfWords (numberAt file place) bad _ tt (λ budget next. tt)
 
 record-of-words : (file : List ℕ) (place : ℕ) → FoundOfWords (recordAt file place)
@@ -95,8 +95,8 @@ unfolding recordAt
 record-of-words file place =
     by-number FoundOfWords (numberAt file place) bad _ tt
     (λ kind next.
-    by-test FoundOfWords (eqb kind 0) (loadAt file next) _ (λ e. load-of-words file next)
-    (λ e. by-test FoundOfWords (eqb kind 1) (runAt file next) bad (λ e. run-of-words file next) (λ e. tt)))
+    by-test FoundOfWords (eqb kind 0) (importedLoad file next) _ (λ e. load-of-words file next)
+    (λ e. by-test FoundOfWords (eqb kind 1) (importedRun file next) bad (λ e. run-of-words file next) (λ e. tt)))
 
 -- ---- the file
 

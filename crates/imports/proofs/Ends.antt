@@ -12,8 +12,8 @@ use Rattle.segment.specs.Blocks.{product}
 use Rattle.imports.specs.declared.number.FoundNumber.{FoundNumber}
 use Rattle.imports.specs.declared.number.FoundNumber.the-variants.{Number, Bad}
 use Rattle.imports.specs.Numbers as several
-use Rattle.imports.specs.Numbers.{Numbers, numbers, above, groupsAt, numberAt, withNumber, numbersAt, withNumbers, andMore}
-use Rattle.imports.specs.Records.{Record, load, run, FoundRecord, found, bad, numberLimit, elementLimit, elementsAt, lengthsAt, loadAt, runAt, recordAt}
+use Rattle.imports.specs.Numbers.{Numbers, numbers, above, groupsAt, numberAt, ifNumber, severalAt, ifNumbers, andMore}
+use Rattle.imports.specs.Records.{Record, load, run, FoundRecord, found, bad, numberLimit, elementLimit, importedElements, importedLengths, importedLoad, importedRun, recordAt}
 
 -- what is found, if anything, ends at `least` or later
 abbrev NumberFrom : ℕ → FoundNumber → Type 0
@@ -34,12 +34,12 @@ either P true p q = p
 either P false p q = q
 
 with-number : {A : Type 0} (P : A → Type 0) (least : ℕ) (n : FoundNumber) (none : A) (f : ℕ → ℕ → A)
-    → NumberFrom least n → P none → ((v next : ℕ) → least ≤ next → P (f v next)) → P (withNumber n none f)
+    → NumberFrom least n → P none → ((v next : ℕ) → least ≤ next → P (f v next)) → P (ifNumber n none f)
 with-number P least (Number v next) none f past p q = q v next past
 with-number P least Bad none f past p q = p
 
 with-numbers : {A : Type 0} (P : A → Type 0) (least : ℕ) (ns : Numbers) (none : A) (f : List ℕ → ℕ → A)
-    → NumbersFrom least ns → P none → ((vs : List ℕ) (next : ℕ) → least ≤ next → P (f vs next)) → P (withNumbers ns none f)
+    → NumbersFrom least ns → P none → ((vs : List ℕ) (next : ℕ) → least ≤ next → P (f vs next)) → P (ifNumbers ns none f)
 with-numbers P least (numbers vs next) none f past p q = q vs next past
 with-numbers P least several.bad none f past p q = p
 
@@ -66,39 +66,39 @@ more-from : (least n : ℕ) (ns : Numbers) → NumbersFrom least ns → NumbersF
 more-from least n (numbers ns next) past = past
 more-from least n several.bad past = tt
 
-numbers-from : (limit count : ℕ) (file : List ℕ) (place least : ℕ) → least ≤ place → NumbersFrom least (numbersAt limit count file place)
-unfolding numbersAt
+numbers-from : (limit count : ℕ) (file : List ℕ) (place least : ℕ) → least ≤ place → NumbersFrom least (severalAt limit count file place)
+unfolding severalAt
 numbers-from limit zero file place least past = past
 numbers-from limit (suc count) file place least past =
     with-number (NumbersFrom least) (place + 1) (numberAt file place) several.bad _ (number-from file place) tt
-    (λ n next more. either (NumbersFrom least) (ltb limit n) tt (more-from least n (numbersAt limit count file next) (numbers-from limit count file next least (omega arith))))
+    (λ n next more. either (NumbersFrom least) (ltb limit n) tt (more-from least n (severalAt limit count file next) (numbers-from limit count file next least (omega arith))))
 
 -- ---- records
 
 module _ (file : List ℕ) (least : ℕ) where
-  elements-from : (place global : ℕ) (lengths : List ℕ) → least ≤ place → RecordFrom least (elementsAt file place global lengths)
-  unfolding elementsAt
+  elements-from : (place global : ℕ) (lengths : List ℕ) → least ≤ place → RecordFrom least (importedElements file place global lengths)
+  unfolding importedElements
   elements-from place global lengths past =
       either (RecordFrom least) (ltb elementLimit (product lengths)) tt
-      (with-numbers (RecordFrom least) least (numbersAt integerLimit (product lengths) file place) bad (λ ravel next. found (load global lengths ravel) next)
+      (with-numbers (RecordFrom least) least (severalAt integerLimit (product lengths) file place) bad (λ ravel next. found (load global lengths ravel) next)
       (numbers-from integerLimit (product lengths) file place least past) tt (λ ravel next more. more))
 
-  lengths-from : (place global rank : ℕ) → least ≤ place → RecordFrom least (lengthsAt file place global rank)
-  unfolding lengthsAt
+  lengths-from : (place global rank : ℕ) → least ≤ place → RecordFrom least (importedLengths file place global rank)
+  unfolding importedLengths
   lengths-from place global rank past =
       either (RecordFrom least) (ltb 15 rank) tt
-      (with-numbers (RecordFrom least) least (numbersAt numberLimit rank file place) bad (λ lengths next. elementsAt file next global lengths)
+      (with-numbers (RecordFrom least) least (severalAt numberLimit rank file place) bad (λ lengths next. importedElements file next global lengths)
       (numbers-from numberLimit rank file place least past) tt (λ lengths next more. elements-from next global lengths more))
 
-  load-from : (place : ℕ) → least ≤ place → RecordFrom least (loadAt file place)
-  unfolding loadAt
+  load-from : (place : ℕ) → least ≤ place → RecordFrom least (importedLoad file place)
+  unfolding importedLoad
   load-from place past =
       with-number (RecordFrom least) (place + 1) (numberAt file place) bad _ (number-from file place) tt
       (λ global next more. with-number (RecordFrom least) (next + 1) (numberAt file next) bad _ (number-from file next) tt
       (λ rank after more′. lengths-from after global rank (omega arith)))
 
-  run-from : (place : ℕ) → least ≤ place → RecordFrom least (runAt file place)
-  unfolding runAt
+  run-from : (place : ℕ) → least ≤ place → RecordFrom least (importedRun file place)
+  unfolding importedRun
   run-from place past =
       with-number (RecordFrom least) (place + 1) (numberAt file place) bad (λ budget next. found (run budget) next) (number-from file place) tt (λ budget next more. omega arith)
 

@@ -13,8 +13,8 @@ use Rattle.segment.specs.Lent.{Bytes}
 use Rattle.imports.specs.declared.number.FoundNumber.{FoundNumber}
 use Rattle.imports.specs.declared.number.FoundNumber.the-variants.{Number, Bad}
 use Rattle.imports.specs.Numbers as several
-use Rattle.imports.specs.Numbers.{Numbers, numbers, numberAt, withNumber, numbersAt, withNumbers, andMore}
-use Rattle.imports.specs.Records.{Record, load, run, FoundRecord, found, bad, numberLimit, elementLimit, elementsAt, lengthsAt, loadAt, runAt, kindAt, recordAt}
+use Rattle.imports.specs.Numbers.{Numbers, numbers, numberAt, ifNumber, severalAt, ifNumbers, andMore}
+use Rattle.imports.specs.Records.{Record, load, run, FoundRecord, found, bad, numberLimit, elementLimit, importedElements, importedLengths, importedLoad, importedRun, kindAt, recordAt}
 use Rattle.imports.specs.Encoding.{encodeNumber, encodeNumbers, encodeRecord, AtMost, Loadable, Writable}
 use Rattle.descriptor.proofs.Truth.{by-eq}
 use Rattle.imports.proofs.Parsing.{loads, runs, of-no-kind}
@@ -34,17 +34,17 @@ refused-not : (b : Bool) (rest : FoundRecord) (r : Record) (next : ℕ) → cond
 refused-not true rest r next e = never e
 refused-not false rest r next e = (refl, e)
 
-number-then : (what : FoundNumber) (f : ℕ → ℕ → FoundRecord) (r : Record) (next : ℕ) → withNumber what bad f ≡ found r next
+number-then : (what : FoundNumber) (f : ℕ → ℕ → FoundRecord) (r : Record) (next : ℕ) → ifNumber what bad f ≡ found r next
     → (n : ℕ) × (after : ℕ) × (what ≡ Number n after) × (f n after ≡ found r next)
 number-then (Number n after) f r next e = (n, after, refl, e)
 number-then Bad f r next e = never e
 
-numbers-then : (what : Numbers) (f : List ℕ → ℕ → FoundRecord) (r : Record) (next : ℕ) → withNumbers what bad f ≡ found r next
+numbers-then : (what : Numbers) (f : List ℕ → ℕ → FoundRecord) (r : Record) (next : ℕ) → ifNumbers what bad f ≡ found r next
     → (ns : List ℕ) × (after : ℕ) × (what ≡ numbers ns after) × (f ns after ≡ found r next)
 numbers-then (numbers ns after) f r next e = (ns, after, refl, e)
 numbers-then several.bad f r next e = never e
 
-several-then : (what : FoundNumber) (f : ℕ → ℕ → Numbers) (ns : List ℕ) (next : ℕ) → withNumber what several.bad f ≡ numbers ns next
+several-then : (what : FoundNumber) (f : ℕ → ℕ → Numbers) (ns : List ℕ) (next : ℕ) → ifNumber what several.bad f ≡ numbers ns next
     → (n : ℕ) × (after : ℕ) × (what ≡ Number n after) × (f n after ≡ numbers ns next)
 several-then (Number n after) f ns next e = (n, after, refl, e)
 several-then Bad f ns next e = never-several e
@@ -76,16 +76,16 @@ module _ (file : List ℕ) (bytes : Bytes file) where
         fills = both-fill file (number-one file bytes place n after one .1) (rest .fills);
       }
 
-  numbers-one : (limit count place : ℕ) → place ≤ length file → (ns : List ℕ) (next : ℕ) → numbersAt limit count file place ≡ numbers ns next
+  numbers-one : (limit count place : ℕ) → place ≤ length file → (ns : List ℕ) (next : ℕ) → severalAt limit count file place ≡ numbers ns next
       → NumbersOf limit count place ns next
-  unfolding numbersAt
+  unfolding severalAt
   numbers-one limit zero place inside ns next read =
       let none : [] ≡ ns = cc in
       let ended : place ≡ next = cc in
       rw (← none, ← ended) (record { counted = refl; most = λ i. omega arith; fills = fills-none inside })
   numbers-one limit (suc count) place inside ns next read =
-      let one = several-then (numberAt file place) (λ n next. cond (ltb limit n) several.bad (andMore n (numbersAt limit count file next))) ns next read in
-      let more = within-limit (ltb limit (one .0)) (one .0) (numbersAt limit count file (one .1)) ns next (one .3) in
+      let one = several-then (numberAt file place) (λ n next. cond (ltb limit n) several.bad (andMore n (severalAt limit count file next))) ns next read in
+      let more = within-limit (ltb limit (one .0)) (one .0) (severalAt limit count file (one .1)) ns next (one .3) in
       rw (more .2)
       (one-of-several limit count place (one .0) (one .1) (more .1) next (one .2) (ltb-false limit (one .0) (more .0))
       (numbers-one limit count (one .1) (fills-inside file (number-one file bytes place (one .0) (one .1) (one .2) .1)) (more .1) next (more .3)))
@@ -98,12 +98,12 @@ module _ (file : List ℕ) (bytes : Bytes file) where
     pub few : product lengths ≤ elementLimit
     pub all : NumbersOf integerLimit (product lengths) place ravel next
 
-  elements-one : (place global : ℕ) (lengths : List ℕ) → place ≤ length file → (r : Record) (next : ℕ) → elementsAt file place global lengths ≡ found r next
+  elements-one : (place global : ℕ) (lengths : List ℕ) → place ≤ length file → (r : Record) (next : ℕ) → importedElements file place global lengths ≡ found r next
       → ElementsOf place global lengths r next
-  unfolding elementsAt
+  unfolding importedElements
   elements-one place global lengths inside r next read =
       let few = refused-not (ltb elementLimit (product lengths)) _ r next read in
-      let all = numbers-then (numbersAt integerLimit (product lengths) file place) (λ ravel next. found (load global lengths ravel) next) r next (few .1) in
+      let all = numbers-then (severalAt integerLimit (product lengths) file place) (λ ravel next. found (load global lengths ravel) next) r next (few .1) in
       let ended : all .1 ≡ next = cc (all .3) in
       record {
         ravel = all .0;
@@ -120,11 +120,11 @@ module _ (file : List ℕ) (bytes : Bytes file) where
     pub loadable : global ≤ numberLimit → Loadable global lengths ravel
     pub fills : Fills file place next (encodeNumbers (lengths ++ ravel))
 
-  lengths-one : (place global rank : ℕ) → place ≤ length file → (r : Record) (next : ℕ) → lengthsAt file place global rank ≡ found r next → LoadOf place global rank r next
-  unfolding lengthsAt
+  lengths-one : (place global rank : ℕ) → place ≤ length file → (r : Record) (next : ℕ) → importedLengths file place global rank ≡ found r next → LoadOf place global rank r next
+  unfolding importedLengths
   lengths-one place global rank inside r next read =
       let low = refused-not (ltb 15 rank) _ r next read in
-      let some = numbers-then (numbersAt numberLimit rank file place) (λ lengths next. elementsAt file next global lengths) r next (low .1) in
+      let some = numbers-then (severalAt numberLimit rank file place) (λ lengths next. importedElements file next global lengths) r next (low .1) in
       let lengths = numbers-one numberLimit rank place inside (some .0) (some .1) (some .2) in
       let elements = elements-one (some .1) global (some .0) (fills-inside file (lengths .fills)) r next (some .3) in
       record {
@@ -158,12 +158,12 @@ module _ (file : List ℕ) (bytes : Bytes file) where
         both-fill file loading (both-fill file (number .1) (both-fill file (number-fills second rank (length (rest .lengths)) third ranked (sym (rest .ranked))) (rest .fills))),
       )
 
-  load-one : (start place : ℕ) (r : Record) (next : ℕ) → loadAt file place ≡ found r next → Fills file start place (encodeNumber 0)
+  load-one : (start place : ℕ) (r : Record) (next : ℕ) → importedLoad file place ≡ found r next → Fills file start place (encodeNumber 0)
       → Writable r × Fills file start next (encodeRecord r)
-  unfolding loadAt
+  unfolding importedLoad
   load-one start place r next read loading =
-      let global = number-then (numberAt file place) (λ global next. withNumber (numberAt file next) bad (λ rank after. lengthsAt file after global rank)) r next read in
-      let rank = number-then (numberAt file (global .1)) (λ rank after. lengthsAt file after (global .0) rank) r next (global .3) in
+      let global = number-then (numberAt file place) (λ global next. ifNumber (numberAt file next) bad (λ rank after. importedLengths file after global rank)) r next read in
+      let rank = number-then (numberAt file (global .1)) (λ rank after. importedLengths file after (global .0) rank) r next (global .3) in
       let inside = fills-inside file (number-one file bytes (global .1) (rank .0) (rank .1) (rank .2) .1) in
       load-of start place (global .0) (global .1) (rank .0) (rank .1) next r loading (global .2) (rank .2) (lengths-one (rank .1) (global .0) (rank .0) inside r next (rank .3))
 
@@ -174,9 +174,9 @@ module _ (file : List ℕ) (bytes : Bytes file) where
       let number = number-one file bytes place budget next read in
       (omega (arith, number .0), both-fill file running (both-fill file (number .1) (fills-none (fills-inside file (number .1)))))
 
-  run-one : (start place : ℕ) (r : Record) (next : ℕ) → runAt file place ≡ found r next → Fills file start place (encodeNumber 1)
+  run-one : (start place : ℕ) (r : Record) (next : ℕ) → importedRun file place ≡ found r next → Fills file start place (encodeNumber 1)
       → Writable r × Fills file start next (encodeRecord r)
-  unfolding runAt
+  unfolding importedRun
   run-one start place r next read running =
       let budget = number-then (numberAt file place) (λ budget next. found (run budget) next) r next read in
       go (budget .0) (budget .1) (cc (budget .3)) (cc (budget .3)) (run-of start place (budget .0) (budget .1) (budget .2) running)

@@ -6,8 +6,8 @@ use mathlib.Core.List.{List, [], _∷_, _++_, append-assoc}
 use lib.ListN.{length}
 use borrow.Author.Tests.{le-ltb}
 use Rattle.descriptor.specs.Fields.{integerLimit}
-use Rattle.imports.specs.Numbers.{numbers, numbersAt, andMore}
-use Rattle.imports.specs.Records.{Record, load, run, found, entry, numberLimit, elementsAt, lengthsAt, loadAt, runAt, recordAt, recordsFrom}
+use Rattle.imports.specs.Numbers.{numbers, severalAt, andMore}
+use Rattle.imports.specs.Records.{Record, load, run, found, entry, numberLimit, importedElements, importedLengths, importedLoad, importedRun, recordAt, recordsFrom}
 use Rattle.imports.specs.Encoding.{encodeNumber, encodeNumbers, encodeRecord, encodeAll, AtMost, Loadable, Writable, AllWritable, placedFrom}
 use Rattle.imports.proofs.Several.{one-more}
 use Rattle.imports.proofs.Parsing.{with-elements, loads, runs}
@@ -25,8 +25,8 @@ numbers-append (n ∷ some) others =
 
 module _ (file : List ℕ) where
   numbers-back : (limit : ℕ) → limit ≤ numberLimit → (ns : List ℕ) → AtMost limit ns → (place next : ℕ) → Fills file place next (encodeNumbers ns)
-      → numbersAt limit (length ns) file place ≡ numbers ns next
-  unfolding numbersAt
+      → severalAt limit (length ns) file place ≡ numbers ns next
+  unfolding severalAt
   numbers-back limit small [] most place next fills = ap (numbers []) (omega (arith, fills .end))
   numbers-back limit small (n ∷ ns) most place next fills =
       let middle = place + length (encodeNumber n) in
@@ -37,14 +37,14 @@ module _ (file : List ℕ) where
   -- ---- a record
 
   module _ {global : ℕ} {lengths ravel : List ℕ} (fits : Loadable global lengths ravel) where
-    elements-back : (place next : ℕ) → Fills file place next (encodeNumbers ravel) → elementsAt file place global lengths ≡ found (load global lengths ravel) next
+    elements-back : (place next : ℕ) → Fills file place next (encodeNumbers ravel) → importedElements file place global lengths ≡ found (load global lengths ravel) next
     elements-back place next fills =
         sym (with-elements file place global lengths (length ravel) (omega (arith, fits .counted, fits .few)) (fits .few) ravel next
         (sym (numbers-back integerLimit (omega arith) ravel (fits .integers) place next fills)))
 
     lengths-back : (place next : ℕ) → Fills file place next (encodeNumbers (lengths ++ ravel))
-        → lengthsAt file place global (length lengths) ≡ found (load global lengths ravel) next
-    unfolding lengthsAt
+        → importedLengths file place global (length lengths) ≡ found (load global lengths ravel) next
+    unfolding importedLengths
     lengths-back place next fills =
         let parts = rw (numbers-append lengths ravel) at fills in
         let middle = place + length (encodeNumbers lengths) in
@@ -55,8 +55,8 @@ module _ (file : List ℕ) where
         (elements-back middle next (second-fills file (encodeNumbers lengths) (encodeNumbers ravel) place next parts))
 
     load-back : (place next : ℕ) → Fills file place next (encodeNumbers (global ∷ length lengths ∷ (lengths ++ ravel)))
-        → loadAt file place ≡ found (load global lengths ravel) next
-    unfolding loadAt
+        → importedLoad file place ≡ found (load global lengths ravel) next
+    unfolding importedLoad
     load-back place next fills =
         let others = encodeNumbers (length lengths ∷ (lengths ++ ravel)) in
         let after = second-fills file (encodeNumber global) others place next fills in
@@ -68,8 +68,8 @@ module _ (file : List ℕ) where
         )
         (lengths-back third next (second-fills file (encodeNumber (length lengths)) (encodeNumbers (lengths ++ ravel)) second next after))
 
-  run-back : (budget : ℕ) → budget ≤ numberLimit → (place next : ℕ) → Fills file place next (encodeNumbers (budget ∷ [])) → runAt file place ≡ found (run budget) next
-  unfolding runAt
+  run-back : (budget : ℕ) → budget ≤ numberLimit → (place next : ℕ) → Fills file place next (encodeNumbers (budget ∷ [])) → importedRun file place ≡ found (run budget) next
+  unfolding importedRun
   run-back budget fits place next fills =
       let middle = place + length (encodeNumber budget) in
       let none = second-fills file (encodeNumber budget) [] place next fills in

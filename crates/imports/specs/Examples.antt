@@ -2,8 +2,8 @@
 use mathlib.Core.Path.{_≡_, refl}
 use mathlib.Core.List.{[], _∷_}
 use Rattle.imports.specs.declared.number.FoundNumber.the-variants.{Number, Bad}
-use Rattle.imports.specs.Numbers.{groupsAt, numberAt, numbersAt}
-use Rattle.imports.specs.Records.{load, run, ends, malformed, entry, elementsAt, lengthsAt, loadAt, runAt, recordAt, recordsUpTo, recordsFrom, recordsOf}
+use Rattle.imports.specs.Numbers.{groupsAt, numberAt, severalAt}
+use Rattle.imports.specs.Records.{load, run, ends, malformed, entry, importedElements, importedLengths, importedLoad, importedRun, recordAt, recordsUpTo, recordsFrom, recordsOf}
 use Rattle.imports.specs.Encoding.{encodeGroups, encodeNumber, encodeRecord, encodeAll}
 
 pub record Examples : Type 0 where
@@ -24,7 +24,7 @@ pub record Examples : Type 0 where
   pub empty : recordsOf (0 ∷ 8 ∷ 1 ∷ 0 ∷ []) ≡ entry 0 (load 8 (0 ∷ []) []) ends
 
 examples : Examples
-unfolding groupsAt numberAt numbersAt elementsAt lengthsAt loadAt runAt recordAt recordsUpTo recordsFrom encodeGroups encodeNumber encodeRecord
+unfolding groupsAt numberAt severalAt importedElements importedLengths importedLoad importedRun recordAt recordsUpTo recordsFrom encodeGroups encodeNumber encodeRecord
 examples = record {
   two = refl;
   greatest = refl;

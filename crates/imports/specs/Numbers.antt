@@ -26,9 +26,9 @@ unfoldable pub numberAt : List ℕ → ℕ → FoundNumber
 numberAt file place = groupsAt 4 file place
 
 -- What is done with a number and the place after it, and the answer where there is none.
-abbrev pub withNumber : {A : Type 0} → FoundNumber → A → (ℕ → ℕ → A) → A
-withNumber (Number n next) none f = f n next
-withNumber Bad none f = none
+abbrev pub ifNumber : {A : Type 0} → FoundNumber → A → (ℕ → ℕ → A) → A
+ifNumber (Number n next) none f = f n next
+ifNumber Bad none f = none
 
 -- ---- several
 
@@ -41,12 +41,12 @@ abbrev pub andMore : ℕ → Numbers → Numbers
 andMore n (numbers ns next) = numbers (n ∷ ns) next
 andMore n bad = bad
 
-abbrev pub withNumbers : {A : Type 0} → Numbers → A → (List ℕ → ℕ → A) → A
-withNumbers (numbers ns next) none f = f ns next
-withNumbers bad none f = none
+abbrev pub ifNumbers : {A : Type 0} → Numbers → A → (List ℕ → ℕ → A) → A
+ifNumbers (numbers ns next) none f = f ns next
+ifNumbers bad none f = none
 
 -- So many, none of them above a limit.
-unfoldable pub numbersAt : ℕ → ℕ → List ℕ → ℕ → Numbers
-numbersAt limit zero file place = numbers [] place
-numbersAt limit (suc count) file place =
-    withNumber (numberAt file place) bad (λ n next. cond (ltb limit n) bad (andMore n (numbersAt limit count file next)))
+unfoldable pub severalAt : ℕ → ℕ → List ℕ → ℕ → Numbers
+severalAt limit zero file place = numbers [] place
+severalAt limit (suc count) file place =
+    ifNumber (numberAt file place) bad (λ n next. cond (ltb limit n) bad (andMore n (severalAt limit count file next)))

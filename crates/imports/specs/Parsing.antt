@@ -27,10 +27,10 @@ Few (Load global rank count next) = (rank ≤ 15) × (count ≤ elementLimit)
 Few (Run budget next) = Unit {0}
 Few Malformed = Unit {0}
 
-abbrev pub Passes : ℕ → Parsed → Type 0
-Passes place (Load global rank count next) = place < next
-Passes place (Run budget next) = place < next
-Passes place Malformed = Unit {0}
+abbrev pub Advances : ℕ → Parsed → Type 0
+Advances place (Load global rank count next) = place < next
+Advances place (Run budget next) = place < next
+Advances place Malformed = Unit {0}
 
-abbrev pub Within : ℕ → Parsed → Type 0
-Within place r = Few r × Passes place r
+abbrev pub Usable : ℕ → Parsed → Type 0
+Usable place r = Few r × Advances place r

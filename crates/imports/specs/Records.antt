@@ -8,7 +8,7 @@ use lib.Dec.{ltb, eqb}
 use lib.ListN.{length}
 use Rattle.descriptor.specs.Fields.{integerLimit}
 use Rattle.segment.specs.Blocks.{product}
-use Rattle.imports.specs.Numbers.{numberAt, withNumber, numbersAt, withNumbers}
+use Rattle.imports.specs.Numbers.{numberAt, ifNumber, severalAt, ifNumbers}
 
 pub data Record : Type 0 where
   -- a global's address, the lengths, and the elements: the integer n is the word n
@@ -29,29 +29,29 @@ abbrev pub numberLimit : ℕ
 numberLimit = 2 ^ 28 - 1
 
 -- So many elements as the exact product of the lengths, one where there is no length.
-unfoldable pub elementsAt : List ℕ → ℕ → ℕ → List ℕ → FoundRecord
-elementsAt file place global lengths =
+unfoldable pub importedElements : List ℕ → ℕ → ℕ → List ℕ → FoundRecord
+importedElements file place global lengths =
     cond (ltb elementLimit (product lengths)) bad
-    (withNumbers (numbersAt integerLimit (product lengths) file place) bad (λ ravel next. found (load global lengths ravel) next))
+    (ifNumbers (severalAt integerLimit (product lengths) file place) bad (λ ravel next. found (load global lengths ravel) next))
 
 -- A length of any size: load itself judges it.
-unfoldable pub lengthsAt : List ℕ → ℕ → ℕ → ℕ → FoundRecord
-lengthsAt file place global rank =
+unfoldable pub importedLengths : List ℕ → ℕ → ℕ → ℕ → FoundRecord
+importedLengths file place global rank =
     cond (ltb 15 rank) bad
-    (withNumbers (numbersAt numberLimit rank file place) bad (λ lengths next. elementsAt file next global lengths))
+    (ifNumbers (severalAt numberLimit rank file place) bad (λ lengths next. importedElements file next global lengths))
 
-unfoldable pub loadAt : List ℕ → ℕ → FoundRecord
-loadAt file place =
-    withNumber (numberAt file place) bad (λ global next. withNumber (numberAt file next) bad (λ rank after. lengthsAt file after global rank))
+unfoldable pub importedLoad : List ℕ → ℕ → FoundRecord
+importedLoad file place =
+    ifNumber (numberAt file place) bad (λ global next. ifNumber (numberAt file next) bad (λ rank after. importedLengths file after global rank))
 
-unfoldable pub runAt : List ℕ → ℕ → FoundRecord
-runAt file place = withNumber (numberAt file place) bad (λ budget next. found (run budget) next)
+unfoldable pub importedRun : List ℕ → ℕ → FoundRecord
+importedRun file place = ifNumber (numberAt file place) bad (λ budget next. found (run budget) next)
 
 abbrev pub kindAt : List ℕ → ℕ → ℕ → FoundRecord
-kindAt file next kind = cond (eqb kind 0) (loadAt file next) (cond (eqb kind 1) (runAt file next) bad)
+kindAt file next kind = cond (eqb kind 0) (importedLoad file next) (cond (eqb kind 1) (importedRun file next) bad)
 
 unfoldable pub recordAt : List ℕ → ℕ → FoundRecord
-recordAt file place = withNumber (numberAt file place) bad (λ kind next. kindAt file next kind)
+recordAt file place = ifNumber (numberAt file place) bad (λ kind next. kindAt file next kind)
 
 -- ---- the file
 

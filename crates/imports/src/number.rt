@@ -89,7 +89,7 @@ pub fn numbers_at(
     out: &mut [u32],
 ) -> FoundNumbers
     requires { ⌜ count ≤ length (now out) ⌝ }
-    ensures { λ r. ⌜ readNumbers r count (now (out .exit)) ≡ meaning.numbersAt limit count (now (file .entry)) place ⌝ }
+    ensures { λ r. ⌜ readNumbers r count (now (out .exit)) ≡ meaning.severalAt limit count (now (file .entry)) place ⌝ }
 {
     let mut at = place;
     let mut i = 0;

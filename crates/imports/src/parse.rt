@@ -3,7 +3,7 @@ ghost use mathlib.Core.Path.{_≡_};
 ghost use Prim.Native.Nat.{ℕ, _≤_};
 ghost use mathlib.Core.List.{List};
 ghost use lib.ListN.{length, take};
-ghost use Rattle.imports.specs.Parsing.{parsed, Few, Within};
+ghost use Rattle.imports.specs.Parsing.{parsed, Few, Usable};
 ghost use Rattle.imports.specs.Records as meaning;
 use crate::number::FoundNumber;
 use crate::number::FoundNumbers;
@@ -36,7 +36,7 @@ pub enum Parsed {
 pub fn record_at(file: &[u8], place: usize, lengths: &mut [u32], ravel: &mut [u32]) -> Parsed
     requires { ⌜ (length (now lengths) ≡ 15) × (length (now ravel) ≡ 16384) ⌝ }
     ensures { λ r. ⌜ parsed r (now (lengths .exit)) (now (ravel .exit)) ≡ meaning.recordAt (now (file .entry)) place ⌝ }
-    ensures { λ r. ⌜ Within place r ⌝ }
+    ensures { λ r. ⌜ Usable place r ⌝ }
 {
     let FoundNumber::Number(kind, next) = number_at(file, place) else {
         return Parsed::Malformed;
@@ -52,7 +52,7 @@ pub fn record_at(file: &[u8], place: usize, lengths: &mut [u32], ravel: &mut [u3
 
 fn load_at(file: &[u8], place: usize, lengths: &mut [u32], ravel: &mut [u32]) -> Parsed
     requires { ⌜ (length (now lengths) ≡ 15) × (length (now ravel) ≡ 16384) ⌝ }
-    ensures { λ r. ⌜ parsed r (now (lengths .exit)) (now (ravel .exit)) ≡ meaning.loadAt (now (file .entry)) place ⌝ }
+    ensures { λ r. ⌜ parsed r (now (lengths .exit)) (now (ravel .exit)) ≡ meaning.importedLoad (now (file .entry)) place ⌝ }
     ensures { λ r. ⌜ Few r ⌝ }
 {
     let FoundNumber::Number(global, next) = number_at(file, place) else {
@@ -73,7 +73,7 @@ fn lengths_at(
     ravel: &mut [u32],
 ) -> Parsed
     requires { ⌜ (length (now lengths) ≡ 15) × (length (now ravel) ≡ 16384) ⌝ }
-    ensures { λ r. ⌜ parsed r (now (lengths .exit)) (now (ravel .exit)) ≡ meaning.lengthsAt (now (file .entry)) place global rank ⌝ }
+    ensures { λ r. ⌜ parsed r (now (lengths .exit)) (now (ravel .exit)) ≡ meaning.importedLengths (now (file .entry)) place global rank ⌝ }
     ensures { λ r. ⌜ Few r ⌝ }
 {
     if 15 < rank {
@@ -96,7 +96,7 @@ fn elements_at(
 ) -> Parsed
     requires { ⌜ (rank ≤ 15) × (length (now lengths) ≡ 15) × (length (now ravel) ≡ 16384) ⌝ }
     ensures { λ r. ⌜ parsed r (now (lengths .entry)) (now (ravel .exit))
-        ≡ meaning.elementsAt (now (file .entry)) place global (take rank (now (lengths .entry))) ⌝ }
+        ≡ meaning.importedElements (now (file .entry)) place global (take rank (now (lengths .entry))) ⌝ }
     ensures { λ r. ⌜ Few r ⌝ }
 {
     let count = product(&lengths[..rank]) as usize;
@@ -116,7 +116,7 @@ fn elements_at(
 }
 
 fn run_at(file: &[u8], place: usize) -> Parsed
-    ensures { λ r. ⌜ ((lengths ravel : List ℕ) → parsed r lengths ravel ≡ meaning.runAt (now (file .entry)) place) ⌝ }
+    ensures { λ r. ⌜ ((lengths ravel : List ℕ) → parsed r lengths ravel ≡ meaning.importedRun (now (file .entry)) place) ⌝ }
     ensures { λ r. ⌜ Few r ⌝ }
 {
     let FoundNumber::Number(budget, next) = number_at(file, place) else {

@@ -5,7 +5,7 @@
 ghost use Prim.Native.Nat.{ℕ, _<_};
 ghost use mathlib.Core.Path.{_≡_};
 ghost use lib.ListN.{length};
-ghost use Rattle.imports.specs.Parsing.{Passes};
+ghost use Rattle.imports.specs.Parsing.{Advances};
 use imports::parse::Parsed;
 use imports::parse::record_at;
 use libc::STDIN_FILENO;
@@ -88,7 +88,7 @@ fn read_all(file: &[u8], lengths: &mut [u32], ravel: &mut [u32]) -> Ending
 
 // The place after a record; 0 where there is none.
 fn after(found: Parsed) -> usize
-    ensures { λ r. ⌜ ((place : ℕ) → Passes place found → (r ≡ 0 → ⊥) → place < r) ⌝ }
+    ensures { λ r. ⌜ ((place : ℕ) → Advances place found → (r ≡ 0 → ⊥) → place < r) ⌝ }
 {
     match found {
         Parsed::Load {

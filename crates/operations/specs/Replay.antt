@@ -8,7 +8,7 @@ use mathlib.Core.List.{List}
 use lib.Dec.{eqb}
 use lib.ListN.{set}
 use Rattle.imports.specs.Records as file
-use Rattle.imports.specs.Records.{Record, Records, ends, malformed, entry, recordsOf}
+use Rattle.imports.specs.Records.{Records, ends, malformed, entry, recordsOf}
 use Rattle.tally.specs.Counts.{noneCounted}
 use Rattle.acceptance.specs.Refusal.{refusal}
 use Rattle.effects.specs.Tally.{talliedFrom}

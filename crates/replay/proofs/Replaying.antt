@@ -5,10 +5,10 @@ use mathlib.Core.Bool.{Bool, true}
 use mathlib.Core.List.{List}
 use lib.ListN.{length, take}
 use borrow.Author.Tests.{ne-eqb}
-use Rattle.imports.specs.Records.{Record, load, run, FoundRecord, found, bad, elementLimit, recordAt, recordsFrom}
+use Rattle.imports.specs.Records.{load, run, FoundRecord, found, bad, elementLimit, recordAt, recordsFrom}
 use Rattle.imports.specs.declared.parse.Parsed.{Parsed}
 use Rattle.imports.specs.declared.parse.Parsed.the-variants as P
-use Rattle.imports.specs.Parsing.{parsed, Within}
+use Rattle.imports.specs.Parsing.{parsed, Usable}
 use Rattle.imports.proofs.Files as reading
 use Rattle.acceptance.specs.Refusal.{refusal}
 use Rattle.audit.specs.Calls.{procedures}
@@ -32,7 +32,7 @@ module _ {told : Parsed} {found-here : FoundRecord} (lengths ravel : List ℕ) (
   pub parsed-load : (global rank count next : ℕ) → told ≡ P.Load global rank count next → found (load global (take rank lengths) (take count ravel)) next ≡ found-here
   parsed-load global rank count next known = rw known at is
 
-module _ {told : Parsed} {place : ℕ} (within : Within place told) where
+module _ {told : Parsed} {place : ℕ} (within : Usable place told) where
   pub run-within : (budget next : ℕ) → told ≡ P.Run budget next → place < next
   run-within budget next known = let w : Unit {0} × (place < next) = rw known at within in w .1
 

@@ -1,6 +1,5 @@
 // The records of a file of imports, one after the other: the loads and runs that they are.
 ghost use mathlib.Core.Path.{_≡_};
-ghost use Prim.Native.Nat.{_≤_};
 ghost use lib.ListN.{length};
 ghost use Rattle.imports.specs.Records.{recordsOf};
 ghost use Rattle.operations.specs.Answers.{statusOf};

@@ -1,12 +1,12 @@
 use mathlib.Core.Path.{sym}
 use borrow.Author.Tests.{lt-ltb, le-ltb}
-use Rattle.imports.specs.Records.{lengthsAt}
+use Rattle.imports.specs.Records.{importedLengths}
 use borrow.Author.Needs.{needs}
 use Rattle.imports.proofs.parse.lengths_at.Statement.{statement}
 use Rattle.imports.proofs.parse.lengths_at.Tie as tie
 
 returns : tie.Need-returns
-unfolding lengthsAt
+unfolding importedLengths
 returns c = (simp (lt-ltb _ _ (c .if1 .taken)), tt)
 
 numbers-at-requires : tie.Need-numbers-at-requires
@@ -22,7 +22,7 @@ same-length : tie.Need-same-length
 same-length c = search needs
 
 returns-2 : tie.Need-returns-2
-unfolding lengthsAt
+unfolding importedLengths
 returns-2 c =
     let called = c .before .before .before .before in
     (simp (le-ltb _ _ (called .before .before .if1 .left), sym (rw (c .enum-told .given .1) at (called .numbers-at .ensures))), tt)
@@ -37,7 +37,7 @@ same-length-3 : tie.Need-same-length-3
 same-length-3 c = search needs
 
 returns-3 : tie.Need-returns-3
-unfolding lengthsAt
+unfolding importedLengths
 returns-3 c =
     let next = c .before .before .before .before .before .before in
     let called = next .before .before .before .before in

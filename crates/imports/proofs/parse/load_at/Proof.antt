@@ -1,4 +1,4 @@
-use Rattle.imports.specs.Records.{loadAt}
+use Rattle.imports.specs.Records.{importedLoad}
 use borrow.Author.Needs.{needs}
 use Rattle.imports.proofs.parse.load_at.Statement.{statement}
 use Rattle.imports.proofs.parse.load_at.Tie as tie
@@ -13,7 +13,7 @@ enum-told : tie.Need-enum-told
 enum-told c = search needs
 
 returns : tie.Need-returns
-unfolding loadAt
+unfolding importedLoad
 returns c = (simp (← c .before .before .number-at .ensures, c .enum-told .given .1), tt)
 
 number-at-requires-2 : tie.Need-number-at-requires-2
@@ -26,7 +26,7 @@ enum-told-2 : tie.Need-enum-told-2
 enum-told-2 c = search needs
 
 returns-2 : tie.Need-returns-2
-unfolding loadAt
+unfolding importedLoad
 returns-2 c =
     let first = c .before .before .before .before in
     (simp (← first .before .before .number-at .ensures, first .global .given .1, ← c .before .before .number-at2 .ensures, c .enum-told2 .given .1), tt)
@@ -41,7 +41,7 @@ same-length-2 : tie.Need-same-length-2
 same-length-2 c = search needs
 
 returns-3 : tie.Need-returns-3
-unfolding loadAt
+unfolding importedLoad
 returns-3 c =
     let second = c .before .before .before .before .before .before .before .before in
     let first = second .before .before .before .before in

@@ -1,4 +1,4 @@
-use Rattle.imports.specs.Records.{runAt}
+use Rattle.imports.specs.Records.{importedRun}
 use borrow.Author.Needs.{needs}
 use Rattle.imports.proofs.parse.run_at.Statement.{statement}
 use Rattle.imports.proofs.parse.run_at.Tie as tie
@@ -13,11 +13,11 @@ enum-told : tie.Need-enum-told
 enum-told c = search needs
 
 returns : tie.Need-returns
-unfolding runAt
+unfolding importedRun
 returns c = (λ lengths ravel. simp (← c .before .before .number-at .ensures, c .enum-told .given .1), tt)
 
 returns-2 : tie.Need-returns-2
-unfolding runAt
+unfolding importedRun
 returns-2 c = (λ lengths ravel. simp (← c .before .before .before .number-at .ensures, c .before .budget .given .1), tt)
 
 pub run-at-spec : {M : Type 1} → statement M
