@@ -1,7 +1,6 @@
 -- What a run counts: one for each finished instruction, in the family of the first byte at PCTR. Document 02, paper 1; decision
 -- 84: an instruction that a step or trace trap follows has finished, one that trapped has not. Assumes nothing.
 use Prim.Native.Nat.{ℕ, zero, suc}
-use mathlib.Core.Bool.{Bool}
 use mathlib.Core.List.{List}
 use Rattle.procedure.specs.declared.directory.Function.{Function}
 use Rattle.procedure.specs.declared.directory.Function.the-variants as F
