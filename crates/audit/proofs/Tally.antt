@@ -17,14 +17,14 @@ use Rattle.instruction.specs.declared.cursor.Cursor.{Cursor}
 use Rattle.instruction.specs.declared.cursor.FetchedByte.the-variants.{Byte, Outside}
 use Rattle.instruction.specs.declared.family.Family.{Family}
 use Rattle.instruction.specs.declared.family.Family.the-variants as F
-use Rattle.instruction.specs.Families.{familyOf}
+use Rattle.instruction.specs.Families.{familyOf, orderOf}
 use Rattle.instruction.specs.Reading.{cursorAt, fetchByte, withByte}
 use Rattle.instruction.specs.Decoding.{familyAt, instructionAt}
 use Rattle.segment.specs.State.{lbase}
 use Rattle.segment.specs.Stack.{codeWordAt, pctr}
 use Rattle.imports.specs.Records as file
 use Rattle.imports.specs.Records.{Records}
-use Rattle.tally.specs.Counts.{countLimit, placeOf, noneCounted, countUp, counted}
+use Rattle.tally.specs.Counts.{countLimit, noneCounted, countUp, counted}
 use Rattle.acceptance_storage.proofs.Tests.{both}
 use Rattle.acceptance.specs.Frames.{known}
 use Rattle.acceptance.specs.Structure.{Accepted}
@@ -49,10 +49,10 @@ use Rattle.audit.proofs.Accepts.{accepted-of}
 -- ---- a finished instruction has a family
 
 abbrev Counts : ℕ → Type 0
-Counts first = placeOf (familyOf first) < 8
+Counts first = orderOf (familyOf first) < 8
 
 module _ (code : List ℕ) (i : Instruction) (next : _) where
-  by-family : (c : Cursor) (first : ℕ) (k : Family) → familyAt code c first k ≡ D.Instruction i next → placeOf k < 8
+  by-family : (c : Cursor) (first : ℕ) (k : Family) → familyAt code c first k ≡ D.Instruction i next → orderOf k < 8
   unfolding familyAt
   by-family c first F.ShortLocal e = omega arith
   by-family c first F.ShortConst e = omega arith
@@ -144,7 +144,7 @@ one-more counts long i h = go (ltb (getD counts i 0) countLimit) refl
 
 counted-more : (counts : List ℕ) → length counts ≡ 8 → (first : ℕ) → Counts first → More counts 1 (counted first counts)
 unfolding counted
-counted-more counts long first h = one-more counts long (placeOf (familyOf first)) h
+counted-more counts long first h = one-more counts long (orderOf (familyOf first)) h
 
 -- ---- what a run, a record's call and a replay count
 

@@ -1,7 +1,7 @@
 -- What stands at a place of the code, by the bytes that the fast path reads, and the plan of it.
 use Prim.Native.Nat.{ℕ, _+_, _-_, _*_, _/_, _%_, _^_, _≤_, _<_}
 use native.Mathlib.Omega.{arith}
-use mathlib.Core.Path.{_≡_, sym, ap, _∙_}
+use mathlib.Core.Path.{_≡_, subst, sym, ap, _∙_}
 use mathlib.Core.Bool.{Bool, true, false, cond}
 use mathlib.Core.List.{List}
 use lib.Dec.{ltb, eqb}
@@ -23,8 +23,6 @@ use Rattle.instruction.specs.declared.Decoded.the-variants as D
 use Rattle.instruction.specs.declared.Instruction.the-variants as I
 use Rattle.instruction.specs.declared.Jump.{Jump}
 use Rattle.instruction.specs.declared.Jump.the-variants as J
-use Rattle.instruction.specs.declared.Address.{Address}
-use Rattle.instruction.specs.declared.Address.the-variants as A
 use Rattle.instruction.specs.declared.variable.FetchedAddress.the-variants as F
 use Rattle.instruction.specs.declared.MemoryOperation.{MemoryOperation}
 use Rattle.instruction.specs.declared.StackOperation.{StackOperation}
@@ -42,8 +40,9 @@ use Rattle.instruction.specs.declared.cursor.FetchedHalf.the-variants.{Half, Ou
 use Rattle.instruction.specs.declared.cursor.FetchedWord.the-variants.{Word, Outside as NoWord}
 use Rattle.instruction.specs.Reading.{codeAddress, cursorAt, fetchByte, fetchHalf, fetchWord, withByte, withHalf}
 use Rattle.instruction.specs.Variables.{addressIn, addressAt}
+use Rattle.instruction.specs.Lengths.{scalarLength, etcLength, lengthIn, fixedBytes}
 use Rattle.instruction.specs.Decoding.{decodedTo, loadAt, shortConstantOf, shortConstantAt, scalarAt, memoryAt, constantScalarAt, jumpAt, etcAt, familyAt, instructionAt}
-use Rattle.instruction.proofs.Ranges.{is-short-local}
+use Rattle.instruction.proofs.Lengths.{AddressEnds, address-ends}
 use Rattle.manual.specs.Seen.{variablesOf}
 use Rattle.manual.specs.Effects.{word, Plan}
 use Rattle.manual.specs.Loads as loads
@@ -60,7 +59,7 @@ use Rattle.fast_path.proofs.Standing.{fetched}
 abbrev Planned : List ℕ → Running → Bool → List ℕ → Decoded → Type 0
 Planned s f r t d = DoneOrKept s (planDecoded f (seen s) d) r t
 
--- ---- two bytes, and an address of one
+-- ---- two bytes, and the end of an address
 
 module _ (code : List ℕ) where
   half-fetched : {A : Type 0} (at : ℕ) (outside : A) (g : ℕ → Cursor → A) → at + 1 < length code → withHalf (fetchHalf code (cursorAt at)) outside g ≡ g (byteAt code at * 2 ^ 8 + byteAt code (at + 1)) (cursorAt (at + 1 + 1))
@@ -70,11 +69,10 @@ module _ (code : List ℕ) where
       (fetched code at Outside (λ b c. withByte (fetchByte code c) Outside (λ l d. Half (b * 2 ^ 8 + l) d)) (omega arith)
       ∙ fetched code (at + 1) Outside (λ l d. Half (byteAt code at * 2 ^ 8 + l) d) there)
 
-  short-address : (first : ℕ) (c : Cursor) → first < 0x40 → addressIn code c first (familyOf first) ≡ F.At (A.Local (64 - first)) c
-  unfolding addressIn
-  short-address first c low =
-      let six : first % 2 ^ 6 ≡ first = omega arith in
-      rw (is-short-local first (omega arith), six)
+  -- An address ends where the load of its family would, were its first byte the instruction's.
+  named-end : {s : List ℕ} {variables i : ℕ} (at first : ℕ) (family : Family) (named : Names s variables (addressIn code (cursorAt at) first family) i) → named .end .at + 1 ≡ at + fixedBytes (lengthIn family (first % 2 ^ 5))
+  named-end at first family named =
+      subst (AddressEnds code at (at + fixedBytes (lengthIn family (first % 2 ^ 5)))) (named .fetches) (address-ends code (cursorAt at) first (first % 2 ^ 5) family) .0
 
 -- ---- what stands after the first byte
 
@@ -84,14 +82,14 @@ after place = cursorAt (place + 1)
 
 module _ (s : List ℕ) (f : Running) (place : ℕ) {r : Bool} {t : List ℕ} where
   -- GENSCALAR
-  module _ {sub : Suboperation} {o : Operator} {next : ℕ} (defined : sub ≡ U.Defined o) (behind : next ≡ (place + 1) % 2 ^ 32) where
+  module _ {sub : Suboperation} {o : Operator} {next : ℕ} (defined : sub ≡ U.Defined o) (behind : next ≡ (place + fixedBytes (scalarLength sub)) % 2 ^ 32) where
     pub dyadic-by : {op : Dyadic} → o ≡ O.Dyadic op → DoneOrKept s (scalars.dyadic (seen s) next op) r t → Planned s f r t (scalarAt sub (after place))
     unfolding planOf
-    dyadic-by dyadic answer = went-as (rw (defined, dyadic, behind)) answer
+    dyadic-by dyadic answer = went-as (rw (behind, defined, dyadic)) answer
 
     pub monadic-by : {op : Monadic} → o ≡ O.Monadic op → DoneOrKept s (scalars.monadic (seen s) next op) r t → Planned s f r t (scalarAt sub (after place))
     unfolding planOf
-    monadic-by monadic answer = went-as (rw (defined, monadic, behind)) answer
+    monadic-by monadic answer = went-as (rw (behind, defined, monadic)) answer
 
   module _ (code : List ℕ) where
     -- SHORTCONST
@@ -112,31 +110,24 @@ module _ (s : List ℕ) (f : Running) (place : ℕ) {r : Bool} {t : List ℕ} wh
     -- An address starts at `at`, after the first byte.
     module _ {at : ℕ} (here : at ≡ place + 1) where
       -- LONGLOCAL and LONGGLOBAL
-      pub load-by : (first : ℕ) (family : Family) {variables i next : ℕ} (named : Names s variables (addressIn code (cursorAt at) first family) (at + 1) i) → next ≡ (place + 2) % 2 ^ 32 → DoneOrKept s (loads.load (seen s) next (resolve (seen s) (headerOf f) (named .address))) r t → Planned s f r t (loadAt code (after place) first family)
+      pub load-by : (first : ℕ) (family : Family) {variables i next : ℕ} (named : Names s variables (addressIn code (cursorAt at) first family) i) → next ≡ (place + fixedBytes (lengthIn family (first % 2 ^ 5))) % 2 ^ 32 → DoneOrKept s (loads.load (seen s) next (resolve (seen s) (headerOf f) (named .address))) r t → Planned s f r t (loadAt code (after place) first family)
       unfolding loadAt planOf
       load-by first family named behind answer =
-          let on : at + 1 ≡ place + 2 = omega (arith, here) in
+          let on : named .end .at ≡ place + fixedBytes (lengthIn family (first % 2 ^ 5)) = let ends = named-end code at first family named in omega (arith, here, ends) in
           went-as (rw (← here, named .fetches, on, behind)) answer
 
-      -- MEMREF: an address of one byte, which is below 64, or of two.
-      module _ {first : ℕ} (keep : Bool) (inside : at < length code) (second : first ≡ getD code at 0) {next : ℕ} where
-        assign-by : {a : Address} {end : ℕ} → addressIn code (cursorAt (at + 1)) first (familyOf first) ≡ F.At a (cursorAt end) → next ≡ end % 2 ^ 32 → DoneOrKept s (memoryPlan (seen s) next (assignment keep) (resolve (seen s) (headerOf f) a)) r t → Planned s f r t (memoryAt code (after place) (assignEntry keep))
-        unfolding memoryAt addressAt planOf
-        assign-by {a} {end} fetches behind answer = went-as (rw (← here, stands, behind)) answer
-          where
-            stands : withByte (fetchByte code (cursorAt at)) (F.Trap 3 1) (λ b c. addressIn code c b (familyOf b)) ≡ F.At a (cursorAt end)
-            stands = fetched code at (F.Trap 3 1) (λ b c. addressIn code c b (familyOf b)) inside ∙ rw (← second) fetches
+      -- MEMREF: its address is named by the byte there.
+      pub assign-by : {first : ℕ} (keep : Bool) → at < length code → first ≡ getD code at 0 → (family : Family) {variables i begin next : ℕ} → begin ≡ (place + 1) % 2 ^ 32 → next ≡ (begin + fixedBytes (lengthIn family (first % 2 ^ 5))) % 2 ^ 32 → family ≡ familyOf first → (named : Names s variables (addressIn code (cursorAt (at + 1)) first family) i) → DoneOrKept s (memoryPlan (seen s) next (assignment keep) (resolve (seen s) (headerOf f) (named .address))) r t → Planned s f r t (memoryAt code (after place) (assignEntry keep))
+      unfolding memoryAt addressAt planOf
+      assign-by {first} keep inside second family {next = next} begins behind found named answer = went-as (rw (← here, stands, last)) answer
+        where
+          stands : withByte (fetchByte code (cursorAt at)) (F.Trap 3 1) (λ b c. addressIn code c b (familyOf b)) ≡ F.At (named .address) (named .end)
+          stands =
+              fetched code at (F.Trap 3 1) (λ b c. addressIn code c b (familyOf b)) inside
+              ∙ rw (← second) (ap (addressIn code (cursorAt (at + 1)) first) (sym found) ∙ named .fetches)
 
-        pub short-assign-by : {variables : ℕ} → next ≡ (place + 2) % 2 ^ 32 → first < 0x40 → variablesOf (headerOf f) ≡ variables → DoneOrKept s (memoryPlan (seen s) next (assignment keep) (seen s .local variables (64 - first))) r t → Planned s f r t (memoryAt code (after place) (assignEntry keep))
-        short-assign-by behind low same answer =
-            let on : (place + 2) % 2 ^ 32 ≡ (at + 1) % 2 ^ 32 = ap (λ (n : ℕ). n % 2 ^ 32) (omega (arith, here)) in
-            assign-by (short-address code first (cursorAt (at + 1)) low) (behind ∙ on)
-            (went-as (ap (λ (n : ℕ). memoryPlan (seen s) next (assignment keep) (seen s .local n (64 - first))) (sym same)) answer)
-
-        pub long-assign-by : (family : Family) {variables i : ℕ} → next ≡ (place + 3) % 2 ^ 32 → family ≡ familyOf first → (named : Names s variables (addressIn code (cursorAt (at + 1)) first family) (at + 1 + 1) i) → DoneOrKept s (memoryPlan (seen s) next (assignment keep) (resolve (seen s) (headerOf f) (named .address))) r t → Planned s f r t (memoryAt code (after place) (assignEntry keep))
-        long-assign-by family behind found named answer =
-            let on : (place + 3) % 2 ^ 32 ≡ (at + 1 + 1) % 2 ^ 32 = ap (λ (n : ℕ). n % 2 ^ 32) (omega (arith, here)) in
-            assign-by (ap (addressIn code (cursorAt (at + 1)) first) (sym found) ∙ named .fetches) (behind ∙ on) answer
+          last : next ≡ named .end .at % 2 ^ 32
+          last = let ends = named-end code (at + 1) first family named in behind ∙ omega (arith, here, begins, ends)
 
     pub memory-by : {sub : MemorySuboperation} {o : MemoryOperation} (keep : Bool) → sub ≡ N.Defined o → o ≡ assignment keep → Planned s f r t (memoryAt code (after place) (assignEntry keep)) → Planned s f r t (memoryAt code (after place) sub)
     memory-by keep defined assign answer = rw (defined, assign) answer
@@ -147,9 +138,9 @@ module _ (s : List ℕ) (f : Running) (place : ℕ) {r : Bool} {t : List ℕ} wh
       unfolding etcAt
       etc-by jumps answer = rw jumps answer
 
-      pub stack-by : {op : StackOperation} {next : ℕ} → sub ≡ E.Stack op → next ≡ (place + 1) % 2 ^ 32 → DoneOrKept s (stackPlan (seen s) next op) r t → Planned s f r t (etcAt code (after place) sub)
+      pub stack-by : {op : StackOperation} {next : ℕ} → sub ≡ E.Stack op → next ≡ (place + fixedBytes (etcLength sub)) % 2 ^ 32 → DoneOrKept s (stackPlan (seen s) next op) r t → Planned s f r t (etcAt code (after place) sub)
       unfolding etcAt planOf
-      stack-by told behind answer = went-as (rw (told, behind)) answer
+      stack-by told behind answer = went-as (rw (behind, told)) answer
 
       pub constant-in : sub ≡ E.ConstantScalar → Planned s f r t (constantScalarAt code (after place)) → Planned s f r t (etcAt code (after place) sub)
       unfolding etcAt
@@ -220,14 +211,14 @@ module _ (s : List ℕ) (f : Running) (code : List ℕ) (place : ℕ) {at first 
   unfolding familyAt
   constant-at told answer = family-at ShortConst told answer
 
-  pub scalar-at : {sub : Suboperation} → family ≡ GenScalar → sub ≡ operatorOf (first % 2 ^ 5) → Planned s f r t (scalarAt sub (after place)) → Planned s f r t (instructionAt code place)
+  pub scalar-at : family ≡ GenScalar → Planned s f r t (scalarAt (operatorOf (first % 2 ^ 5)) (after place)) → Planned s f r t (instructionAt code place)
   unfolding familyAt
-  scalar-at told named answer = family-at GenScalar told (rw (← named) answer)
+  scalar-at told answer = family-at GenScalar told answer
 
   pub memory-at : {sub : MemorySuboperation} → family ≡ MemRef → sub ≡ memoryOf (first % 2 ^ 5) → Planned s f r t (memoryAt code (after place) sub) → Planned s f r t (instructionAt code place)
   unfolding familyAt
   memory-at told named answer = family-at MemRef told (rw (← named) answer)
 
-  pub etc-at : {sub : EtcSuboperation} → family ≡ Etc → sub ≡ etcOf (first % 2 ^ 5) → Planned s f r t (etcAt code (after place) sub) → Planned s f r t (instructionAt code place)
+  pub etc-at : family ≡ Etc → Planned s f r t (etcAt code (after place) (etcOf (first % 2 ^ 5))) → Planned s f r t (instructionAt code place)
   unfolding familyAt
-  etc-at told named answer = family-at Etc told (rw (← named) answer)
+  etc-at told answer = family-at Etc told answer

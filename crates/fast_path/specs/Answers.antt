@@ -1,6 +1,6 @@
 -- What the fast path of an instruction answers: `true` where the instruction is done to its end, `false` where no word has
 -- changed and it is still to be done. A reader must believe: with these two a caller can go either way. Assumes nothing.
-use Prim.Native.Nat.{ℕ, _+_, _≤_, _<_}
+use Prim.Native.Nat.{ℕ, _+_, _%_, _^_, _≤_, _<_}
 use mathlib.Core.Path.{_≡_}
 use mathlib.Core.Bool.{Bool, true, false}
 use mathlib.Core.List.{List}
@@ -11,7 +11,9 @@ use Rattle.procedure.specs.declared.header.Header.{Header}
 use Rattle.procedure.specs.Headers.{codeStart, codeEnd}
 use Rattle.instruction.specs.declared.Decoded.{Decoded}
 use Rattle.instruction.specs.declared.cursor.Cursor.{Cursor}
+use Rattle.instruction.specs.declared.length.Length.{Length}
 use Rattle.instruction.specs.Reading.{cursorAt}
+use Rattle.instruction.specs.Lengths.{fixedBytes}
 use Rattle.manual.specs.OrTrap.{OrTrap}
 use Rattle.manual.specs.Effects.{Plan}
 use Rattle.manual.specs.Seen.{Seen, Variable, variablesOf}
@@ -49,6 +51,10 @@ WithVariables n f = variablesOf (headerOf f) ≡ n
 -- The cursor past the byte at a place.
 abbrev pub past : CodeAddress → Cursor
 past place = cursorAt (place .0 + 1)
+
+-- The place after an instruction at that place, of a fixed length, as 32 bits.
+abbrev pub nextAfter : CodeAddress → Length → ℕ
+nextAfter place length = (place .0 + fixedBytes length) % 2 ^ 32
 
 -- ---- contracts by a variable
 

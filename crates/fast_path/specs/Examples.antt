@@ -38,11 +38,12 @@ unfolding read kindOf integerKind unsignedKind indirectKind
 the-reference = refl
 
 -- LONGGLOBAL 8.
-the-address : Names small 1 (addressIn (0xD0 ∷ 0x08 ∷ []) (cursorAt 1) 0xD0 (familyOf 0xD0)) 2 8
+the-address : Names small 1 (addressIn (0xD0 ∷ 0x08 ∷ []) (cursorAt 1) 0xD0 (familyOf 0xD0)) 8
 unfolding addressIn fetchByte familyOf familyIn seen read kindOf integerKind
 the-address =
     record {
       address = A.Global (segment 8);
+      end = cursorAt 2;
       target = five;
       fetches = refl;
       stands = λ h. λ same. record { resolves = refl; place = refl };

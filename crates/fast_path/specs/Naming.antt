@@ -18,7 +18,7 @@ use Rattle.instruction.specs.declared.table.MemorySuboperation.{MemorySuboperat
 use Rattle.instruction.specs.declared.table.MemorySuboperation.the-variants.{Defined}
 use Rattle.instruction.specs.declared.variable.FetchedAddress.{FetchedAddress}
 use Rattle.instruction.specs.declared.variable.FetchedAddress.the-variants.{At}
-use Rattle.instruction.specs.Reading.{cursorAt}
+use Rattle.instruction.specs.declared.cursor.Cursor.{Cursor}
 use Rattle.manual.specs.OrTrap.{OrTrap}
 use Rattle.manual.specs.Seen.{Variable, follow, variablesOf}
 use Rattle.manual.specs.Instructions.{resolve}
@@ -38,11 +38,12 @@ pub record Stands (s : List ℕ) (resolved : OrTrap Variable) (t : Target) (i : 
   pub resolves : resolved ≡ variableAt s t
   pub place : i ≡ addressOf s t
 
--- An address was fetched, up to that place of the code, and word i is the variable that it names in a frame with so many.
-pub record Names (s : List ℕ) (variables : ℕ) (fetched : FetchedAddress) (end : ℕ) (i : ℕ) : Type 0 where
+-- An address was fetched, and word i is the variable that it names in a frame with so many.
+pub record Names (s : List ℕ) (variables : ℕ) (fetched : FetchedAddress) (i : ℕ) : Type 0 where
   pub address : Address
+  pub end : Cursor
   pub target : Target
-  pub fetches : fetched ≡ At address (cursorAt end)
+  pub fetches : fetched ≡ At address end
   pub stands : (h : Header) → variablesOf h ≡ variables → Stands s (resolve (seen s) h address) target i
 
 -- A word that names no array, and is no reference: a scalar, or undefined.

@@ -3,10 +3,14 @@
 ghost use mathlib.Core.Path.{_≡_};
 ghost use Prim.Native.Nat.{_+_, _-_, _%_, _^_, _≤_};
 ghost use lib.ListN.{length};
+ghost use Rattle.operator.specs.Table.{operatorOf};
+ghost use Rattle.instruction.specs.declared.table.EtcSuboperation.the-variants as E;
+ghost use Rattle.instruction.specs.Tables.{etcOf};
+ghost use Rattle.instruction.specs.Lengths.{etcLength, lengthIn};
 ghost use Rattle.instruction.specs.Decoding as decoding;
 ghost use Rattle.manual.specs.Loads as loads;
 ghost use Rattle.manual.specs.Instructions as plan;
-ghost use Rattle.fast_path.specs.Answers.{CarriesOutIf, CarriesOutIn, Any, WithHeader, WithVariables, past};
+ghost use Rattle.fast_path.specs.Answers.{CarriesOutIf, CarriesOutIn, Any, WithHeader, WithVariables, past, nextAfter};
 ghost use Rattle.fast_path.specs.Naming.{assignEntry};
 
 mod doing;
@@ -28,6 +32,7 @@ use instruction::MemoryOperation;
 use instruction::StackOperation;
 use instruction::family::Family;
 use instruction::family::family_of;
+use instruction::length::length_in;
 use instruction::table::EtcSuboperation;
 use instruction::table::MemorySuboperation;
 use instruction::table::etc_of;
@@ -35,6 +40,7 @@ use instruction::table::memory_of;
 use naming::half;
 use naming::local;
 use naming::long;
+use naming::variable;
 use operands::variables::variables;
 use operator::Operator;
 use operator::Suboperation;
@@ -56,11 +62,16 @@ pub fn try_fast(seg: &mut [u32], h: Header, code: &[u8], place: CodeAddress) -> 
     }
     let first = code[at];
     match family_of(first) {
-        Family::ShortLocal => load_local(seg, variables(h), first, after(place, 1)),
+        Family::ShortLocal => load_local(
+            seg,
+            variables(h),
+            first,
+            after(place, Family::ShortLocal, first),
+        ),
         Family::ShortConst => short_constant(seg, code, first, place),
-        Family::GenScalar => scalar_operation(seg, operator_of(first % 32), place),
+        Family::GenScalar => scalar_operation(seg, first, place),
         Family::MemRef => memory(seg, variables(h), code, memory_of(first % 32), place),
-        Family::Etc => etc(seg, h, code, etc_of(first % 32), place),
+        Family::Etc => etc(seg, h, code, first, place),
         Family::LongLocal => load_long(seg, variables(h), code, first, Family::LongLocal, place),
         Family::LongGlobal => load_long(seg, variables(h), code, first, Family::LongGlobal, place),
         Family::Index => false,
@@ -109,7 +120,7 @@ fn load_long(
     if i == 0 {
         return false;
     }
-    load_from(seg, i, after(place, 2))
+    load_from(seg, i, after(place, family, first))
 }
 
 fn short_constant(seg: &mut [u32], code: &[u8], first: u8, place: CodeAddress) -> bool
@@ -122,18 +133,19 @@ fn short_constant(seg: &mut [u32], code: &[u8], first: u8, place: CodeAddress) -
     }
     let half = half(first, code[at]) as u32;
     let w = Descriptor::integer(half / 0x1000 % 2 == 1, half % 0x1000).word();
-    push(seg, w, after(place, 2))
+    push(seg, w, after(place, Family::ShortConst, first))
 }
 
-fn scalar_operation(seg: &mut [u32], sub: Suboperation, place: CodeAddress) -> bool
-    ensures { λ r. ⌜ CarriesOutIn (now (seg .entry)) r (now (seg .exit)) Any (decoding.scalarAt sub (past place)) ⌝ }
+fn scalar_operation(seg: &mut [u32], first: u8, place: CodeAddress) -> bool
+    ensures { λ r. ⌜ CarriesOutIn (now (seg .entry)) r (now (seg .exit)) Any (decoding.scalarAt (operatorOf (first % 2 ^ 5)) (past place)) ⌝ }
 {
-    let Suboperation::Defined(operator) = sub else {
+    let Suboperation::Defined(operator) = operator_of(first % 32) else {
         return false;
     };
+    let next = after(place, Family::GenScalar, first);
     match operator {
-        Operator::Dyadic(op) => dyadic(seg, op, after(place, 1)),
-        Operator::Monadic(op) => monadic(seg, op, after(place, 1)),
+        Operator::Dyadic(op) => dyadic(seg, op, next),
+        Operator::Monadic(op) => monadic(seg, op, next),
     }
 }
 
@@ -168,28 +180,34 @@ fn assign(seg: &mut [u32], variables: u32, code: &[u8], keep: bool, place: CodeA
         return false;
     }
     let first = code[at];
-    if first < 0x40 {
-        let i = local(seg, variables, 64 - first as u32);
-        if i == 0 {
-            return false;
-        }
-        return store(seg, i, keep, after(place, 2));
-    }
-    let i = long(seg, variables, code, first, family_of(first), at + 1);
+    let family = family_of(first);
+    let i = variable(seg, variables, code, first, family, at + 1);
     if i == 0 {
         return false;
     }
-    store(seg, i, keep, after(place, 3))
+    store(seg, i, keep, after(further(place, 1), family, first))
 }
 
-fn etc(seg: &mut [u32], h: Header, code: &[u8], sub: EtcSuboperation, place: CodeAddress) -> bool
+fn etc(seg: &mut [u32], h: Header, code: &[u8], first: u8, place: CodeAddress) -> bool
     requires { ⌜ length (now seg) ≤ 16384 ⌝ }
-    ensures { λ r. ⌜ CarriesOutIn (now (seg .entry)) r (now (seg .exit)) (WithHeader h) (decoding.etcAt (now (code .entry)) (past place) sub) ⌝ }
+    ensures { λ r. ⌜ CarriesOutIn (now (seg .entry)) r (now (seg .exit)) (WithHeader h) (decoding.etcAt (now (code .entry)) (past place) (etcOf (first % 2 ^ 5))) ⌝ }
 {
-    match sub {
-        EtcSuboperation::Jump(kind) => jump_to(seg, h, code, kind, place),
-        EtcSuboperation::Stack(op) => stack_operation(seg, op, after(place, 1)),
-        EtcSuboperation::ConstantScalar => constant_scalar(seg, code, place),
+    match etc_of(first % 32) {
+        EtcSuboperation::Jump(kind) => jump_to(
+            seg,
+            h,
+            code,
+            kind,
+            place,
+            after(place, Family::Etc, first),
+        ),
+        EtcSuboperation::Stack(op) => stack_operation(seg, op, after(place, Family::Etc, first)),
+        EtcSuboperation::ConstantScalar => constant_scalar(
+            seg,
+            code,
+            place,
+            after(place, Family::Etc, first),
+        ),
         EtcSuboperation::Array(_) => false,
         EtcSuboperation::Control(_) => false,
         EtcSuboperation::ConstantVector => false,
@@ -210,8 +228,9 @@ fn stack_operation(seg: &mut [u32], op: StackOperation, next: CodeAddress) -> bo
     }
 }
 
-fn constant_scalar(seg: &mut [u32], code: &[u8], place: CodeAddress) -> bool
+fn constant_scalar(seg: &mut [u32], code: &[u8], place: CodeAddress, next: CodeAddress) -> bool
     requires { ⌜ length (now seg) ≤ 16384 ⌝ }
+    requires { ⌜ next .0 ≡ nextAfter place (etcLength E.ConstantScalar) ⌝ }
     ensures { λ r. ⌜ CarriesOutIn (now (seg .entry)) r (now (seg .exit)) Any (decoding.constantScalarAt (now (code .entry)) (past place)) ⌝ }
 {
     let at = place.number() as usize + 1;
@@ -222,12 +241,20 @@ fn constant_scalar(seg: &mut [u32], code: &[u8], place: CodeAddress) -> bool
     let low = half(code[at + 2], code[at + 3]);
     let w = high as u32 * 0x1_0000 + low as u32;
     if is_scalar(w) {
-        return push(seg, w, after(place, 5));
+        return push(seg, w, next);
     }
     false
 }
 
-fn jump_to(seg: &mut [u32], h: Header, code: &[u8], kind: Jump, place: CodeAddress) -> bool
+fn jump_to(
+    seg: &mut [u32],
+    h: Header,
+    code: &[u8],
+    kind: Jump,
+    place: CodeAddress,
+    next: CodeAddress,
+) -> bool
+    requires { ⌜ next .0 ≡ nextAfter place (etcLength (E.Jump kind)) ⌝ }
     ensures { λ r. ⌜ CarriesOutIn (now (seg .entry)) r (now (seg .exit)) (WithHeader h) (decoding.jumpAt (now (code .entry)) (past place) kind) ⌝ }
 {
     let at = place.number() as usize + 1;
@@ -244,13 +271,20 @@ fn jump_to(seg: &mut [u32], h: Header, code: &[u8], kind: Jump, place: CodeAddre
     let to = CodeAddress::of(number);
     match kind {
         Jump::Go => go(seg, to),
-        Jump::GoTrue => go_if(seg, 1, to, after(place, 3)),
-        Jump::GoFalse => go_if(seg, 0, to, after(place, 3)),
+        Jump::GoTrue => go_if(seg, 1, to, next),
+        Jump::GoFalse => go_if(seg, 0, to, next),
     }
 }
 
+// The place after an instruction or an address of that family, whose first byte fixes its length.
+fn after(place: CodeAddress, family: Family, first: u8) -> CodeAddress
+    ensures { λ r. ⌜ r .0 ≡ nextAfter place (lengthIn family (first % 2 ^ 5)) ⌝ }
+{
+    further(place, length_in(family, first % 32).bytes())
+}
+
 // The place so many bytes on in the code, as 32 bits.
-fn after(place: CodeAddress, bytes: u32) -> CodeAddress
+fn further(place: CodeAddress, bytes: u8) -> CodeAddress
     ensures { λ r. ⌜ r .0 ≡ (place .0 + bytes) % 2 ^ 32 ⌝ }
 {
     CodeAddress::of(((place.number() as usize + bytes as usize) % 0x1_0000_0000) as u32)

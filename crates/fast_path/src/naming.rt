@@ -14,9 +14,26 @@ use segment::state::blockptr;
 use segment::state::lbase;
 use segment::state::sbase;
 
-// The variable whose address begins with `first`, of that family, and ends with the byte at `at`; 0 where it names none.
+// The variable whose address begins with `first`, of that family, and has its second byte, if any, at `at`; 0 where it names none.
+pub fn variable(
+    seg: &[u32],
+    variables: u32,
+    code: &[u8],
+    first: u8,
+    family: Family,
+    at: usize,
+) -> usize
+    ensures { λ r. ⌜ ((r ≡ 0 → ⊥) → Names (now (seg .entry)) variables (addressIn (now (code .entry)) (cursorAt at) first family) r) ⌝ }
+{
+    if let Family::ShortLocal = family {
+        return local(seg, variables, 64 - first as u32 % 64);
+    }
+    long(seg, variables, code, first, family, at)
+}
+
+// The same, by an address of two bytes alone.
 pub fn long(seg: &[u32], variables: u32, code: &[u8], first: u8, family: Family, at: usize) -> usize
-    ensures { λ r. ⌜ ((r ≡ 0 → ⊥) → Names (now (seg .entry)) variables (addressIn (now (code .entry)) (cursorAt at) first family) (at + 1) r) ⌝ }
+    ensures { λ r. ⌜ ((r ≡ 0 → ⊥) → Names (now (seg .entry)) variables (addressIn (now (code .entry)) (cursorAt at) first family) r) ⌝ }
 {
     if code.len() <= at {
         return 0;

@@ -1,3 +1,6 @@
--- Laws that the proofs of this crate share.
+-- Laws that the proofs of this crate share, and those that others cite.
+pub mod Computed
 pub mod Ranges
+pub mod Cases
+pub mod Lengths
 pub mod Words

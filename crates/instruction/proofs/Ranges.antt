@@ -1,68 +1,76 @@
--- The family of a first byte: range after range, and one law for each.
-use mathlib.Core.Path.{_≡_, refl, _∙_}
-use mathlib.Core.Bool.{Bool, true, false, cond}
-use mathlib.Core.List.{List, _∷_}
-use Prim.Native.Nat.{ℕ, _≤_, _<_}
+-- The family of a first byte: a law for each range, by what is computed at each of its bytes.
+use mathlib.Core.Path.{_≡_, refl}
+use mathlib.Core.List.{[], _∷_}
+use Prim.Native.Nat.{ℕ, _≤_}
 use native.Mathlib.Omega.{arith}
-use lib.Dec.{leb}
-use borrow.Author.Tests.{le-leb, lt-leb}
+use Rattle.operator.specs.Table.{lookup}
+use Rattle.instruction.specs.declared.family.Family.{Family}
 use Rattle.instruction.specs.declared.family.Family.the-variants.{ShortLocal, ShortConst, GenScalar, MemRef, Etc, LongLocal, LongGlobal, Index, Unassigned}
-use Rattle.instruction.specs.Families.{Range, holds, familyIn, familyOf}
+use Rattle.instruction.specs.Families.{familyIn, familyOf, orderOf}
+use Rattle.instruction.proofs.Computed.{Throughout, throughout}
 
-either : (t : Bool) → cond t false false ≡ false
-either true = refl
-either false = refl
+-- The family in that place of the order.
+abbrev inOrder : ℕ → Family
+inOrder n =
+    lookup n
+    ((0, ShortLocal)
+    ∷ (1, ShortConst)
+    ∷ (2, GenScalar)
+    ∷ (3, MemRef)
+    ∷ (4, Etc)
+    ∷ (5, LongLocal)
+    ∷ (6, LongGlobal)
+    ∷ (7, Index)
+    ∷ [])
+    Unassigned
 
-module _ (range : Range) (ranges : List Range) (b : ℕ) where
-  in-range : range .low ≤ b → b ≤ range .high → familyIn (range ∷ ranges) b ≡ range .family
-  unfolding familyIn
-  in-range l h = simp (le-leb (range .low) b l, le-leb b (range .high) h)
+undone : (family : Family) → inOrder (orderOf family) ≡ family
+undone ShortLocal = refl
+undone ShortConst = refl
+undone GenScalar = refl
+undone MemRef = refl
+undone Etc = refl
+undone LongLocal = refl
+undone LongGlobal = refl
+undone Index = refl
+undone Unassigned = refl
 
-  past-range : range .high < b → familyIn (range ∷ ranges) b ≡ familyIn ranges b
-  unfolding familyIn
-  past-range h = simp (lt-leb b (range .high) h, either (leb (range .low) b))
+in-range : (family : Family) (low high : ℕ) → Throughout orderOf familyOf family low high → (b : ℕ) → low ≤ b → b ≤ high → familyOf b ≡ family
+in-range = throughout orderOf inOrder undone familyOf
 
 module _ (b : ℕ) where
   pub is-short-local : b ≤ 0x3F → familyOf b ≡ ShortLocal
-  unfolding familyOf
-  is-short-local h = in-range _ _ b (omega arith) (omega arith)
+  unfolding familyOf familyIn
+  is-short-local h = in-range ShortLocal 0x00 0x3F refl b (omega arith) h
 
   pub is-short-const : 0x40 ≤ b → b ≤ 0x5F → familyOf b ≡ ShortConst
-  unfolding familyOf
-  is-short-const l h =
-      past-range _ _ b (omega arith) ∙ in-range _ _ b (omega arith) (omega arith)
+  unfolding familyOf familyIn
+  is-short-const l h = in-range ShortConst 0x40 0x5F refl b l h
 
   pub is-gen-scalar : 0x60 ≤ b → b ≤ 0x7F → familyOf b ≡ GenScalar
-  unfolding familyOf
-  is-gen-scalar l h =
-      past-range _ _ b (omega arith) ∙ (past-range _ _ b (omega arith) ∙ in-range _ _ b (omega arith) (omega arith))
+  unfolding familyOf familyIn
+  is-gen-scalar l h = in-range GenScalar 0x60 0x7F refl b l h
 
   pub is-mem-ref : 0x80 ≤ b → b ≤ 0x9F → familyOf b ≡ MemRef
-  unfolding familyOf
-  is-mem-ref l h =
-      past-range _ _ b (omega arith) ∙ (past-range _ _ b (omega arith) ∙ (past-range _ _ b (omega arith) ∙ in-range _ _ b (omega arith) (omega arith)))
+  unfolding familyOf familyIn
+  is-mem-ref l h = in-range MemRef 0x80 0x9F refl b l h
 
   pub is-etc : 0xA0 ≤ b → b ≤ 0xBF → familyOf b ≡ Etc
-  unfolding familyOf
-  is-etc l h =
-      past-range _ _ b (omega arith) ∙ (past-range _ _ b (omega arith) ∙ (past-range _ _ b (omega arith) ∙ (past-range _ _ b (omega arith) ∙ in-range _ _ b (omega arith) (omega arith))))
+  unfolding familyOf familyIn
+  is-etc l h = in-range Etc 0xA0 0xBF refl b l h
 
   pub is-long-local : 0xC0 ≤ b → b ≤ 0xCF → familyOf b ≡ LongLocal
-  unfolding familyOf
-  is-long-local l h =
-      past-range _ _ b (omega arith) ∙ (past-range _ _ b (omega arith) ∙ (past-range _ _ b (omega arith) ∙ (past-range _ _ b (omega arith) ∙ (past-range _ _ b (omega arith) ∙ in-range _ _ b (omega arith) (omega arith)))))
+  unfolding familyOf familyIn
+  is-long-local l h = in-range LongLocal 0xC0 0xCF refl b l h
 
   pub is-long-global : 0xD0 ≤ b → b ≤ 0xDF → familyOf b ≡ LongGlobal
-  unfolding familyOf
-  is-long-global l h =
-      past-range _ _ b (omega arith) ∙ (past-range _ _ b (omega arith) ∙ (past-range _ _ b (omega arith) ∙ (past-range _ _ b (omega arith) ∙ (past-range _ _ b (omega arith) ∙ (past-range _ _ b (omega arith) ∙ in-range _ _ b (omega arith) (omega arith))))))
+  unfolding familyOf familyIn
+  is-long-global l h = in-range LongGlobal 0xD0 0xDF refl b l h
 
   pub is-index : 0xE0 ≤ b → b ≤ 0xEF → familyOf b ≡ Index
-  unfolding familyOf
-  is-index l h =
-      past-range _ _ b (omega arith) ∙ (past-range _ _ b (omega arith) ∙ (past-range _ _ b (omega arith) ∙ (past-range _ _ b (omega arith) ∙ (past-range _ _ b (omega arith) ∙ (past-range _ _ b (omega arith) ∙ (past-range _ _ b (omega arith) ∙ in-range _ _ b (omega arith) (omega arith)))))))
+  unfolding familyOf familyIn
+  is-index l h = in-range Index 0xE0 0xEF refl b l h
 
   pub is-unassigned : 0xF0 ≤ b → b ≤ 0xFF → familyOf b ≡ Unassigned
-  unfolding familyOf
-  is-unassigned l h =
-      past-range _ _ b (omega arith) ∙ (past-range _ _ b (omega arith) ∙ (past-range _ _ b (omega arith) ∙ (past-range _ _ b (omega arith) ∙ (past-range _ _ b (omega arith) ∙ (past-range _ _ b (omega arith) ∙ (past-range _ _ b (omega arith) ∙ (past-range _ _ b (omega arith) ∙ in-range _ _ b (omega arith) (omega arith))))))))
+  unfolding familyOf familyIn
+  is-unassigned l h = in-range Unassigned 0xF0 0xFF refl b l h

@@ -1,4 +1,4 @@
--- Instructions as the definitions decode them: M10's constants of document 01 and one of each form with a field.
+-- Instructions as the definitions decode them: M10's constants of document 01 and one of each form with a field; and lengths.
 -- Nothing rests on this file. Assumes nothing.
 use mathlib.Core.Path.{_≡_, refl}
 use mathlib.Core.Bool.{true, false}
@@ -8,15 +8,16 @@ use lib.ListN.{replicate}
 use Rattle.operator.specs.Table.{operatorOf}
 use Rattle.instruction.specs.declared.Address.the-variants.{Local, Global}
 use Rattle.instruction.specs.declared.MemoryOperation.the-variants.{AssignIndexed}
-use Rattle.instruction.specs.declared.Jump.the-variants.{GoTrue}
 use Rattle.instruction.specs.declared.Instruction.the-variants as I
 use Rattle.instruction.specs.declared.Decoded.{Decoded}
 use Rattle.instruction.specs.declared.Decoded.the-variants.{Instruction as Done, Trap}
+use Rattle.instruction.specs.declared.length.Length.the-variants.{Fixed, ByAddress, ByCount, NoInstruction}
 use Rattle.instruction.specs.Families.{familyIn, familyOf}
-use Rattle.instruction.specs.Reading.{codeAddress, fetchByte, fetchHalf, fetchWord, fetchWords}
+use Rattle.instruction.specs.Reading.{codeAddress, fetchByte, fetchHalf, fetchWords}
 use Rattle.instruction.specs.Variables.{addressIn, addressAt}
 use Rattle.instruction.specs.Tables.{memoryOf, etcOf}
-use Rattle.instruction.specs.Decoding.{loadAt, shortConstantAt, memoryAt, constantScalarAt, constantVectorAt, jumpAt, callAt, etcAt, familyAt, instructionAt}
+use Rattle.instruction.specs.Lengths.{lengthOf}
+use Rattle.instruction.specs.Decoding.{loadAt, shortConstantAt, memoryAt, constantVectorAt, callAt, etcAt, familyAt, instructionAt}
 
 -- The first instruction of a function with that code.
 abbrev first : List ℕ → Decoded
@@ -72,3 +73,20 @@ no-words = refl
 cut-word : first (0xAB ∷ 0x01 ∷ 0xFF ∷ 0xFF ∷ 0x00 ∷ 0x00 ∷ 0x00 ∷ []) ≡ Trap 3 1
 unfolding instructionAt fetchByte fetchWords familyOf familyIn familyAt etcOf etcAt constantVectorAt
 cut-word = refl
+
+-- ---- lengths by the first byte
+
+-- The last of one family's bytes, and the first of the next.
+ends-locals : (lengthOf 0x3F ≡ Fixed 1) × (lengthOf 0x40 ≡ Fixed 2)
+unfolding lengthOf familyOf familyIn
+ends-locals = (refl, refl)
+
+-- SHAPE, CONSTANT_SCALAR, CONSTANT_VECTOR, GO, CALL.
+etc-lengths : (lengthOf 0xA5 ≡ Fixed 1) × (lengthOf 0xAA ≡ Fixed 5) × (lengthOf 0xAB ≡ ByCount) × (lengthOf 0xAD ≡ Fixed 3) × (lengthOf 0xB1 ≡ Fixed 3)
+unfolding lengthOf familyOf familyIn etcOf
+etc-lengths = (refl, refl, refl, refl, refl)
+
+-- A MEMREF, and one with no suboperation; GENSCALAR's last operator, and what comes after it.
+judged-lengths : (lengthOf 0x93 ≡ ByAddress) × (lengthOf 0x80 ≡ NoInstruction) × (lengthOf 0x6F ≡ Fixed 1) × (lengthOf 0x70 ≡ NoInstruction)
+unfolding lengthOf familyOf familyIn memoryOf operatorOf
+judged-lengths = (refl, refl, refl, refl)

@@ -1,6 +1,6 @@
 -- The families of first bytes: document 01's "First bytes". A reader must believe: the table is the document's. Assumes nothing.
 use Prim.Native.Nat.{ℕ}
-use mathlib.Core.Bool.{Bool, true, false, cond}
+use mathlib.Core.Bool.{Bool, cond, _&&_}
 use mathlib.Core.List.{List, [], _∷_}
 use lib.Dec.{leb}
 use Rattle.instruction.specs.declared.family.Family.{Family}
@@ -13,7 +13,7 @@ pub record Range : Type 0 where
   pub family : Family
 
 abbrev pub holds : Range → ℕ → Bool
-holds range b = cond (leb (range .low) b) (leb b (range .high)) false
+holds range b = leb (range .low) b && leb b (range .high)
 
 abbrev pub firstBytes : List Range
 firstBytes =
@@ -35,3 +35,15 @@ familyIn (range ∷ ranges) b = cond (holds range b) (range .family) (familyIn r
 
 unfoldable pub familyOf : ℕ → Family
 familyOf b = familyIn firstBytes b
+
+-- The document's order of the families, from 0; the bytes of no family come last.
+abbrev pub orderOf : Family → ℕ
+orderOf ShortLocal = 0
+orderOf ShortConst = 1
+orderOf GenScalar = 2
+orderOf MemRef = 3
+orderOf Etc = 4
+orderOf LongLocal = 5
+orderOf LongGlobal = 6
+orderOf Index = 7
+orderOf Unassigned = 8

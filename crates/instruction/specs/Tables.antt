@@ -2,18 +2,13 @@
 -- A reader must believe: the tables are the manual's. Assumes nothing.
 use Prim.Native.Nat.{ℕ}
 use mathlib.Core.Bool.{cond}
-use mathlib.Core.List.{List, [], _∷_}
+use mathlib.Core.List.{[], _∷_}
 use lib.Dec.{leb, eqb}
 use Rattle.operator.specs.Table.{lookup}
-use Rattle.instruction.specs.declared.MemoryOperation.{MemoryOperation}
 use Rattle.instruction.specs.declared.MemoryOperation.the-variants.{AssignIndexed, Assign, AssignNoResult, Reference, TestDefined}
-use Rattle.instruction.specs.declared.StackOperation.{StackOperation}
 use Rattle.instruction.specs.declared.StackOperation.the-variants as S
-use Rattle.instruction.specs.declared.ArrayOperation.{ArrayOperation}
 use Rattle.instruction.specs.declared.ArrayOperation.the-variants as A
-use Rattle.instruction.specs.declared.ControlOperation.{ControlOperation}
 use Rattle.instruction.specs.declared.ControlOperation.the-variants as C
-use Rattle.instruction.specs.declared.Jump.{Jump}
 use Rattle.instruction.specs.declared.Jump.the-variants as J
 use Rattle.instruction.specs.declared.table.MemorySuboperation.{MemorySuboperation}
 use Rattle.instruction.specs.declared.table.MemorySuboperation.the-variants as M

@@ -3,7 +3,6 @@
 -- Assumes nothing.
 use Prim.Native.Nat.{ℕ, _+_, _-_, _*_, _%_, _^_}
 use mathlib.Core.List.{List}
-use Rattle.descriptor.specs.declared.address.SegmentAddress.{SegmentAddress}
 use Rattle.instruction.specs.declared.Address.{Address}
 use Rattle.instruction.specs.declared.Address.the-variants.{Local, Global}
 use Rattle.instruction.specs.declared.variable.FetchedAddress.{FetchedAddress}

@@ -1,6 +1,6 @@
 // The eight families of instructions, and which of them a first byte belongs to.
 ghost use mathlib.Core.Path.{_≡_};
-ghost use Rattle.instruction.specs.Families.{familyOf};
+ghost use Rattle.instruction.specs.Families.{familyOf, orderOf};
 
 pub enum Family {
     ShortLocal,
@@ -28,5 +28,24 @@ pub fn family_of(first: u8) -> Family
         0xD0..=0xDF => Family::LongGlobal,
         0xE0..=0xEF => Family::Index,
         0xF0..=0xFF => Family::Unassigned,
+    }
+}
+
+impl Family {
+    // Its place in document 01's order, from 0; the bytes of no family come last.
+    pub fn order(self) -> usize
+        ensures { λ r. ⌜ r ≡ orderOf self ⌝ }
+    {
+        match self {
+            Family::ShortLocal => 0,
+            Family::ShortConst => 1,
+            Family::GenScalar => 2,
+            Family::MemRef => 3,
+            Family::Etc => 4,
+            Family::LongLocal => 5,
+            Family::LongGlobal => 6,
+            Family::Index => 7,
+            Family::Unassigned => 8,
+        }
     }
 }

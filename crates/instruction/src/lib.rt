@@ -2,6 +2,7 @@
 pub mod cursor;
 pub mod decode;
 pub mod family;
+pub mod length;
 pub mod table;
 pub mod variable;
 

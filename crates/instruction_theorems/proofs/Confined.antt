@@ -27,7 +27,7 @@ use Rattle.instruction.specs.Reading.{cursorAt, fetchByte, fetchHalf, fetchWord
 use Rattle.instruction.specs.Variables.{addressIn, addressAt}
 use Rattle.instruction.specs.Decoding.{loadAt, shortConstantAt, memoryAt, constantScalarAt, constantVectorAt, jumpAt, callAt, etcAt, familyAt, instructionAt}
 use Rattle.instruction_theorems.specs.Theorems.{SameCode}
-use Rattle.instruction_theorems.proofs.Cases.{byte-cases, half-cases}
+use Rattle.instruction.proofs.Cases.{byte-cases, half-cases}
 
 -- Two codes of one length that agree from byte 8 on.
 pub record Alike (a b : List ℕ) : Type 0 where
@@ -50,7 +50,7 @@ module _ (a b : List ℕ) (same : Alike a b) where
       → withByte (fetchByte a c) outside f ≡ withByte (fetchByte b c) outside g
   after-byte c h outside f g each =
       rw (byte-alike c h)
-      (byte-cases b c (λ (x : FetchedByte). withByte x outside f ≡ withByte x outside g) refl (λ i. each (getD b (c .at) 0)))
+      (byte-cases b c (λ (x : FetchedByte). withByte x outside f ≡ withByte x outside g) (λ i. refl) (λ i. each (getD b (c .at) 0)))
 
   half-alike : (c : Cursor) → 8 ≤ c .at → fetchHalf a c ≡ fetchHalf b c
   unfolding fetchHalf
@@ -61,7 +61,7 @@ module _ (a b : List ℕ) (same : Alike a b) where
       → withHalf (fetchHalf a c) outside f ≡ withHalf (fetchHalf b c) outside g
   after-half c h outside f g each =
       rw (half-alike c h)
-      (half-cases b c (λ (x : FetchedHalf). withHalf x outside f ≡ withHalf x outside g) refl (λ v i. each v))
+      (half-cases b c (λ (x : FetchedHalf). withHalf x outside f ≡ withHalf x outside g) (λ i. refl) (λ v i. each v))
 
   word-alike : (c : Cursor) → 8 ≤ c .at → fetchWord a c ≡ fetchWord b c
   unfolding fetchWord

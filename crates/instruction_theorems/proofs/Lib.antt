@@ -1,8 +1,7 @@
 -- The theorems of decoding and what they rest on.
-pub mod Counted
-pub mod Cases
+pub mod FirstBytes
 pub mod Confined
-pub mod Advance
+pub mod Spanned
 pub mod Stands
 pub mod Forms
 pub mod Encoded

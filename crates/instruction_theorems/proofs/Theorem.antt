@@ -1,9 +1,13 @@
--- The theorem of decoding.
+-- The theorems of first bytes and of decoding.
+use Rattle.instruction_theorems.specs.FirstBytes.{FirstBytes}
 use Rattle.instruction_theorems.specs.Theorems.{Decoding}
-use Rattle.instruction_theorems.proofs.Counted.{one-range}
+use Rattle.instruction_theorems.proofs.FirstBytes.{one-range, sorted, varies}
+use Rattle.instruction_theorems.proofs.Spanned.{spans, advances}
 use Rattle.instruction_theorems.proofs.Confined.{confined}
-use Rattle.instruction_theorems.proofs.Advance.{advances}
 use Rattle.instruction_theorems.proofs.Encoded.{encoded}
 
+pub first-bytes : FirstBytes
+first-bytes = record { one-range = one-range; sorted = sorted; spans = spans; varies = varies }
+
 pub decoding : Decoding
-decoding = record { one-range = one-range; confined = confined; advances = advances; encoded = encoded }
+decoding = record { confined = confined; advances = advances; encoded = encoded }

@@ -1,3 +1,4 @@
--- The bytes of every instruction, and the theorems of decoding.
+-- What first bytes say, the bytes of every instruction, and the theorems of decoding.
+pub mod FirstBytes
 pub mod Encoder
 pub mod Theorems

@@ -1,8 +1,7 @@
 -- What holds of decoding, as one record. A reader must believe: `instructionAt` of instruction/specs/Decoding is what the code
 -- is proved equal to, and `codeOf` of procedure/specs/Headers is a function's code. Assumes nothing.
-use Prim.Native.Nat.{ℕ, suc, _+_, _*_, _^_, _<_, _≤_}
+use Prim.Native.Nat.{ℕ, _+_, _*_, _^_, _<_, _≤_}
 use mathlib.Core.Path.{_≡_}
-use mathlib.Core.Bool.{cond}
 use mathlib.Core.List.{List, [], _∷_}
 use lib.ListN.{length, getD}
 use Rattle.procedure.specs.declared.header.Block.{Block}
@@ -10,15 +9,9 @@ use Rattle.procedure.specs.Headers.{codeStart, codeEnd, codeOf}
 use Rattle.instruction.specs.declared.Instruction.{Instruction}
 use Rattle.instruction.specs.declared.Decoded.{Decoded}
 use Rattle.instruction.specs.declared.Decoded.the-variants.{Instruction as Done, Trap}
-use Rattle.instruction.specs.Families.{Range, holds, firstBytes}
 use Rattle.instruction.specs.Reading.{codeAddress}
 use Rattle.instruction.specs.Decoding.{instructionAt}
 use Rattle.instruction_theorems.specs.Encoder.{encode, Encodable}
-
--- How many of some ranges hold a byte.
-abbrev pub holding : List Range → ℕ → ℕ
-holding [] b = 0
-holding (range ∷ ranges) b = cond (holds range b) (suc (holding ranges b)) (holding ranges b)
 
 -- Two segments hold a function's block up to the end of its code, with the same code.
 pub record SameCode (block : Block) (p q : List ℕ) : Type 0 where
@@ -38,8 +31,6 @@ Stand code at [] = at ≤ length code
 Stand code at (b ∷ bytes) = (at < length code) × (getD code at 0 ≡ b) × Stand code (at + 1) bytes
 
 pub record Decoding : Type 0 where
-  -- Each of the 256 first bytes falls in exactly one range.
-  pub one-range : (b : ℕ) → b < 256 → holding firstBytes b ≡ 1
   -- Decoding never looks outside the function's code.
   pub confined : (block : Block) (p q : List ℕ) → SameCode block p q → (place : ℕ)
       → instructionAt (codeOf p block) place ≡ instructionAt (codeOf q block) place

@@ -1,5 +1,5 @@
 -- The laws of counts: what counting an instruction leaves, and the struct beside its eight counts. Assumes nothing.
-use Prim.Native.Nat.{ℕ, zero, suc, _+_, _-_, _/_, _^_, _<_, _≤_}
+use Prim.Native.Nat.{ℕ, zero, suc, _+_, _-_, _^_, _<_, _≤_}
 use native.Mathlib.Omega.{arith}
 use mathlib.Core.Path.{_≡_, refl, sym, ap, _∙_}
 use mathlib.Core.Bool.{Bool, true, false, cond}
@@ -10,46 +10,17 @@ use lib.Seq.{set-out, take-all}
 use mir.Val.{Val}
 use denote.Laws.{Is}
 use denote.Struct.Laws.{owed}
-use borrow.Author.Tests.{ltb-true, ltb-false, leb-true, lt-ltb, le-ltb, le-leb, lt-leb}
-use Rattle.instruction.specs.Families.{familyOf}
-use Rattle.instruction.proofs.Ranges.{is-short-local, is-short-const, is-gen-scalar, is-mem-ref, is-etc, is-long-local, is-long-global, is-index, is-unassigned}
+use borrow.Author.Tests.{ltb-true, leb-true, lt-ltb, le-ltb, le-leb, lt-leb}
+use Rattle.instruction.specs.Families.{familyOf, orderOf}
 use Rattle.segment.proofs.Parts.{part-take}
 use Rattle.tally.specs.declared.Tally.{Tally}
-use Rattle.tally.specs.Counts.{countLimit, placeOf, noneCounted, countUp, counted, countsOf, tallyOf, plus, added}
+use Rattle.tally.specs.Counts.{countLimit, noneCounted, countUp, counted, countsOf, tallyOf, countSum, added}
 use Rattle.tally.proofs.Tally as T
 use Rattle.tally.proofs.Tally.Laws as T′
 
 -- No count is above the limit.
 abbrev pub Within : List ℕ → Type 0
 Within counts = (i : ℕ) → getD counts i 0 ≤ countLimit
-
--- ---- places
-
-ltb-either : {A : Type 0} (test : Bool) (b k : ℕ) → ltb b k ≡ test → (b < k → A) → (k ≤ b → A) → A
-ltb-either true b k e low high = low (ltb-true b k e)
-ltb-either false b k e low high = high (ltb-false b k e)
-
-either-side : {A : Type 0} (b k : ℕ) → (b < k → A) → (k ≤ b → A) → A
-either-side b k = ltb-either (ltb b k) b k refl
-
--- the place of a first byte's family: the first range is of 64 bytes, four are of 32, and the rest of 16
-module _ (b : ℕ) where
-  pub place-first : b < 0x40 → placeOf (familyOf b) ≡ 0
-  place-first h = ap placeOf (is-short-local b (omega arith))
-
-  pub place-wide : 0x40 ≤ b → b < 0xC0 → placeOf (familyOf b) ≡ b / 0x20 - 1
-  place-wide l h =
-      either-side b 0x60 (λ a. ap placeOf (is-short-const b l (omega arith)) ∙ omega arith) (λ l₁.
-      either-side b 0x80 (λ a. ap placeOf (is-gen-scalar b l₁ (omega arith)) ∙ omega arith) (λ l₂.
-      either-side b 0xA0 (λ a. ap placeOf (is-mem-ref b l₂ (omega arith)) ∙ omega arith) (λ l₃.
-      ap placeOf (is-etc b l₃ (omega arith)) ∙ omega arith)))
-
-  pub place-narrow : 0xC0 ≤ b → b < 0x100 → placeOf (familyOf b) ≡ b / 0x10 - 7
-  place-narrow l h =
-      either-side b 0xD0 (λ a. ap placeOf (is-long-local b l (omega arith)) ∙ omega arith) (λ l₁.
-      either-side b 0xE0 (λ a. ap placeOf (is-long-global b l₁ (omega arith)) ∙ omega arith) (λ l₂.
-      either-side b 0xF0 (λ a. ap placeOf (is-index b l₂ (omega arith)) ∙ omega arith) (λ l₃.
-      ap placeOf (is-unassigned b l₃ (omega arith)) ∙ omega arith)))
 
 -- ---- counting
 
@@ -58,7 +29,7 @@ same-either true counts = refl
 same-either false counts = refl
 
 -- an instruction whose family's count is at i
-module _ (first : ℕ) (counts : List ℕ) (i : ℕ) (place : i ≡ placeOf (familyOf first)) where
+module _ (first : ℕ) (counts : List ℕ) (i : ℕ) (place : i ≡ orderOf (familyOf first)) where
   pub count-up : getD counts i 0 < countLimit → counted first counts ≡ set counts i (getD counts i 0 + 1)
   unfolding counted countUp
   count-up below = rw (sym place) (simp (lt-ltb (getD counts i 0) countLimit below))
@@ -78,7 +49,7 @@ counted-length-at false counts i w = refl
 pub counted-length : (first : ℕ) (counts : List ℕ) → length (counted first counts) ≡ length counts
 unfolding counted countUp
 counted-length first counts =
-    counted-length-at (ltb (getD counts (placeOf (familyOf first)) 0) countLimit) counts (placeOf (familyOf first)) (getD counts (placeOf (familyOf first)) 0 + 1)
+    counted-length-at (ltb (getD counts (orderOf (familyOf first)) 0) countLimit) counts (orderOf (familyOf first)) (getD counts (orderOf (familyOf first)) 0 + 1)
 
 set-within : (counts : List ℕ) (i w : ℕ) → w ≤ countLimit → Within counts → Within (set counts i w)
 set-within [] i w fits within j = within j
@@ -94,7 +65,7 @@ up-within false counts i e within = within
 
 pub counted-within : (first : ℕ) (counts : List ℕ) → Within counts → Within (counted first counts)
 unfolding counted countUp
-counted-within first counts within = up-within _ counts (placeOf (familyOf first)) refl within
+counted-within first counts within = up-within _ counts (orderOf (familyOf first)) refl within
 
 -- ---- both counts of a family
 
@@ -103,31 +74,31 @@ sum-within true n e = leb-true n countLimit e
 sum-within false n e = omega arith
 
 module _ (a b : ℕ) where
-  pub plus-below : a + b ≤ countLimit → plus a b ≡ a + b
-  plus-below fits = simp (le-leb (a + b) countLimit fits)
+  pub sum-below : a + b ≤ countLimit → countSum a b ≡ a + b
+  sum-below fits = simp (le-leb (a + b) countLimit fits)
 
-  pub plus-full : countLimit < a + b → plus a b ≡ countLimit
-  plus-full past = simp (lt-leb (a + b) countLimit past)
+  pub sum-full : countLimit < a + b → countSum a b ≡ countLimit
+  sum-full past = simp (lt-leb (a + b) countLimit past)
 
-  pub plus-within : plus a b ≤ countLimit
-  plus-within = sum-within (leb (a + b) countLimit) (a + b) refl
+  pub sum-at-most : countSum a b ≤ countLimit
+  sum-at-most = sum-within (leb (a + b) countLimit) (a + b) refl
 
-pub plus-none : (b : ℕ) → b ≤ countLimit → plus 0 b ≡ b
-plus-none b fits = plus-below 0 b (omega arith) ∙ omega arith
+pub sum-none : (b : ℕ) → b ≤ countLimit → countSum 0 b ≡ b
+sum-none b fits = sum-below 0 b (omega arith) ∙ omega arith
 
 -- ---- the struct
 
 pub none-added : (t : Tally) → Within (countsOf t) → added (tallyOf noneCounted) t ≡ t
 unfolding added
 none-added t within = λ j. record {
-  «short_local» = plus-none (t .«short_local») (within 0) j;
-  «short_const» = plus-none (t .«short_const») (within 1) j;
-  «gen_scalar» = plus-none (t .«gen_scalar») (within 2) j;
-  «mem_ref» = plus-none (t .«mem_ref») (within 3) j;
-  etc = plus-none (t .etc) (within 4) j;
-  «long_local» = plus-none (t .«long_local») (within 5) j;
-  «long_global» = plus-none (t .«long_global») (within 6) j;
-  index = plus-none (t .index) (within 7) j;
+  «short_local» = sum-none (t .«short_local») (within 0) j;
+  «short_const» = sum-none (t .«short_const») (within 1) j;
+  «gen_scalar» = sum-none (t .«gen_scalar») (within 2) j;
+  «mem_ref» = sum-none (t .«mem_ref») (within 3) j;
+  etc = sum-none (t .etc) (within 4) j;
+  «long_local» = sum-none (t .«long_local») (within 5) j;
+  «long_global» = sum-none (t .«long_global») (within 6) j;
+  index = sum-none (t .index) (within 7) j;
 }
 
 pub counts-tally : (l : List ℕ) → length l ≡ 8 → countsOf (tallyOf l) ≡ l

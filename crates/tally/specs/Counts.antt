@@ -6,25 +6,11 @@ use mathlib.Core.Bool.{cond}
 use mathlib.Core.List.{List, [], _∷_}
 use lib.Dec.{ltb, leb}
 use lib.ListN.{getD, set, replicate}
-use Rattle.instruction.specs.declared.family.Family.{Family}
-use Rattle.instruction.specs.declared.family.Family.the-variants as F
-use Rattle.instruction.specs.Families.{familyOf}
+use Rattle.instruction.specs.Families.{familyOf, orderOf}
 use Rattle.tally.specs.declared.Tally.{Tally}
 
 abbrev pub countLimit : ℕ
 countLimit = 2 ^ 32 - 1
-
--- The count of a family by its place. No instruction starts with an unassigned byte, and no count has its place.
-abbrev pub placeOf : Family → ℕ
-placeOf F.ShortLocal = 0
-placeOf F.ShortConst = 1
-placeOf F.GenScalar = 2
-placeOf F.MemRef = 3
-placeOf F.Etc = 4
-placeOf F.LongLocal = 5
-placeOf F.LongGlobal = 6
-placeOf F.Index = 7
-placeOf F.Unassigned = 8
 
 abbrev pub noneCounted : List ℕ
 noneCounted = replicate 8 0
@@ -33,9 +19,9 @@ noneCounted = replicate 8 0
 unfoldable pub countUp : ℕ → List ℕ → List ℕ
 countUp i counts = cond (ltb (getD counts i 0) countLimit) (set counts i (getD counts i 0 + 1)) counts
 
--- An instruction with that first byte has finished.
+-- An instruction with that first byte has finished. None starts with a byte of no family, and no count has the place of these.
 unfoldable pub counted : ℕ → List ℕ → List ℕ
-counted first counts = countUp (placeOf (familyOf first)) counts
+counted first counts = countUp (orderOf (familyOf first)) counts
 
 -- ---- the struct
 
@@ -55,17 +41,17 @@ tallyOf counts = record {
 }
 
 -- Both counts of a family, up to the limit.
-abbrev pub plus : ℕ → ℕ → ℕ
-plus a b = cond (leb (a + b) countLimit) (a + b) countLimit
+abbrev pub countSum : ℕ → ℕ → ℕ
+countSum a b = cond (leb (a + b) countLimit) (a + b) countLimit
 
 unfoldable pub added : Tally → Tally → Tally
 added t more = record {
-  «short_local» = plus (t .«short_local») (more .«short_local»);
-  «short_const» = plus (t .«short_const») (more .«short_const»);
-  «gen_scalar» = plus (t .«gen_scalar») (more .«gen_scalar»);
-  «mem_ref» = plus (t .«mem_ref») (more .«mem_ref»);
-  etc = plus (t .etc) (more .etc);
-  «long_local» = plus (t .«long_local») (more .«long_local»);
-  «long_global» = plus (t .«long_global») (more .«long_global»);
-  index = plus (t .index) (more .index);
+  «short_local» = countSum (t .«short_local») (more .«short_local»);
+  «short_const» = countSum (t .«short_const») (more .«short_const»);
+  «gen_scalar» = countSum (t .«gen_scalar») (more .«gen_scalar»);
+  «mem_ref» = countSum (t .«mem_ref») (more .«mem_ref»);
+  etc = countSum (t .etc) (more .etc);
+  «long_local» = countSum (t .«long_local») (more .«long_local»);
+  «long_global» = countSum (t .«long_global») (more .«long_global»);
+  index = countSum (t .index) (more .index);
 }

@@ -1,7 +1,7 @@
 // Counts of finished instructions by family.
 ghost use mathlib.Core.Path.{_≡_};
 ghost use lib.Seq.{sets};
-ghost use Rattle.tally.specs.Counts.{added, countsOf, noneCounted, plus as lesserSum, tallyOf};
+ghost use Rattle.tally.specs.Counts.{added, countSum, countsOf, noneCounted, tallyOf};
 use segment::put_all;
 use segment::word;
 
@@ -92,7 +92,7 @@ impl Tally {
 
 // Both counts of a family, up to the limit.
 fn sum(a: u32, b: u32) -> u32
-    ensures { λ r. ⌜ r ≡ lesserSum a b ⌝ }
+    ensures { λ r. ⌜ r ≡ countSum a b ⌝ }
 {
     if b <= 0xFFFF_FFFF - a {
         a + b

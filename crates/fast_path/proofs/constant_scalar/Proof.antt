@@ -62,9 +62,6 @@ add-w c = search needs
 is-scalar-requires : tie.Need-is-scalar-requires
 is-scalar-requires c κs = search needs
 
-after-requires : tie.Need-after-requires
-after-requires c κs = search needs
-
 push-requires : tie.Need-push-requires
 push-requires c κs = search needs
 
@@ -72,7 +69,7 @@ same-length : tie.Need-same-length
 same-length c = search needs
 
 returns-2 : tie.Need-returns-2
-returns-2 c = λ f. λ of. constant-scalar-by _ f _ _ (c .before .before .before .before .before .before .before .before .before .before .before .before .before .before .number .ensures) (c .before .before .before .before .before .before .before .before .before .before .before .before .before .if1 .left) (c .before .before .before .before .before .before .before .before .before .before .half .ensures) (c .before .before .before .before .before .before .before .half2 .ensures) refl (c .before .before .before .after .ensures) (sym (c .before .before .before .before .before .before .is-scalar .ensures) ∙ c .before .before .before .before .before .if2 .taken) (c .before .before .push .ensures)
+returns-2 c = λ f. λ of. constant-scalar-by _ f _ _ (c .before .before .before .before .before .before .before .before .before .before .before .before .before .number .ensures) (c .before .before .before .before .before .before .before .before .before .before .before .before .if1 .left) (c .before .before .before .before .before .before .before .before .before .half .ensures) (c .before .before .before .before .before .before .half2 .ensures) refl (c .before .before .before .before .before .before .before .before .before .before .before .before .before .before .before .before .pre .1) (sym (c .before .before .before .before .before .is-scalar .ensures) ∙ c .before .before .before .before .if2 .taken) (c .before .before .push .ensures)
 
 returns-3 : tie.Need-returns-3
 returns-3 c = λ f. λ of. left
@@ -100,7 +97,6 @@ constant-scalar-spec =
     cast-w-2
     add-w
     is-scalar-requires
-    after-requires
     push-requires
     same-length
     returns-2

@@ -58,17 +58,11 @@ go-requires c κs = search needs
 enum-told-2 : tie.Need-enum-told-2
 enum-told-2 c = search needs
 
-after-requires : tie.Need-after-requires
-after-requires c κs = search needs
-
 go-if-requires : tie.Need-go-if-requires
 go-if-requires c κs = search needs
 
 enum-told-3 : tie.Need-enum-told-3
 enum-told-3 c = search needs
-
-after-requires-2 : tie.Need-after-requires-2
-after-requires-2 c κs = search needs
 
 go-if-requires-2 : tie.Need-go-if-requires-2
 go-if-requires-2 c κs = search needs
@@ -87,18 +81,18 @@ same-length-2 c = search needs
 
 returns-5 : tie.Need-returns-5
 returns-5 c =
-    let k = c .before .before .before .before .before .before .before in
+    let k = c .before .before .before .before .before .before in
     let inside = in-code (k .before .before .before .before .before .before .before .before .before .before .before .args .h) (k .of .ensures) (k .before .before .before .if2 .left) (k .before .if3 .left) (k .before .before .code-end .ensures) in
-    λ f. λ of. go-true-by _ f _ _ of (k .before .before .before .before .before .before .before .before .number .ensures) (k .before .before .before .before .before .before .before .if1 .left) (k .before .before .before .before .half .ensures) (k .of .ensures) (c .before .before .before .after .ensures) (c .before .before .before .before .before .enum-told2 .given .1) (c .before .before .go-if .ensures _ true refl (inside .0) (inside .1))
+    λ f. λ of. go-true-by _ f _ _ of (k .before .before .before .before .before .before .before .before .number .ensures) (k .before .before .before .before .before .before .before .if1 .left) (k .before .before .before .before .half .ensures) (k .of .ensures) (k .before .before .before .before .before .before .before .before .before .before .before .pre) (c .before .before .before .before .enum-told2 .given .1) (c .before .before .go-if .ensures _ true refl (inside .0) (inside .1))
 
 same-length-3 : tie.Need-same-length-3
 same-length-3 c = search needs
 
 returns-6 : tie.Need-returns-6
 returns-6 c =
-    let k = c .before .before .before .before .before .before .before in
+    let k = c .before .before .before .before .before .before in
     let inside = in-code (k .before .before .before .before .before .before .before .before .before .before .before .args .h) (k .of .ensures) (k .before .before .before .if2 .left) (k .before .if3 .left) (k .before .before .code-end .ensures) in
-    λ f. λ of. go-false-by _ f _ _ of (k .before .before .before .before .before .before .before .before .number .ensures) (k .before .before .before .before .before .before .before .if1 .left) (k .before .before .before .before .half .ensures) (k .of .ensures) (c .before .before .before .after2 .ensures) (c .before .before .before .before .before .enum-told3 .given .1) (c .before .before .go-if2 .ensures _ false refl (inside .0) (inside .1))
+    λ f. λ of. go-false-by _ f _ _ of (k .before .before .before .before .before .before .before .before .number .ensures) (k .before .before .before .before .before .before .before .if1 .left) (k .before .before .before .before .half .ensures) (k .of .ensures) (k .before .before .before .before .before .before .before .before .before .before .before .pre) (c .before .before .before .before .enum-told3 .given .1) (c .before .before .go-if2 .ensures _ false refl (inside .0) (inside .1))
 
 pub jump-to-spec : {M : Type 1} → statement M
 jump-to-spec =
@@ -121,10 +115,8 @@ jump-to-spec =
     enum-told
     go-requires
     enum-told-2
-    after-requires
     go-if-requires
     enum-told-3
-    after-requires-2
     go-if-requires-2
     same-length
     returns-4

@@ -45,9 +45,6 @@ short-constant-requires c κs = search needs
 enum-told-3 : tie.Need-enum-told-3
 enum-told-3 c = search needs
 
-operator-of-requires : tie.Need-operator-of-requires
-operator-of-requires c κs = search needs
-
 scalar-operation-requires : tie.Need-scalar-operation-requires
 scalar-operation-requires c κs = search needs
 
@@ -65,9 +62,6 @@ memory-requires c κs = search needs
 
 enum-told-5 : tie.Need-enum-told-5
 enum-told-5 c = search needs
-
-etc-of-requires : tie.Need-etc-of-requires
-etc-of-requires c κs = search needs
 
 etc-requires : tie.Need-etc-requires
 etc-requires c κs = search needs
@@ -112,7 +106,7 @@ same-length-3 : tie.Need-same-length-3
 same-length-3 c = search needs
 
 returns-5 : tie.Need-returns-5
-returns-5 c = let k = c .before .before .before .before .before .before .before in λ f. λ of. scalar-at _ f _ _ (k .before .before .before .before .number .ensures) (k .before .before .before .if1 .left) (k .before .before .if2 .left) refl (k .family-of .ensures) (c .before .before .before .before .before .enum-told3 .given .1) (c .before .before .before .operator-of .ensures) (c .before .before .scalar-operation .ensures f tt)
+returns-5 c = let k = c .before .before .before .before .before .before in λ f. λ of. scalar-at _ f _ _ (k .before .before .before .before .number .ensures) (k .before .before .before .if1 .left) (k .before .before .if2 .left) refl (k .family-of .ensures) (c .before .before .before .before .enum-told3 .given .1) (c .before .before .scalar-operation .ensures f tt)
 
 same-length-4 : tie.Need-same-length-4
 same-length-4 c = search needs
@@ -124,7 +118,7 @@ same-length-5 : tie.Need-same-length-5
 same-length-5 c = search needs
 
 returns-7 : tie.Need-returns-7
-returns-7 c = let k = c .before .before .before .before .before .before .before in λ f. λ of. etc-at _ f _ _ (k .before .before .before .before .number .ensures) (k .before .before .before .if1 .left) (k .before .before .if2 .left) refl (k .family-of .ensures) (c .before .before .before .before .before .enum-told5 .given .1) (c .before .before .before .etc-of .ensures) (c .before .before .etc .ensures f of)
+returns-7 c = let k = c .before .before .before .before .before .before in λ f. λ of. etc-at _ f _ _ (k .before .before .before .before .number .ensures) (k .before .before .before .if1 .left) (k .before .before .if2 .left) refl (k .family-of .ensures) (c .before .before .before .before .enum-told5 .given .1) (c .before .before .etc .ensures f of)
 
 same-length-6 : tie.Need-same-length-6
 same-length-6 c = search needs
@@ -161,14 +155,12 @@ try-fast-spec =
     enum-told-2
     short-constant-requires
     enum-told-3
-    operator-of-requires
     scalar-operation-requires
     enum-told-4
     variables-requires-2
     memory-of-requires
     memory-requires
     enum-told-5
-    etc-of-requires
     etc-requires
     enum-told-6
     variables-requires-3

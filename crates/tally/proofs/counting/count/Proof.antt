@@ -1,8 +1,7 @@
 use native.Mathlib.Omega.{arith}
-use mathlib.Core.Path.{refl, sym}
+use mathlib.Core.Path.{refl, sym, ap, _∙_}
 use borrow.Author.Needs.{needs}
-use Rattle.instruction.specs.Families.{familyOf}
-use Rattle.tally.specs.Counts.{placeOf}
+use Rattle.instruction.specs.Families.{familyOf, orderOf}
 use Rattle.tally.proofs.Laws.{count-up, count-stays, count-past}
 use Rattle.tally.proofs.counting.count.Statement.{statement}
 use Rattle.tally.proofs.counting.count.Tie as tie
@@ -11,7 +10,8 @@ pub count-spec : {M : Type 1} → statement M
 count-spec =
     tie.close
     (tie.spec
-    (λ c. let a = c .before .before .args in sym (count-past (a .first) (a .counts .now) (placeOf (familyOf (a .first))) refl (omega arith)))
+    (λ c. let a = c .before .before .args in sym (count-past (a .first) (a .counts .now) (orderOf (familyOf (a .first))) refl (omega arith)))
+    (λ c κs. search needs)
     (λ c κs. search needs)
     (λ c. search needs)
     (λ c. search needs)
@@ -21,14 +21,14 @@ count-spec =
     (λ c. search needs)
     (λ c. search needs)
     (λ c.
-    let a = c .before .before .before .before .before .before .before .args in
-    let p = c .before .before .before .before .place-of in
-    sym (count-up (a .first) (a .counts .now) (p .result) (p .ensures) (omega arith)))
+    let k = c .before .before .before .before in
+    let a = k .before .before .before .before .args in
+    sym (count-up (a .first) (a .counts .now) (k .order .result) (k .order .ensures ∙ ap orderOf (k .before .family-of .ensures)) (omega arith)))
     (λ c.
-    let a = c .before .before .before .before .before .before .args in
-    let p = c .before .before .before .place-of in
-    sym (count-stays (a .first) (a .counts .now) (p .result) (p .ensures) (omega arith)))
+    let k = c .before .before .before in
+    let a = k .before .before .before .before .args in
+    sym (count-stays (a .first) (a .counts .now) (k .order .result) (k .order .ensures ∙ ap orderOf (k .before .family-of .ensures)) (omega arith)))
     (λ c.
-    let a = c .before .before .before .before .args in
-    let p = c .before .place-of in
-    sym (count-past (a .first) (a .counts .now) (p .result) (p .ensures) (omega arith))))
+    let k = c .before in
+    let a = k .before .before .before .before .args in
+    sym (count-past (a .first) (a .counts .now) (k .order .result) (k .order .ensures ∙ ap orderOf (k .before .family-of .ensures)) (omega arith))))
