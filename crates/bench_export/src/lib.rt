@@ -3,5 +3,6 @@
 mod array_storage;
 mod code_walk;
 mod element_loops;
+mod first_bytes;
 mod judgement;
 mod scalar_loops;

@@ -190,8 +190,10 @@ fn assign(seg: &mut [u32], variables: u32, code: &[u8], keep: bool, place: CodeA
 
 fn etc(seg: &mut [u32], h: Header, code: &[u8], first: u8, place: CodeAddress) -> bool
     requires { ⌜ length (now seg) ≤ 16384 ⌝ }
-    ensures { λ r. ⌜ CarriesOutIn (now (seg .entry)) r (now (seg .exit)) (WithHeader h) (decoding.etcAt (now (code .entry)) (past place) (etcOf (first % 2 ^ 5))) ⌝ }
+    ensures { λ r. ⌜ CarriesOutIn (now (seg .entry)) r (now (seg .exit)) (WithHeader h)
+        (decoding.etcAt (now (code .entry)) (past place) (etcOf (first % 2 ^ 5))) ⌝ }
 {
+    // The place after is worked out in each arm: there the compiler knows the suboperation, and no comparison is left.
     match etc_of(first % 32) {
         EtcSuboperation::Jump(kind) => jump_to(
             seg,

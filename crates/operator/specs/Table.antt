@@ -23,10 +23,9 @@ monadicAt k o = (k, Defined (O.Monadic o))
 abbrev pub dyadicAt : ℕ → Dyadic → ℕ × Suboperation
 dyadicAt k o = (k, Defined (O.Dyadic o))
 
-unfoldable pub operatorOf : ℕ → Suboperation
-operatorOf k =
-    lookup k
-    (monadicAt 0 Identity
+abbrev pub operators : List (ℕ × Suboperation)
+operators =
+    monadicAt 0 Identity
     ∷ monadicAt 1 Negative
     ∷ monadicAt 2 Floor
     ∷ monadicAt 3 Ceiling
@@ -42,5 +41,7 @@ operatorOf k =
     ∷ dyadicAt 13 LogicalSum
     ∷ dyadicAt 14 Less
     ∷ dyadicAt 15 Equal
-    ∷ [])
-    Undefined
+    ∷ []
+
+unfoldable pub operatorOf : ℕ → Suboperation
+operatorOf k = lookup k operators Undefined

@@ -1,94 +1,19 @@
-use Rattle.operator.specs.Table.{operatorOf}
-use borrow.Author.Tests.{ne-eqb}
+use mathlib.Core.Path.{refl, sym}
+use native.Mathlib.Omega.{arith}
+use borrow.Author.Needs.{needs}
+use Rattle.operator.specs.declared.Suboperation.the-variants.{Undefined}
+use Rattle.operator.specs.Table.{operators, operatorOf}
+use Rattle.operator.proofs.Lookup.{past-table}
 use Rattle.operator.proofs.operator_of.Statement.{statement}
 use Rattle.operator.proofs.operator_of.Tie as tie
 
-returns : tie.Need-returns
-unfolding operatorOf
-returns c = simp (c .match .keys1)
-
-returns-2 : tie.Need-returns-2
-unfolding operatorOf
-returns-2 c = simp (c .match .keys2)
-
-returns-3 : tie.Need-returns-3
-unfolding operatorOf
-returns-3 c = simp (c .match .keys3)
-
-returns-4 : tie.Need-returns-4
-unfolding operatorOf
-returns-4 c = simp (c .match .keys4)
-
-returns-5 : tie.Need-returns-5
-unfolding operatorOf
-returns-5 c = simp (c .match .keys5)
-
-returns-6 : tie.Need-returns-6
-unfolding operatorOf
-returns-6 c = simp (c .match .keys6)
-
-returns-7 : tie.Need-returns-7
-unfolding operatorOf
-returns-7 c = simp (c .match .keys7)
-
-returns-8 : tie.Need-returns-8
-unfolding operatorOf
-returns-8 c = simp (c .match .keys8)
-
-returns-9 : tie.Need-returns-9
-unfolding operatorOf
-returns-9 c = simp (c .match .keys9)
-
-returns-10 : tie.Need-returns-10
-unfolding operatorOf
-returns-10 c = simp (c .match .keys10)
-
-returns-11 : tie.Need-returns-11
-unfolding operatorOf
-returns-11 c = simp (c .match .keys11)
-
-returns-12 : tie.Need-returns-12
-unfolding operatorOf
-returns-12 c = simp (c .match .keys12)
-
-returns-13 : tie.Need-returns-13
-unfolding operatorOf
-returns-13 c = simp (c .match .keys13)
-
-returns-14 : tie.Need-returns-14
-unfolding operatorOf
-returns-14 c = simp (c .match .keys14)
-
-returns-15 : tie.Need-returns-15
-unfolding operatorOf
-returns-15 c = simp (c .match .keys15)
-
-returns-16 : tie.Need-returns-16
-unfolding operatorOf
-returns-16 c = simp (c .match .keys16)
-
-returns-17 : tie.Need-returns-17
-unfolding operatorOf
-returns-17 c = simp (ne-eqb _ _ (c .match .rest .0 .0 .0 .0 .0 .0 .0 .0 .0 .0 .0 .0 .0 .0 .0 .1), ne-eqb _ _ (c .match .rest .0 .0 .0 .0 .0 .0 .0 .0 .0 .0 .0 .0 .0 .0 .1), ne-eqb _ _ (c .match .rest .0 .0 .0 .0 .0 .0 .0 .0 .0 .0 .0 .0 .0 .1), ne-eqb _ _ (c .match .rest .0 .0 .0 .0 .0 .0 .0 .0 .0 .0 .0 .0 .1), ne-eqb _ _ (c .match .rest .0 .0 .0 .0 .0 .0 .0 .0 .0 .0 .0 .1), ne-eqb _ _ (c .match .rest .0 .0 .0 .0 .0 .0 .0 .0 .0 .0 .1), ne-eqb _ _ (c .match .rest .0 .0 .0 .0 .0 .0 .0 .0 .0 .1), ne-eqb _ _ (c .match .rest .0 .0 .0 .0 .0 .0 .0 .0 .1), ne-eqb _ _ (c .match .rest .0 .0 .0 .0 .0 .0 .0 .1), ne-eqb _ _ (c .match .rest .0 .0 .0 .0 .0 .0 .1), ne-eqb _ _ (c .match .rest .0 .0 .0 .0 .0 .1), ne-eqb _ _ (c .match .rest .0 .0 .0 .0 .1), ne-eqb _ _ (c .match .rest .0 .0 .0 .1), ne-eqb _ _ (c .match .rest .0 .0 .1), ne-eqb _ _ (c .match .rest .0 .1), ne-eqb _ _ (c .match .rest .1))
-
 pub operator-of-spec : {M : Type 1} → statement M
+unfolding operatorOf
 operator-of-spec =
     tie.close
     (tie.spec
-    returns
-    returns-2
-    returns-3
-    returns-4
-    returns-5
-    returns-6
-    returns-7
-    returns-8
-    returns-9
-    returns-10
-    returns-11
-    returns-12
-    returns-13
-    returns-14
-    returns-15
-    returns-16
-    returns-17)
+    (λ c κs. search needs)
+    (λ c. search needs)
+    (λ c κs. search needs)
+    (λ c. search needs)
+    (λ c. sym (past-table (c .before .before .args .number) 16 (omega arith) Undefined operators refl)))

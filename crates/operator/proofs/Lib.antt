@@ -1,0 +1,2 @@
+-- Laws of the manual's tables.
+pub mod Lookup
