@@ -6,6 +6,9 @@ ghost use Rattle.manual.specs.Values.{extent};
 ghost use Rattle.elements.specs.Answers.{Paired};
 use elements::Finished;
 use operator::Dyadic;
+use operator::Operator;
+use operator::Suboperation;
+use operator::operator_of;
 
 fn number(r: Finished) -> u32 {
     match r {
@@ -14,18 +17,15 @@ fn number(r: Finished) -> u32 {
     }
 }
 
-// The operator of a suboperation number; of any other than these, EQUAL.
+// The operator of two operands with that suboperation number; of any other number, EQUAL.
 fn dyadic_of(number: u32) -> Dyadic {
-    match number {
-        8 => Dyadic::Sum,
-        9 => Dyadic::Difference,
-        10 => Dyadic::Product,
-        11 => Dyadic::Quotient,
-        12 => Dyadic::LogicalProduct,
-        13 => Dyadic::LogicalSum,
-        14 => Dyadic::Less,
-        _ => Dyadic::Equal,
-    }
+    let Suboperation::Defined(operator) = operator_of((number % 32) as u8) else {
+        return Dyadic::Equal;
+    };
+    let Operator::Dyadic(op) = operator else {
+        return Dyadic::Equal;
+    };
+    op
 }
 
 #[no_mangle]

@@ -16,7 +16,7 @@ use Rattle.instruction.specs.Families.{familyIn, familyOf}
 use Rattle.instruction.specs.Reading.{codeAddress, fetchByte, fetchHalf, fetchWords}
 use Rattle.instruction.specs.Variables.{addressIn, addressAt}
 use Rattle.instruction.specs.Tables.{memoryOf, etcOf}
-use Rattle.instruction.specs.Lengths.{lengthOf}
+use Rattle.instruction.specs.Lengths.{lengthBy}
 use Rattle.instruction.specs.Decoding.{loadAt, shortConstantAt, memoryAt, constantVectorAt, callAt, etcAt, familyAt, instructionAt}
 
 -- The first instruction of a function with that code.
@@ -77,16 +77,16 @@ cut-word = refl
 -- ---- lengths by the first byte
 
 -- The last of one family's bytes, and the first of the next.
-ends-locals : (lengthOf 0x3F ≡ Fixed 1) × (lengthOf 0x40 ≡ Fixed 2)
-unfolding lengthOf familyOf familyIn
+ends-locals : (lengthBy 0x3F ≡ Fixed 1) × (lengthBy 0x40 ≡ Fixed 2)
+unfolding lengthBy familyOf familyIn
 ends-locals = (refl, refl)
 
 -- SHAPE, CONSTANT_SCALAR, CONSTANT_VECTOR, GO, CALL.
-etc-lengths : (lengthOf 0xA5 ≡ Fixed 1) × (lengthOf 0xAA ≡ Fixed 5) × (lengthOf 0xAB ≡ ByCount) × (lengthOf 0xAD ≡ Fixed 3) × (lengthOf 0xB1 ≡ Fixed 3)
-unfolding lengthOf familyOf familyIn etcOf
+etc-lengths : (lengthBy 0xA5 ≡ Fixed 1) × (lengthBy 0xAA ≡ Fixed 5) × (lengthBy 0xAB ≡ ByCount) × (lengthBy 0xAD ≡ Fixed 3) × (lengthBy 0xB1 ≡ Fixed 3)
+unfolding lengthBy familyOf familyIn etcOf
 etc-lengths = (refl, refl, refl, refl, refl)
 
 -- A MEMREF, and one with no suboperation; GENSCALAR's last operator, and what comes after it.
-judged-lengths : (lengthOf 0x93 ≡ ByAddress) × (lengthOf 0x80 ≡ NoInstruction) × (lengthOf 0x6F ≡ Fixed 1) × (lengthOf 0x70 ≡ NoInstruction)
-unfolding lengthOf familyOf familyIn memoryOf operatorOf
+judged-lengths : (lengthBy 0x93 ≡ ByAddress) × (lengthBy 0x80 ≡ NoInstruction) × (lengthBy 0x6F ≡ Fixed 1) × (lengthBy 0x70 ≡ NoInstruction)
+unfolding lengthBy familyOf familyIn memoryOf operatorOf
 judged-lengths = (refl, refl, refl, refl)

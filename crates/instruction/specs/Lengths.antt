@@ -50,8 +50,8 @@ lengthIn LongGlobal number = Fixed 2
 lengthIn Index number = Fixed 1
 lengthIn Unassigned number = NoInstruction
 
-unfoldable pub lengthOf : ℕ → Length
-lengthOf first = lengthIn (familyOf first) (first % 2 ^ 5)
+unfoldable pub lengthBy : ℕ → Length
+lengthBy first = lengthIn (familyOf first) (first % 2 ^ 5)
 
 -- The bytes that are fixed; 0 where none are.
 abbrev pub fixedBytes : Length → ℕ

@@ -14,11 +14,11 @@ use Rattle.instruction.specs.Families.{firstBytes, familyIn, familyOf}
 use Rattle.instruction.specs.Reading.{fetchByte, fetchWords}
 use Rattle.instruction.specs.Variables.{addressIn, addressAt}
 use Rattle.instruction.specs.Tables.{memoryOf, etcOf}
-use Rattle.instruction.specs.Lengths.{lengthOf}
+use Rattle.instruction.specs.Lengths.{lengthBy}
 use Rattle.instruction.specs.Decoding.{memoryAt, constantVectorAt, etcAt, familyAt, instructionAt}
 use Rattle.instruction.proofs.Computed.{every, everywhere}
 use Rattle.instruction.proofs.Ranges.{is-short-local, is-short-const, is-gen-scalar, is-mem-ref, is-etc, is-long-local, is-long-global, is-index, is-unassigned}
-use Rattle.instruction_theorems.specs.FirstBytes.{holding, Sorted, Open, firstEnd, TwoLengths}
+use Rattle.instruction_theorems.specs.FirstBytes.{holding, Sorted, Open, firstEnd, allBytes, TwoLengths}
 
 -- ---- ranges
 
@@ -83,25 +83,26 @@ twoAt b ByAddress = differs b ByAddress
 twoAt b ByCount = differs b ByCount
 twoAt b NoInstruction = true
 
-two-lengths : (b : ℕ) (length : Length) → differs b length ≡ true → TwoLengths b
-two-lengths b length t =
+two-lengths : (b : ℕ) (length : Length) → (allBytes (follows length false) && allBytes (follows length true)) ≡ true → differs b length ≡ true → TwoLengths b
+two-lengths b length bytes t =
     let passed = truth.both (ltb codeStart (firstEnd (b ∷ follows length false))) (ltb (firstEnd (b ∷ follows length false)) (firstEnd (b ∷ follows length true))) t in
     record {
       one = follows length false;
       other = follows length true;
+      bytes = bytes;
       starts = ltb-true _ _ (passed .0);
       longer = ltb-true _ _ (passed .1);
     }
 
 if-open : (b : ℕ) (length : Length) → twoAt b length ≡ true → Open length → TwoLengths b
 if-open b (Fixed bytes) t opened = absurd opened
-if-open b ByAddress t opened = two-lengths b ByAddress t
-if-open b ByCount t opened = two-lengths b ByCount t
+if-open b ByAddress t opened = two-lengths b ByAddress refl t
+if-open b ByCount t opened = two-lengths b ByCount refl t
 if-open b NoInstruction t opened = absurd opened
 
-two-everywhere : every (λ (k : ℕ). twoAt k (lengthOf k)) 256 ≡ true
-unfolding lengthOf operatorOf memoryOf etcOf familyOf familyIn instructionAt familyAt memoryAt etcAt constantVectorAt addressAt addressIn fetchByte fetchWords
+two-everywhere : every (λ (k : ℕ). twoAt k (lengthBy k)) 256 ≡ true
+unfolding lengthBy operatorOf memoryOf etcOf familyOf familyIn instructionAt familyAt memoryAt etcAt constantVectorAt addressAt addressIn fetchByte fetchWords
 two-everywhere = refl
 
-pub varies : (b : ℕ) → b < 256 → Open (lengthOf b) → TwoLengths b
-varies b h = if-open b (lengthOf b) (everywhere (λ (k : ℕ). twoAt k (lengthOf k)) 256 two-everywhere b h)
+pub varies : (b : ℕ) → b < 256 → Open (lengthBy b) → TwoLengths b
+varies b h = if-open b (lengthBy b) (everywhere (λ (k : ℕ). twoAt k (lengthBy k)) 256 two-everywhere b h)

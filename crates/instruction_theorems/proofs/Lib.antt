@@ -1,7 +1,7 @@
--- The theorems of decoding and what they rest on.
+-- The theorems of first bytes and of decoding, and what they rest on.
 pub mod FirstBytes
 pub mod Confined
-pub mod Spanned
+pub mod Measured
 pub mod Stands
 pub mod Forms
 pub mod Encoded

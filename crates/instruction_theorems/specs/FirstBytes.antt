@@ -3,9 +3,10 @@
 -- instruction/specs/Families, and decoding. Assumes nothing.
 use Prim.Native.Nat.{ℕ, suc, _+_, _*_, _^_, _<_, _≤_}
 use mathlib.Core.Path.{_≡_}
-use mathlib.Core.Bool.{true, cond}
+use mathlib.Core.Bool.{Bool, true, cond, _&&_}
 use mathlib.Core.List.{List, [], _∷_, _++_}
 use lib.ListN.{length, getD, replicate}
+use lib.Dec.{ltb}
 use Rattle.procedure.specs.Headers.{codeStart}
 use Rattle.instruction.specs.declared.Decoded.{Decoded}
 use Rattle.instruction.specs.declared.Decoded.the-variants.{Instruction as Done, Trap}
@@ -13,7 +14,7 @@ use Rattle.instruction.specs.declared.length.Length.{Length}
 use Rattle.instruction.specs.declared.length.Length.the-variants.{Fixed, ByAddress, ByCount, NoInstruction}
 use Rattle.instruction.specs.Families.{Range, holds, firstBytes, familyOf}
 use Rattle.instruction.specs.Reading.{boundary, codeAddress}
-use Rattle.instruction.specs.Lengths.{lengthOf, fixedBytes}
+use Rattle.instruction.specs.Lengths.{lengthBy, fixedBytes}
 use Rattle.instruction.specs.Decoding.{instructionAt}
 
 -- ---- ranges
@@ -40,18 +41,18 @@ abbrev pub EndsIfAny : List ℕ → ℕ → Decoded → Type 0
 EndsIfAny code end (Done i next) = Ends code end (Done i next)
 EndsIfAny code end (Trap class number) = Unit {0}
 
-abbrev pub Traps : Decoded → Type 0
-Traps (Done i next) = ⊥
-Traps (Trap class number) = Unit {0}
+abbrev pub IsTrap : Decoded → Type 0
+IsTrap (Done i next) = ⊥
+IsTrap (Trap class number) = Unit {0}
 
--- What the length that a first byte says is of whatever decoding gives at its place. Where it is fixed, there is an instruction of that
--- many bytes as soon as the code has them, and else (3,1). A MEMREF is a byte longer than the load that its address has the form of. A
--- CONSTANT_VECTOR ends with the words that its count says.
-abbrev pub Spans : List ℕ → ℕ → Length → Decoded → Type 0
-Spans code place (Fixed bytes) d = (place + bytes ≤ length code → Ends code (place + bytes) d) × (length code < place + bytes → d ≡ Trap 3 1)
-Spans code place ByAddress d = EndsIfAny code (place + 1 + fixedBytes (lengthOf (getD code (place + 1) 0))) d
-Spans code place ByCount d = EndsIfAny code (boundary (place + 2) + 4 * getD code (place + 1) 0) d
-Spans code place NoInstruction d = Traps d
+-- What was decoded at a place has that length. Of a fixed one there is an instruction of so many bytes as soon as the code has them, and
+-- else (3,1). A MEMREF is a byte longer than the load whose form its address has. A CONSTANT_VECTOR ends with the words that its count
+-- says. Where no instruction starts there is a trap.
+abbrev pub HasLength : List ℕ → ℕ → Length → Decoded → Type 0
+HasLength code place (Fixed bytes) d = (place + bytes ≤ length code → Ends code (place + bytes) d) × (length code < place + bytes → d ≡ Trap 3 1)
+HasLength code place ByAddress d = EndsIfAny code (place + 1 + fixedBytes (lengthBy (getD code (place + 1) 0))) d
+HasLength code place ByCount d = EndsIfAny code (boundary (place + 2) + 4 * getD code (place + 1) 0) d
+HasLength code place NoInstruction d = IsTrap d
 
 -- An instruction may start with the byte, and it fixes no length.
 abbrev pub Open : Length → Type 0
@@ -60,18 +61,24 @@ Open ByAddress = Unit {0}
 Open ByCount = Unit {0}
 Open NoInstruction = ⊥
 
--- Where the first instruction of a function with that code ends; 0 at a trap.
+-- Where what was decoded ends; 0 at a trap.
 abbrev pub endOf : Decoded → ℕ
 endOf (Done i next) = next .0
 endOf (Trap class number) = 0
 
+-- Where the first instruction of a function with that code ends.
 abbrev pub firstEnd : List ℕ → ℕ
 firstEnd code = endOf (instructionAt (replicate codeStart 0 ++ code) codeStart)
 
--- Instructions of two lengths start with the byte, by what follows it.
+abbrev pub allBytes : List ℕ → Bool
+allBytes [] = true
+allBytes (b ∷ code) = ltb b 256 && allBytes code
+
+-- Instructions of two lengths start with the byte, by the bytes that follow it.
 pub record TwoLengths (b : ℕ) : Type 0 where
   pub one : List ℕ
   pub other : List ℕ
+  pub bytes : (allBytes one && allBytes other) ≡ true
   pub starts : codeStart < firstEnd (b ∷ one)
   pub longer : firstEnd (b ∷ one) < firstEnd (b ∷ other)
 
@@ -81,7 +88,7 @@ pub record FirstBytes : Type 0 where
   -- .. whose family is its own.
   pub sorted : (b : ℕ) → Sorted firstBytes b
   -- Where the length is fixed, it is the length of whatever decoding gives; where it is not, what follows says it.
-  pub spans : (code : List ℕ) → length code < 2 ^ 32 → (place : ℕ) → codeStart ≤ place → place < length code
-      → Spans code place (lengthOf (getD code place 0)) (instructionAt code place)
+  pub lengths : (code : List ℕ) → length code < 2 ^ 32 → (place : ℕ) → codeStart ≤ place → place < length code
+      → HasLength code place (lengthBy (getD code place 0)) (instructionAt code place)
   -- No length that a first byte fixes is left open.
-  pub varies : (b : ℕ) → b < 256 → Open (lengthOf b) → TwoLengths b
+  pub varies : (b : ℕ) → b < 256 → Open (lengthBy b) → TwoLengths b

@@ -37,11 +37,11 @@ use Rattle.instruction.specs.Families.{familyOf}
 use Rattle.instruction.specs.Reading.{boundary, codeAddress, cursorAt, placeOf, fetchByte, fetchHalf, fetchWord, fetchWords, withByte, withHalf, withWord, withWords}
 use Rattle.instruction.specs.Variables.{longLocal, longGlobal, addressIn, addressAt, withAddress}
 use Rattle.instruction.specs.Tables.{memoryOf, etcOf}
-use Rattle.instruction.specs.Lengths.{scalarLength, memoryLength, etcLength, lengthIn, lengthOf, fixedBytes}
+use Rattle.instruction.specs.Lengths.{scalarLength, memoryLength, etcLength, lengthIn, lengthBy, fixedBytes}
 use Rattle.instruction.specs.Decoding.{decodedTo, shortConstantOf, callOf, loadAt, shortConstantAt, scalarAt, memoryAt, constantScalarAt, constantVectorAt, jumpAt, callAt, etcAt, familyAt, instructionAt}
 use Rattle.instruction.proofs.Cases.{byte-cases, half-cases, word-cases, words-cases}
 use Rattle.instruction.proofs.Lengths.{AddressEnds, address-ends}
-use Rattle.instruction_theorems.specs.FirstBytes.{Ends, EndsIfAny, Spans}
+use Rattle.instruction_theorems.specs.FirstBytes.{Ends, EndsIfAny, HasLength}
 use Rattle.instruction_theorems.specs.Theorems.{Next}
 
 -- The first byte stands at a place of the code, the cursor after it.
@@ -51,7 +51,7 @@ module _ (code : List ℕ) (short : length code < 2 ^ 32) (place : ℕ) (low : 8
 
   -- What is decoded has the length that the first byte says, and ends past that byte.
   abbrev Reached : Length → Decoded → Type 0
-  Reached bytes d = Spans code place bytes d × Next place code d
+  Reached bytes d = HasLength code place bytes d × Next place code d
 
   ended : (i : Instruction) (c : Cursor) (end : ℕ) → c .at ≡ end → end ≤ length code → Ends code end (decodedTo i c)
   ended i c end e h =
@@ -75,31 +75,31 @@ module _ (code : List ℕ) (short : length code < 2 ^ 32) (place : ℕ) (low : 8
   one-byte i = whole 1 i after refl (omega arith) (omega arith)
 
   -- A byte, a half or a word after the first byte.
-  spans-byte : (f : ℕ → Instruction) → Reached (Fixed 2) (withByte (fetchByte code after) (Trap 3 1) (λ v c. decodedTo (f v) c))
-  spans-byte f =
+  reached-byte : (f : ℕ → Instruction) → Reached (Fixed 2) (withByte (fetchByte code after) (Trap 3 1) (λ v c. decodedTo (f v) c))
+  reached-byte f =
       byte-cases code after
       (λ (x : FetchedByte). Reached (Fixed 2) (withByte x (Trap 3 1) (λ v c. decodedTo (f v) c)))
       (λ h. cut-short 2 (omega arith))
       (λ h. whole 2 (f (getD code (place + 1) 0)) (cursorAt (place + 1 + 1)) (omega arith) (omega arith) (omega arith))
 
-  spans-half : (f : ℕ → Instruction) → Reached (Fixed 3) (withHalf (fetchHalf code after) (Trap 3 1) (λ v c. decodedTo (f v) c))
-  spans-half f =
+  reached-half : (f : ℕ → Instruction) → Reached (Fixed 3) (withHalf (fetchHalf code after) (Trap 3 1) (λ v c. decodedTo (f v) c))
+  reached-half f =
       half-cases code after
       (λ (x : FetchedHalf). Reached (Fixed 3) (withHalf x (Trap 3 1) (λ v c. decodedTo (f v) c)))
       (λ h. cut-short 3 (omega arith))
       (λ v h. whole 3 (f v) (cursorAt (place + 1 + 1 + 1)) (omega arith) (omega arith) (omega arith))
 
-  spans-word : (f : ℕ → Instruction) → Reached (Fixed 5) (withWord (fetchWord code after) (Trap 3 1) (λ v c. decodedTo (f v) c))
-  spans-word f =
+  reached-word : (f : ℕ → Instruction) → Reached (Fixed 5) (withWord (fetchWord code after) (Trap 3 1) (λ v c. decodedTo (f v) c))
+  reached-word f =
       word-cases code after
       (λ (x : FetchedWord). Reached (Fixed 5) (withWord x (Trap 3 1) (λ v c. decodedTo (f v) c)))
       (λ h. cut-short 5 (omega arith))
       (λ w h. whole 5 (f w) (cursorAt (place + 1 + 1 + 1 + 1 + 1)) (omega arith) (omega arith) (omega arith))
 
   -- The three loads, by an address of two bytes or of one.
-  spans-long : (first : ℕ) (address : ℕ → Address)
+  reached-long : (first : ℕ) (address : ℕ → Address)
       → Reached (Fixed 2) (withAddress (withByte (fetchByte code after) (NoAddress 3 1) (λ v c. At (address (first * 2 ^ 8 + v)) c)) Trap (λ a c. decodedTo (I.Load a) c))
-  spans-long first address =
+  reached-long first address =
       byte-cases code after
       (λ (x : FetchedByte). Reached (Fixed 2) (withAddress (withByte x (NoAddress 3 1) (λ v c. At (address (first * 2 ^ 8 + v)) c)) Trap (λ a c. decodedTo (I.Load a) c)))
       (λ h. cut-short 2 (omega arith))
@@ -115,27 +115,27 @@ module _ (code : List ℕ) (short : length code < 2 ^ 32) (place : ℕ) (low : 8
       )
   if-addressed o bytes (NoAddress class number) ends h = (tt, tt)
 
-  spans-memory : (sub : MemorySuboperation) → Reached (memoryLength sub) (memoryAt code after sub)
-  unfolding memoryAt addressAt lengthOf
-  spans-memory M.Undefined = (tt, tt)
-  spans-memory (M.Defined o) =
+  reached-memory : (sub : MemorySuboperation) → Reached (memoryLength sub) (memoryAt code after sub)
+  unfolding memoryAt addressAt lengthBy
+  reached-memory M.Undefined = (tt, tt)
+  reached-memory (M.Defined o) =
       byte-cases code after
       (λ (x : FetchedByte). Reached ByAddress (withAddress (withByte x (NoAddress 3 1) (λ v c. addressIn code c v (familyOf v))) Trap (λ a c. decodedTo (I.Memory o a) c)))
       (λ h. (tt, tt))
       (λ h.
-      if-addressed o (fixedBytes (lengthOf second)) (addressIn code (cursorAt (place + 1 + 1)) second (familyOf second))
+      if-addressed o (fixedBytes (lengthBy second)) (addressIn code (cursorAt (place + 1 + 1)) second (familyOf second))
       (address-ends code (cursorAt (place + 1 + 1)) second (second % 2 ^ 5) (familyOf second)) h)
     where
       second : ℕ
       second = getD code (place + 1) 0
 
-  spans-scalar : (sub : Suboperation) → Reached (scalarLength sub) (scalarAt sub after)
-  spans-scalar (O.Defined o) = one-byte (I.Scalar o)
-  spans-scalar O.Undefined = (tt, tt)
+  reached-scalar : (sub : Suboperation) → Reached (scalarLength sub) (scalarAt sub after)
+  reached-scalar (O.Defined o) = one-byte (I.Scalar o)
+  reached-scalar O.Undefined = (tt, tt)
 
-  spans-vector : Reached ByCount (constantVectorAt code after)
+  reached-vector : Reached ByCount (constantVectorAt code after)
   unfolding constantVectorAt
-  spans-vector =
+  reached-vector =
       byte-cases code after
       (λ (x : FetchedByte). Reached ByCount (withByte x (Trap 3 1) counted))
       (λ h. (tt, tt))
@@ -160,36 +160,36 @@ module _ (code : List ℕ) (short : length code < 2 ^ 32) (place : ℕ) (low : 8
       counted : ℕ → Cursor → Decoded
       counted count c = withWords (fetchWords code c count) (Trap 3 1) (taken count)
 
-  spans-etc : (sub : EtcSuboperation) → Reached (etcLength sub) (etcAt code after sub)
+  reached-etc : (sub : EtcSuboperation) → Reached (etcLength sub) (etcAt code after sub)
   unfolding etcAt jumpAt constantScalarAt callAt
-  spans-etc (E.Stack o) = one-byte (I.Stack o)
-  spans-etc (E.Array o) = one-byte (I.Array o)
-  spans-etc (E.Control o) = one-byte (I.Control o)
-  spans-etc (E.Jump jump) = spans-half (λ v. I.Jump jump (codeAddress v))
-  spans-etc E.ConstantScalar = spans-word (λ w. I.ConstantScalar w)
-  spans-etc E.ConstantVector = spans-vector
-  spans-etc E.Call = spans-half callOf
-  spans-etc E.Undefined = (tt, tt)
+  reached-etc (E.Stack o) = one-byte (I.Stack o)
+  reached-etc (E.Array o) = one-byte (I.Array o)
+  reached-etc (E.Control o) = one-byte (I.Control o)
+  reached-etc (E.Jump jump) = reached-half (λ v. I.Jump jump (codeAddress v))
+  reached-etc E.ConstantScalar = reached-word (λ w. I.ConstantScalar w)
+  reached-etc E.ConstantVector = reached-vector
+  reached-etc E.Call = reached-half callOf
+  reached-etc E.Undefined = (tt, tt)
 
-  spans-family : (first : ℕ) (family : Family) → Reached (lengthIn family (first % 2 ^ 5)) (familyAt code after first family)
+  reached-family : (first : ℕ) (family : Family) → Reached (lengthIn family (first % 2 ^ 5)) (familyAt code after first family)
   unfolding familyAt loadAt addressIn shortConstantAt
-  spans-family first ShortLocal = one-byte _
-  spans-family first ShortConst = spans-byte (λ v. shortConstantOf (first * 2 ^ 8 + v))
-  spans-family first GenScalar = spans-scalar (operatorOf (first % 2 ^ 5))
-  spans-family first MemRef = spans-memory (memoryOf (first % 2 ^ 5))
-  spans-family first Etc = spans-etc (etcOf (first % 2 ^ 5))
-  spans-family first LongLocal = spans-long first longLocal
-  spans-family first LongGlobal = spans-long first longGlobal
-  spans-family first Index = one-byte (I.Index (first % 2 ^ 4))
-  spans-family first Unassigned = (tt, tt)
+  reached-family first ShortLocal = one-byte _
+  reached-family first ShortConst = reached-byte (λ v. shortConstantOf (first * 2 ^ 8 + v))
+  reached-family first GenScalar = reached-scalar (operatorOf (first % 2 ^ 5))
+  reached-family first MemRef = reached-memory (memoryOf (first % 2 ^ 5))
+  reached-family first Etc = reached-etc (etcOf (first % 2 ^ 5))
+  reached-family first LongLocal = reached-long first longLocal
+  reached-family first LongGlobal = reached-long first longGlobal
+  reached-family first Index = one-byte (I.Index (first % 2 ^ 4))
+  reached-family first Unassigned = (tt, tt)
 
-  reached : Reached (lengthOf (getD code place 0)) (instructionAt code place)
-  unfolding lengthOf instructionAt fetchByte
-  reached = simp (le-ltb place 8 low, lt-ltb place (length code) inside) (spans-family (getD code place 0) (familyOf (getD code place 0)))
+  reached : Reached (lengthBy (getD code place 0)) (instructionAt code place)
+  unfolding lengthBy instructionAt fetchByte
+  reached = simp (le-ltb place 8 low, lt-ltb place (length code) inside) (reached-family (getD code place 0) (familyOf (getD code place 0)))
 
-pub spans : (code : List ℕ) → length code < 2 ^ 32 → (place : ℕ) → 8 ≤ place → place < length code
-    → Spans code place (lengthOf (getD code place 0)) (instructionAt code place)
-spans code short place low inside = reached code short place low inside .0
+pub lengths : (code : List ℕ) → length code < 2 ^ 32 → (place : ℕ) → 8 ≤ place → place < length code
+    → HasLength code place (lengthBy (getD code place 0)) (instructionAt code place)
+lengths code short place low inside = reached code short place low inside .0
 
 pub advances : (code : List ℕ) → length code < 2 ^ 32 → (place : ℕ) → Next place code (instructionAt code place)
 unfolding instructionAt fetchByte
@@ -199,4 +199,4 @@ advances code short place = on (ltb place 8) (ltb place (length code)) refl refl
         → Next place code (cond before (Trap 3 1) (withByte (cond inside (Byte (getD code place 0) (cursorAt (place + 1))) Outside) (Trap 3 1) (λ first after. familyAt code after first (familyOf first))))
     on true inside e f = tt
     on false false e f = tt
-    on false true e f = spans-family code short place (ltb-false place 8 e) (ltb-true place (length code) f) (getD code place 0) (familyOf (getD code place 0)) .1
+    on false true e f = reached-family code short place (ltb-false place 8 e) (ltb-true place (length code) f) (getD code place 0) (familyOf (getD code place 0)) .1
