@@ -1,4 +1,5 @@
--- A local, a global and a reference to it, and the address of two bytes that names the global. Nothing rests on this file.
+-- A local, a global and a reference to it, the address of two bytes that names the global, and places after instructions. Nothing rests
+-- on this file.
 -- Assumes nothing.
 use Prim.Native.Nat.{ℕ}
 use mathlib.Core.Path.{_≡_, refl}
@@ -10,11 +11,14 @@ use Rattle.descriptor.specs.Kinds.{segment, kindOf, integerKind, unsignedKind, 
 use Rattle.segment.specs.Cells.{value}
 use Rattle.instruction.specs.declared.Address.the-variants as A
 use Rattle.instruction.specs.Families.{familyIn, familyOf}
-use Rattle.instruction.specs.Reading.{cursorAt, fetchByte}
+use Rattle.instruction.specs.Reading.{codeAddress, cursorAt, fetchByte}
 use Rattle.instruction.specs.Variables.{addressIn}
+use Rattle.instruction.specs.Tables.{etcOf}
+use Rattle.instruction.specs.Lengths.{lengthBy}
 use Rattle.manual.specs.OrTrap.{gives}
 use Rattle.manual.specs.Seen.{at}
 use Rattle.effects.specs.Seen.{read, seen}
+use Rattle.fast_path.specs.Answers.{nextAfter}
 use Rattle.fast_path.specs.Naming.{localOf, variableAt, Stands, Names}
 
 -- Global 8 is the integer 5, global 9 refers to it; the current frame has one variable, word 10, the integer 7.
@@ -48,3 +52,8 @@ the-address =
       fetches = refl;
       stands = λ h. λ same. record { resolves = refl; place = refl };
     }
+
+-- SHORTCONST and GO at byte 8, and at the last number that a place can be.
+the-places : (nextAfter (codeAddress 8) (lengthBy 0x40) ≡ 10) × (nextAfter (codeAddress 8) (lengthBy 0xAD) ≡ 11) × (nextAfter (codeAddress 0xFFFF_FFFF) (lengthBy 0x40) ≡ 1)
+unfolding lengthBy familyOf familyIn etcOf
+the-places = (refl, refl, refl)

@@ -2,3 +2,4 @@
 pub mod FirstBytes
 pub mod Encoder
 pub mod Theorems
+pub mod Examples

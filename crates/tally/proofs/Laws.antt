@@ -4,13 +4,13 @@ use native.Mathlib.Omega.{arith}
 use mathlib.Core.Path.{_≡_, refl, sym, ap, _∙_}
 use mathlib.Core.Bool.{Bool, true, false, cond}
 use mathlib.Core.List.{List, [], _∷_}
-use lib.Dec.{ltb, leb}
+use lib.Dec.{ltb}
 use lib.ListN.{getD, set, length, length-set}
 use lib.Seq.{set-out, take-all}
 use mir.Val.{Val}
 use denote.Laws.{Is}
 use denote.Struct.Laws.{owed}
-use borrow.Author.Tests.{ltb-true, leb-true, lt-ltb, le-ltb, le-leb, lt-leb}
+use borrow.Author.Tests.{lt-ltb, le-ltb, le-leb, lt-leb}
 use Rattle.instruction.specs.Families.{familyOf, orderOf}
 use Rattle.segment.proofs.Parts.{part-take}
 use Rattle.tally.specs.declared.Tally.{Tally}
@@ -51,27 +51,7 @@ unfolding counted countUp
 counted-length first counts =
     counted-length-at (ltb (getD counts (orderOf (familyOf first)) 0) countLimit) counts (orderOf (familyOf first)) (getD counts (orderOf (familyOf first)) 0 + 1)
 
-set-within : (counts : List ℕ) (i w : ℕ) → w ≤ countLimit → Within counts → Within (set counts i w)
-set-within [] i w fits within j = within j
-set-within (x ∷ counts) zero w fits within zero = fits
-set-within (x ∷ counts) zero w fits within (suc j) = within (suc j)
-set-within (x ∷ counts) (suc i) w fits within zero = within zero
-set-within (x ∷ counts) (suc i) w fits within (suc j) = set-within counts i w fits (λ k. within (suc k)) j
-
-up-within : (b : Bool) (counts : List ℕ) (i : ℕ) → ltb (getD counts i 0) countLimit ≡ b → Within counts
-    → Within (cond b (set counts i (getD counts i 0 + 1)) counts)
-up-within true counts i e within = set-within counts i (getD counts i 0 + 1) (let below = ltb-true (getD counts i 0) countLimit e in omega arith) within
-up-within false counts i e within = within
-
-pub counted-within : (first : ℕ) (counts : List ℕ) → Within counts → Within (counted first counts)
-unfolding counted countUp
-counted-within first counts within = up-within _ counts (orderOf (familyOf first)) refl within
-
 -- ---- both counts of a family
-
-sum-within : (test : Bool) (n : ℕ) → leb n countLimit ≡ test → cond test n countLimit ≤ countLimit
-sum-within true n e = leb-true n countLimit e
-sum-within false n e = omega arith
 
 module _ (a b : ℕ) where
   pub sum-below : a + b ≤ countLimit → countSum a b ≡ a + b
@@ -79,9 +59,6 @@ module _ (a b : ℕ) where
 
   pub sum-full : countLimit < a + b → countSum a b ≡ countLimit
   sum-full past = simp (lt-leb (a + b) countLimit past)
-
-  pub sum-at-most : countSum a b ≤ countLimit
-  sum-at-most = sum-within (leb (a + b) countLimit) (a + b) refl
 
 pub sum-none : (b : ℕ) → b ≤ countLimit → countSum 0 b ≡ b
 sum-none b fits = sum-below 0 b (omega arith) ∙ omega arith
