@@ -3,4 +3,5 @@ pub mod Answers
 pub mod Run
 pub mod Load
 pub mod Look
+pub mod Sheet
 pub mod Replay

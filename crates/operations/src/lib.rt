@@ -1,5 +1,6 @@
 // What the operations answer.
 use descriptor::address::SegmentAddress;
+use storage_sheet::Sheet;
 
 // What a lay out or a load answers: done, or the number of the test that refused it.
 pub enum Answer {
@@ -18,6 +19,12 @@ pub enum Run {
 pub enum Looked {
     Scalar(u32),
     Array(SegmentAddress),
+    Refused(u8),
+}
+
+// What a sheet answers: where the words of array storage went, or the number of the test that refused it.
+pub enum Sheeted {
+    Counted(Sheet),
     Refused(u8),
 }
 

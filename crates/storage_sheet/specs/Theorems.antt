@@ -1,0 +1,48 @@
+-- What the sheet of an accepted segment is. Document 02, paper 3: "A block shared by several cells is counted once. It is shown that
+-- the first four, each summed from the blocks, add up to the fifth." Proved in proofs/Theorems. Assumes nothing.
+use Prim.Native.Nat.{ℕ, _+_, _^_, _≤_, _<_}
+use mathlib.Core.Path.{_≡_}
+use mathlib.Core.Bool.{true}
+use mathlib.Core.List.{List, [], _∷_}
+use Rattle.descriptor.specs.Fields.{arrayWord}
+use Rattle.segment.specs.View.{owners}
+use Rattle.storage.specs.Heap.{Block, free, array, count}
+use Rattle.acceptance_storage.specs.Blocks.{arrayStarts}
+use Rattle.acceptance_storage.specs.Room.{longEnough}
+use Rattle.acceptance.specs.Structure.{Accepted}
+use Rattle.storage_sheet.specs.declared.Sheet.{Sheet}
+use Rattle.storage_sheet.specs.Sheet.{sheetOf}
+
+-- SIZE of the arrays, SLOP, and SIZE of the free blocks.
+abbrev pub arrayWords : List Block → ℕ
+arrayWords [] = 0
+arrayWords (free size ∷ blocks) = arrayWords blocks
+arrayWords (array size slop ∷ blocks) = size + arrayWords blocks
+
+abbrev pub slopWords : List Block → ℕ
+slopWords [] = 0
+slopWords (free size ∷ blocks) = slopWords blocks
+slopWords (array size slop ∷ blocks) = slop + slopWords blocks
+
+abbrev pub freeWords : List Block → ℕ
+freeWords [] = 0
+freeWords (free size ∷ blocks) = size + freeWords blocks
+freeWords (array size slop ∷ blocks) = freeWords blocks
+
+-- The sheet is of these blocks, which are all that there are.
+pub record SheetOf (blocks : List Block) (sheet : Sheet) : Type 0 where
+  pub arrays : sheet .arrays ≡ arrayWords blocks
+  pub slop : sheet .slop ≡ slopWords blocks
+  pub free : sheet .free ≡ freeWords blocks
+
+pub record SheetTheorems : Type 0 where
+  -- "each summed from the blocks": the blocks that tile array storage
+  pub summed : (s regular alternate : List ℕ) (a : Accepted s regular alternate) → SheetOf (a .owned .blocks) (sheetOf s)
+  -- "the first four .. add up to the fifth"
+  pub adds : (s regular alternate : List ℕ) → Accepted s regular alternate
+      → sheetOf s .arrays + sheetOf s .slop + sheetOf s .free + sheetOf s .end ≡ sheetOf s .total
+  -- "A block shared by several cells is counted once": an array stands once among those that are summed, however many cells hold its word
+  pub once : (s regular alternate : List ℕ) → Accepted s regular alternate → (x : ℕ) → x < 2 ^ 16 → 0 < count (arrayWord x) (owners s)
+      → count x (arrayStarts s) ≡ 1
+  -- no request finds more than `free` words
+  pub most : (s regular alternate : List ℕ) → Accepted s regular alternate → (n : ℕ) → longEnough s n ≡ true → n ≤ sheetOf s .free
