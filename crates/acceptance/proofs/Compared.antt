@@ -1,5 +1,5 @@
 -- Test 18 array by array: what the arrays from one block on come to.
-use Prim.Native.Nat.{ℕ, zero, suc, _+_, _-_, _<_, _≤_, _^_}
+use Prim.Native.Nat.{ℕ, _+_, _-_, _<_, _≤_, _^_}
 use mathlib.Core.Path.{_≡_, refl, sym, _∙_, ap}
 use mathlib.Core.Bool.{Bool, true, false, cond, _&&_}
 use mathlib.Core.List.{List, [], _∷_}
@@ -20,7 +20,7 @@ use Rattle.acceptance_storage.specs.Blocks.{startsFrom, arrayStarts, blocksTest
 use Rattle.acceptance_storage.specs.Marks.{Tally}
 use Rattle.acceptance_storage.specs.Structure.{arrays}
 use Rattle.descriptor.proofs.Truth.{by-eq}
-use Rattle.acceptance_storage.proofs.Starts.{starts-few, starts-end, array-hit, array-miss}
+use Rattle.acceptance_storage.proofs.Starts.{starts-few, starts-none, starts-end, array-hit, array-miss}
 use Rattle.acceptance_storage.proofs.Tiling.{Tiled, walk-starts}
 use Rattle.acceptance_storage.proofs.Structure.{blocks-facts, walk-tiles}
 use Rattle.acceptance.specs.Counts.{countTest, countsTest}
@@ -28,12 +28,7 @@ use Rattle.acceptance.specs.Tables.{Tallied, arraysFrom, Met}
 
 module _ (test : ℕ → Bool) (s : List ℕ) (a end n : ℕ) where
   pub arrays-none : n ≤ 0 → every test (startsFrom false n s a end) ≡ true
-  unfolding startsFrom
-  arrays-none h = go n h
-    where
-      go : (n : ℕ) → n ≤ 0 → every test (startsFrom false n s a end) ≡ true
-      go zero h = refl
-      go (suc n) h = absurd (omega arith)
+  arrays-none h = ap (every test) (starts-none false n s a end h)
 
   module _ (pos : 0 < n) where
     pub arrays-end : end ≤ a → every test (startsFrom false n s a end) ≡ true
@@ -85,7 +80,7 @@ arrays-low s a before (free m ∷ blocks) x h l = arrays-low s (a + m) true bloc
 arrays-low s a before (array z m ∷ blocks) x h l =
     omega (arith, hit-not x a (λ e. omega (arith, e)), arrays-low s (a + (z + m)) false blocks x (h .1) (omega arith))
 
-arrays-once : (s : List ℕ) (a : ℕ) (before : Bool) (blocks : List Block) (x : ℕ) → Walk s a before blocks → count x (arrays a blocks) ≤ 1
+pub arrays-once : (s : List ℕ) (a : ℕ) (before : Bool) (blocks : List Block) (x : ℕ) → Walk s a before blocks → count x (arrays a blocks) ≤ 1
 arrays-once s a before [] x h = omega arith
 arrays-once s a before (free m ∷ blocks) x h = arrays-once s (a + m) true blocks x (h .1)
 arrays-once s a before (array z m ∷ blocks) x h =

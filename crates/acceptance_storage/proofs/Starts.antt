@@ -70,3 +70,8 @@ pub walk-none : (n : ℕ) (s : List ℕ) (a : ℕ) (before : Bool) (end : ℕ) �
 unfolding walkFrom
 walk-none zero s a before end h = refl
 walk-none (suc n) s a before end h = absurd (omega arith)
+
+pub starts-none : (kind : Bool) (n : ℕ) (s : List ℕ) (a end : ℕ) → n ≤ 0 → startsFrom kind n s a end ≡ []
+unfolding startsFrom
+starts-none kind zero s a end h = refl
+starts-none kind (suc n) s a end h = absurd (omega arith)

@@ -13,6 +13,7 @@ use Rattle.segment.specs.View.{view}
 use Rattle.segment.specs.Lent.{Words, Lent}
 use Rattle.storage_theorems.proofs.HeapTheorems.{heap-theorems}
 use Rattle.acceptance_storage.proofs.Tests.{by-eq}
+use Rattle.storage_sheet.specs.Sheet.{sheetOf}
 use Rattle.manual.specs.OrTrap.{gives, trap}
 use Rattle.manual.specs.Effects.{Effect}
 use Rattle.manual.specs.Traps.{listed}
@@ -24,12 +25,13 @@ use Rattle.step_theorems.proofs.Planned.{plan-listed}
 use Rattle.fresh_segment.specs.LayOut.{layOutRefusal, laidOut}
 use Rattle.operations.specs.Load.{loadRefusal, loaded}
 use Rattle.operations.specs.Look.{looked}
+use Rattle.operations.specs.Sheet.{sheeted}
 use Rattle.operations.specs.Run.{ran as ranOf}
 use Rattle.operations.specs.Answers as operations
-use Rattle.audit.specs.Calls.{Procedures, Call, layOut, run, load, look, Answer, refused, done, ran, trapped, scalar, array, answerOf, runAnswer, lookAnswer, firstFailed, tests, Passes, globalValue, LentProcedures, LentCall}
+use Rattle.audit.specs.Calls.{Procedures, Call, layOut, run, load, look, sheet, Answer, refused, done, ran, trapped, scalar, array, summed, answerOf, runAnswer, lookAnswer, sheetAnswer, firstFailed, tests, Passes, globalValue, LentProcedures, LentCall}
 use Rattle.audit.specs.Steps.{StepOutcome, trapsBy, finishes, Step, traps, full, does, EffectsDone, inVain}
 use Rattle.audit.specs.Runs.{Runs}
-use Rattle.audit.specs.Did.{LaidOut, Ran, Loaded, Tells, Did, isRefused, isLaidOut, hasRun, isLoaded, hasTold, Event}
+use Rattle.audit.specs.Did.{LaidOut, Ran, Loaded, Tells, Did, isRefused, isLaidOut, hasRun, isLoaded, hasTold, hasSummed, Event}
 use Rattle.audit.specs.Replays.{OneByOne}
 use Rattle.audit.specs.Lists.{refusalOf, Answers, Kept, LoadInVain, FullExactly, Item, call, replay, Happening, called, replayed, itemOf, Happened, callsIn, AllLent}
 use Rattle.audit.specs.Demands.{Demand1, Demand2, AllHold, Demand3, Demands}
@@ -39,6 +41,7 @@ use Rattle.audit.proofs.Runs.{step-left, run-answers, vain-traps}
 use Rattle.audit.proofs.LayOut.{lay-out-did, lay-out-words}
 use Rattle.audit.proofs.Run.{run-did, run-words}
 use Rattle.audit.proofs.Look.{look-did}
+use Rattle.audit.proofs.Sheet.{sheet-did}
 use Rattle.audit.proofs.Load.{load-did, load-words, load-full}
 use Rattle.audit.proofs.Replay.{replay-theorems}
 
@@ -58,6 +61,7 @@ number (isLaidOut e h) = sym e
 number (hasRun e h) = run-unrefused (h .steps) ∙ sym e
 number (isLoaded e h) = sym e
 number {s = s} (hasTold {g = g} {answer = answer} e h) = told-unrefused s answer (globalValue s g) h ∙ sym e
+number (hasSummed e) = sym e
 
 unchanged : {s t : List ℕ} {c : Call} {a : Answer} → Did s c a t → refusalOf a ≢ 0 → t ≡ s
 unchanged (isRefused d e) n = refl
@@ -65,6 +69,7 @@ unchanged (isLaidOut e h) n = absurd (n refl)
 unchanged (hasRun e h) n = absurd (n (run-unrefused (h .steps)))
 unchanged (isLoaded e h) n = absurd (n refl)
 unchanged (hasTold e h) n = refl
+unchanged (hasSummed e) n = refl
 
 answers : {s t : List ℕ} {c : Call} {a : Answer} → Did s c a t → refusalOf a ≡ 0 → Answers c a
 answers (isRefused d e) z = absurd (d z)
@@ -72,6 +77,7 @@ answers (isLaidOut e h) z = refl
 answers (hasRun e h) z = run-answers (h .steps)
 answers (isLoaded e h) z = refl
 answers {s = s} (hasTold {g = g} {answer = answer} e h) z = ⊎-elim (λ k. inl (k .0, k .1)) (λ k. inr (k .0, k .1)) h
+answers {s = s} (hasSummed e) z = (sheetOf s, refl)
 
 -- what a call leaves, by the definitions
 abbrev Made : List ℕ → Call → Type 0
@@ -93,6 +99,7 @@ ends s words (load p g lengths ravel) lent = (
   load-words s p g lengths ravel words (lent .2),
 )
 ends s words (look p g) lent = (lookAnswer (looked s (p .regular) (p .alternate) g), s, look-did s p g, words)
+ends s words (sheet p) lent = (sheetAnswer (sheeted s (p .regular) (p .alternate)), s, sheet-did s p, words)
 
 instruction : (s : List ℕ) (p : Procedures) → Words s → LentProcedures p → Passes s p → (o : StepOutcome) × (t : List ℕ) × Step p s o t × Passes t p
 instruction s p words bytes k =
@@ -160,6 +167,10 @@ has-told : {s t : List ℕ} {p : Procedures} {g : ℕ} {a : Answer} → Did s (l
 has-told (isRefused d e) z = absurd (d z)
 has-told (hasTold e h) z = (h, refl)
 
+has-summed : {s t : List ℕ} {p : Procedures} {a : Answer} → Did s (sheet p) a t → refusalOf a ≡ 0 → (a ≡ summed (sheetOf s)) × (t ≡ s)
+has-summed (isRefused d e) z = absurd (d z)
+has-summed (hasSummed e) z = (refl, refl)
+
 settled : {s t u : List ℕ} {p : Procedures} {o q : StepOutcome} → Step p s o t → Step p s q u → (o ≡ q) × (view t ≡ view u)
 settled (traps e) (traps f) = (cc, cc)
 settled (traps e) (full f w) = let z : _≡_ {A = ℕ} 0 1 = cc in absurd (omega arith)
@@ -186,6 +197,7 @@ demand-2 = record {
   run = has-run;
   load = is-loaded;
   look = has-told;
+  sheet = has-summed;
 }
 
 -- ---- demand 3
@@ -207,6 +219,7 @@ good g (isLaidOut {p = p} e h) = record { beside = p; accepted = h .accepted }
 good g (hasRun {p = p} e h) = record { beside = p; accepted = h .accepted }
 good g (isLoaded {p = p} e h) = record { beside = p; accepted = h .accepted }
 good g (hasTold e h) = g
+good g (hasSummed e) = g
 
 full-exactly : {s t : List ℕ} {c : Call} {a : Answer} → Did s c a t → FullExactly s c a t
 full-exactly {s = s} {t = t} {c = c} {a = a} h = record {
@@ -221,6 +234,7 @@ full-exactly {s = s} {t = t} {c = c} {a = a} h = record {
     refusal-24 (trapped n) e = absurd (omega (arith, e))
     refusal-24 (scalar w) e = absurd (omega (arith, e))
     refusal-24 (array block) e = absurd (omega (arith, e))
+    refusal-24 (summed sums) e = absurd (omega (arith, e))
 
     loading : (p : Procedures) (g : ℕ) (lengths ravel : List ℕ) (a : Answer) → refusalOf a ≡ firstFailed (tests s (load p g lengths ravel))
         → (a ≡ refused 24) ↔ LoadInVain s p g lengths ravel

@@ -7,6 +7,7 @@ pub mod Accepts
 pub mod LayOut
 pub mod Run
 pub mod Look
+pub mod Sheet
 pub mod Load
 pub mod Tally
 pub mod Replay

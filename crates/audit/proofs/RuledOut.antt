@@ -20,7 +20,7 @@ use Rattle.effects.specs.Carried.{outcomeOf}
 use Rattle.effects_theorems.proofs.Tests.{never}
 use Rattle.step_theorems.specs.Planned.{planned, headerIn}
 use Rattle.step_theorems.proofs.Settled.{outcome-by}
-use Rattle.audit.specs.Calls.{Procedures, Call, layOut, run, load, look, Answer, refused, ran, trapped, scalar, array, Test, firstFailed, tests, globalValue}
+use Rattle.audit.specs.Calls.{Procedures, Call, layOut, run, load, look, sheet, Answer, refused, ran, trapped, Test, firstFailed, tests, globalValue}
 use Rattle.audit.specs.Steps.{StepOutcome, trapsBy, finishes, dueAfter, EffectsDone, Step, traps, full, does, inVain}
 use Rattle.audit.specs.Runs.{Runs, over, goesOn, RequestInVain}
 use Rattle.audit.specs.Did.{Tells, Did, isRefused, hasRun, hasTold}
@@ -57,12 +57,14 @@ not-ten s (layOut p l) = refl
 not-ten s (run p budget) = refl
 not-ten s (load p g lengths ravel) = refl
 not-ten s (look p g) = refl
+not-ten s (sheet p) = refl
 
 by-length : (s : List ℕ) (c : Call) → firstFailed (tests s c) ≡ cond (lengthTest s) (firstFailed (afterFirst (tests s c))) 10
 by-length s (layOut p l) = refl
 by-length s (run p budget) = refl
 by-length s (load p g lengths ravel) = refl
 by-length s (look p g) = refl
+by-length s (sheet p) = refl
 
 always-ten : {s t : List ℕ} {c : Call} → lengthTest s ≡ true → Did s c (refused 10) t → ⊥
 always-ten {s = s} {c = c} long d =

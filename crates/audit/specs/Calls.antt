@@ -1,5 +1,5 @@
--- A call of one of the four operations, what it answers, and the table of document 01: "Tests go in table order, save that 20
--- comes before 19; lay out omits 13–18." A reader must believe: each test is the sentence of its number. Assumes nothing.
+-- A call of one of the four operations or of the sheet, what it answers, and the table of document 01: "Tests go in table order, save
+-- that 20 comes before 19; lay out omits 13–18." A reader must believe: each test is the sentence of its number. Assumes nothing.
 use Prim.Native.Nat.{ℕ}
 use mathlib.Core.Path.{_≡_}
 use mathlib.Core.Bool.{Bool, cond, not, _&&_, _||_}
@@ -21,6 +21,7 @@ use Rattle.acceptance.specs.Frames.{framesTest}
 use Rattle.acceptance.specs.Cells.{cellsTest}
 use Rattle.acceptance.specs.Counts.{countsTest}
 use Rattle.acceptance.specs.Refusal.{lengthTest}
+use Rattle.storage_sheet.specs.declared.Sheet.{Sheet}
 use Rattle.manual.specs.Effects as manual
 use Rattle.manual.specs.Loads.{isUndefined}
 use Rattle.fresh_segment.specs.LayOut.{Layout, functionTest, partsTest}
@@ -30,6 +31,8 @@ use Rattle.operations.specs.declared.Run.{Run}
 use Rattle.operations.specs.declared.Run.the-variants as R
 use Rattle.operations.specs.declared.Looked.{Looked}
 use Rattle.operations.specs.declared.Looked.the-variants as L
+use Rattle.operations.specs.declared.Sheeted.{Sheeted}
+use Rattle.operations.specs.declared.Sheeted.the-variants as S
 use Rattle.operations.specs.Load.{isGlobal, isValue}
 
 pub record Procedures : Type 0 where
@@ -46,9 +49,10 @@ pub data Call : Type 0 where
   -- into a global, by lengths and elements
   load : Procedures → ℕ → List ℕ → List ℕ → Call
   look : Procedures → ℕ → Call
+  sheet : Procedures → Call
 
 -- What a call answers: the number of the test that refused it; 0 of a lay out and of a load; 2 and 3 of a run, with the number
--- of finished instructions; of a look a scalar's word, or the block whose lengths and elements are handed back.
+-- of finished instructions; of a look a scalar's word, or the block whose lengths and elements are handed back; of a sheet its sums.
 pub data Answer : Type 0 where
   refused : ℕ → Answer
   done : Answer
@@ -56,6 +60,7 @@ pub data Answer : Type 0 where
   trapped : ℕ → Answer
   scalar : ℕ → Answer
   array : ℕ → Answer
+  summed : Sheet → Answer
 
 -- The answers in code.
 abbrev pub answerOf : operations.Answer → Answer
@@ -71,6 +76,10 @@ abbrev pub lookAnswer : Looked → Answer
 lookAnswer (L.Scalar w) = scalar w
 lookAnswer (L.Array block) = array (block .0)
 lookAnswer (L.Refused number) = refused number
+
+abbrev pub sheetAnswer : Sheeted → Answer
+sheetAnswer (S.Summed sums) = summed sums
+sheetAnswer (S.Refused number) = refused number
 
 -- ---- the table
 
@@ -123,6 +132,7 @@ tests s (run p budget) = segmentTests s p
 tests s (load p g lengths ravel) =
     segmentTests s p ++ (test 21 (isGlobal s g) ∷ test 23 (isValue lengths ravel) ∷ test 24 (hasRoom s lengths ravel) ∷ [])
 tests s (look p g) = segmentTests s p ++ (test 21 (isGlobal s g) ∷ test 22 (not (isUndefined (globalValue s g))) ∷ [])
+tests s (sheet p) = segmentTests s p
 
 -- ---- what a call brings: bytes and 32-bit words, as their types say in code
 
@@ -134,3 +144,4 @@ LentCall (layOut p l) = LentProcedures p
 LentCall (run p budget) = LentProcedures p
 LentCall (load p g lengths ravel) = LentProcedures p × Words lengths × Words ravel
 LentCall (look p g) = LentProcedures p
+LentCall (sheet p) = LentProcedures p

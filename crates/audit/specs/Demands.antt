@@ -8,12 +8,13 @@ use lib.ListN.{set}
 use Rattle.segment.specs.State as state
 use Rattle.segment.specs.View.{view}
 use Rattle.segment.specs.Lent.{Words}
+use Rattle.storage_sheet.specs.Sheet.{sheetOf}
 use Rattle.manual.specs.OrTrap.{gives, trap}
 use Rattle.manual.specs.Effects.{Effect}
 use Rattle.manual.specs.Traps.{listed}
 use Rattle.fresh_segment.specs.LayOut.{Layout}
 use Rattle.step_theorems.specs.Planned.{planned}
-use Rattle.audit.specs.Calls.{Procedures, Call, layOut, run, load, look, Answer, firstFailed, tests, Passes, globalValue, LentProcedures, LentCall}
+use Rattle.audit.specs.Calls.{Procedures, Call, layOut, run, load, look, sheet, Answer, summed, firstFailed, tests, Passes, globalValue, LentProcedures, LentCall}
 use Rattle.audit.specs.Steps.{StepOutcome, trapsBy, finishes, Step, EffectsDone, inVain}
 use Rattle.audit.specs.Did.{LaidOut, Ran, Loaded, Tells, Did, Event}
 use Rattle.audit.specs.Lists.{refusalOf, Answers, Kept, FullExactly, Item, Happening, itemOf, Happened, callsIn, AllLent}
@@ -50,6 +51,7 @@ pub record Demand2 : Type 0 where
   pub load : {s t lengths ravel : List ℕ} {p : Procedures} {g : ℕ} {a : Answer} → Did s (load p g lengths ravel) a t → refusalOf a ≡ 0
       → Loaded s p g lengths ravel t
   pub look : {s t : List ℕ} {p : Procedures} {g : ℕ} {a : Answer} → Did s (look p g) a t → refusalOf a ≡ 0 → Tells s a (globalValue s g) × (t ≡ s)
+  pub sheet : {s t : List ℕ} {p : Procedures} {a : Answer} → Did s (sheet p) a t → refusalOf a ≡ 0 → (a ≡ summed (sheetOf s)) × (t ≡ s)
 
 -- "1 and 2 hold for each, and afterwards blocks are disjoint and cover storage, no two free neighbours, the ring holds each free
 -- block once, every count is the number of cells pointing to the array; full is reported exactly when no free block is long enough."
@@ -59,8 +61,8 @@ AllHold s (e ∷ events) =
     Kept s × Did s (e .call) (e .answer) (e .after) × FullExactly s (e .call) (e .answer) (e .after) × AllHold (e .after) events
 
 pub record Demand3 : Type 0 where
-  -- "Over any list of lay outs, runs, loads and looks on an accepted segment": one claim about the list. A replay in it is the calls
-  -- that it makes.
+  -- "Over any list of lay outs, runs, loads and looks on an accepted segment": one claim about the list. A sheet is a call too, and a
+  -- replay is the calls that it makes.
   pub list : (s : List ℕ) (p : Procedures) → Passes s p → (list : List Happening) → Happened s list → AllHold s (callsIn list)
   -- and any list may happen
   pub happens : (s : List ℕ) → Words s → (items : List Item) → AllLent items → (list : List Happening) × (map itemOf list ≡ items) × Happened s list

@@ -1,5 +1,5 @@
 -- What a call does: the words before it, the call, its answer, the words after it. Demands 1 and 2 of document 01 for each of the
--- four operations; every public operation's contract is this relation. Assumes nothing.
+-- four operations, and document 02, paper 3, for the sheet; every public operation's contract is this relation. Assumes nothing.
 use Prim.Native.Nat.{ℕ}
 use mathlib.Core.Path.{_≡_}
 use mathlib.Core.Logic.{_↔_, _≢_, _⊎_}
@@ -14,11 +14,12 @@ use Rattle.segment.specs.Parts.{shapePart, elementsPart}
 use Rattle.segment.specs.Cells.{Cell, undefined, value}
 use Rattle.segment.specs.View.{view}
 use Rattle.segment.specs.Lent.{Words}
+use Rattle.storage_sheet.specs.Sheet.{sheetOf}
 use Rattle.manual.specs.Control.{frameWord}
 use Rattle.manual.specs.Effects as manual
 use Rattle.fresh_segment.specs.LayOut.{Layout, localsOf}
 use Rattle.fresh_segment.specs.FreshWords.{FreshWords}
-use Rattle.audit.specs.Calls.{Procedures, Call, layOut, run, load, look, Answer, refused, done, ran, scalar, array, firstFailed, tests, Passes, globalValue, LentCall}
+use Rattle.audit.specs.Calls.{Procedures, Call, layOut, run, load, look, sheet, Answer, refused, done, ran, scalar, array, summed, firstFailed, tests, Passes, globalValue, LentCall}
 use Rattle.audit.specs.Runs.{Runs, SomeRequestInVain, ReportsFull}
 
 -- The fresh segment: every word of it is said.
@@ -60,6 +61,7 @@ pub data Did (s : List ℕ) : Call → Answer → List ℕ → Type 0 where
   isLoaded : {p : Procedures} {g : ℕ} {lengths ravel t : List ℕ} → firstFailed (tests s (load p g lengths ravel)) ≡ 0
       → Loaded s p g lengths ravel t → Did s (load p g lengths ravel) done t
   hasTold : {p : Procedures} {g : ℕ} {answer : Answer} → firstFailed (tests s (look p g)) ≡ 0 → Tells s answer (globalValue s g) → Did s (look p g) answer s
+  hasSummed : {p : Procedures} → firstFailed (tests s (sheet p)) ≡ 0 → Did s (sheet p) (summed (sheetOf s)) s
 
 -- What a public operation promises, of 32-bit words and bytes, as its types say in code.
 unfoldable pub Promised : List ℕ → Call → Answer → List ℕ → Type 0

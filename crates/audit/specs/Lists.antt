@@ -17,9 +17,10 @@ use Rattle.segment.specs.Lent.{Bytes}
 use Rattle.storage_theorems.specs.Tiling.{Tiling}
 use Rattle.imports.specs.Records.{recordsOf}
 use Rattle.tally.specs.Counts.{noneCounted}
+use Rattle.storage_sheet.specs.declared.Sheet.{Sheet}
 use Rattle.operations.specs.declared.Replayed.{Replayed}
 use Rattle.operations.specs.Load.{isGlobal, isValue}
-use Rattle.audit.specs.Calls.{Procedures, Call, layOut, run, load, look, Answer, refused, done, ran, trapped, scalar, array, Passes, LentProcedures, LentCall}
+use Rattle.audit.specs.Calls.{Procedures, Call, layOut, run, load, look, sheet, Answer, refused, done, ran, trapped, scalar, array, summed, Passes, LentProcedures, LentCall}
 use Rattle.audit.specs.Runs.{Runs, SomeRequestInVain, ReportsFull}
 use Rattle.audit.specs.Did.{Did, Event}
 use Rattle.audit.specs.Replays.{Replays}
@@ -32,13 +33,16 @@ refusalOf (ran steps) = 0
 refusalOf (trapped steps) = 0
 refusalOf (scalar w) = 0
 refusalOf (array block) = 0
+refusalOf (summed sums) = 0
 
--- What a call answers that is not refused: 0; 2 with the number asked, or 3 with no more; what a look sees.
+-- What a call answers that is not refused: 0; 2 with the number asked, or 3 with no more; what a look sees; the
+-- sums of a sheet.
 abbrev pub Answers : Call → Answer → Type 0
 Answers (layOut p l) answer = answer ≡ done
 Answers (run p budget) answer = (answer ≡ ran budget) ⊎ ((n : ℕ) × (answer ≡ trapped n) × (n ≤ budget))
 Answers (load p g lengths ravel) answer = answer ≡ done
 Answers (look p g) answer = ((w : ℕ) × (answer ≡ scalar w)) ⊎ ((block : ℕ) × (answer ≡ array block))
+Answers (sheet p) answer = (sums : Sheet) × (answer ≡ summed sums)
 
 -- ---- array storage
 

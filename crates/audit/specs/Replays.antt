@@ -12,9 +12,9 @@ use Rattle.tally.specs.Counts.{countLimit, noneCounted, counted}
 use Rattle.effects.specs.Tally.{firstByte}
 use Rattle.operations.specs.declared.Replayed.{Replayed}
 use Rattle.operations.specs.declared.Replayed.the-variants.{Done, Halted, Malformed}
-use Rattle.audit.specs.Calls.{Procedures, Call, run, load, Answer, refused, done, ran, trapped, scalar, array, LentProcedures}
+use Rattle.audit.specs.Calls.{Procedures, Call, run, load, Answer, refused, done, ran, trapped, scalar, array, summed, LentProcedures}
 use Rattle.audit.specs.Runs.{Runs, over, goesOn, traced, stops}
-use Rattle.audit.specs.Did.{Did, isRefused, isLaidOut, hasRun, isLoaded, hasTold, Event, event}
+use Rattle.audit.specs.Did.{Did, isRefused, isLaidOut, hasRun, isLoaded, hasTold, hasSummed, Event, event}
 
 -- ---- the tally
 
@@ -32,6 +32,7 @@ callCounts (isLaidOut passed did) counts = counts
 callCounts (hasRun passed did) counts = countsAfter (did .steps) counts
 callCounts (isLoaded passed did) counts = counts
 callCounts (hasTold passed did) counts = counts
+callCounts (hasSummed passed) counts = counts
 
 -- ---- the calls
 
@@ -47,6 +48,7 @@ haltOf (ran steps) = 0
 haltOf (trapped steps) = 3
 haltOf (scalar w) = 0
 haltOf (array block) = 0
+haltOf (summed sums) = 0
 
 -- From the words `s` and counts, over the records that are left, to an answer, the words and counts after it, and the calls made.
 pub data Replays (p : Procedures) : Records → List ℕ → List ℕ → Replayed → List ℕ → List ℕ → List Event → Type 0 where
@@ -87,6 +89,7 @@ finishedOf (refused number) = 0
 finishedOf done = 0
 finishedOf (scalar w) = 0
 finishedOf (array block) = 0
+finishedOf (summed sums) = 0
 
 abbrev pub finishedIn : List Event → ℕ
 finishedIn [] = 0

@@ -3,3 +3,4 @@ pub mod LayingOut
 pub mod Loading
 pub mod Running
 pub mod Looking
+pub mod Sheeting

@@ -16,5 +16,5 @@ pub fn sheet(seg: &[u32], regular: &[u8], alternate: &[u8]) -> Sheeted
     if refused != 0 {
         return Sheeted::Refused(refused);
     }
-    Sheeted::Counted(add_up(seg))
+    Sheeted::Summed(add_up(seg))
 }

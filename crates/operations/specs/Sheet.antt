@@ -7,7 +7,7 @@ use lib.Dec.{eqb}
 use Rattle.acceptance.specs.Refusal.{refusal}
 use Rattle.storage_sheet.specs.Sheet.{sheetOf}
 use Rattle.operations.specs.declared.Sheeted.{Sheeted}
-use Rattle.operations.specs.declared.Sheeted.the-variants.{Counted, Refused}
+use Rattle.operations.specs.declared.Sheeted.the-variants.{Summed, Refused}
 
 unfoldable pub sheeted : List ℕ → List ℕ → List ℕ → Sheeted
-sheeted s regular alternate = cond (eqb (refusal s regular alternate) 0) (Counted (sheetOf s)) (Refused (refusal s regular alternate))
+sheeted s regular alternate = cond (eqb (refusal s regular alternate) 0) (Summed (sheetOf s)) (Refused (refusal s regular alternate))

@@ -24,7 +24,7 @@ pub enum Looked {
 
 // What a sheet answers: where the words of array storage went, or the number of the test that refused it.
 pub enum Sheeted {
-    Counted(Sheet),
+    Summed(Sheet),
     Refused(u8),
 }
 

@@ -29,15 +29,15 @@ freeWords [] = 0
 freeWords (free size ∷ blocks) = size + freeWords blocks
 freeWords (array size slop ∷ blocks) = freeWords blocks
 
--- The sheet is of these blocks, which are all that there are.
-pub record SheetOf (blocks : List Block) (sheet : Sheet) : Type 0 where
+-- A sheet whose counts are the sums over these blocks.
+pub record SummedFrom (blocks : List Block) (sheet : Sheet) : Type 0 where
   pub arrays : sheet .arrays ≡ arrayWords blocks
   pub slop : sheet .slop ≡ slopWords blocks
   pub free : sheet .free ≡ freeWords blocks
 
 pub record SheetTheorems : Type 0 where
   -- "each summed from the blocks": the blocks that tile array storage
-  pub summed : (s regular alternate : List ℕ) (a : Accepted s regular alternate) → SheetOf (a .owned .blocks) (sheetOf s)
+  pub summed : (s regular alternate : List ℕ) (a : Accepted s regular alternate) → SummedFrom (a .owned .blocks) (sheetOf s)
   -- "the first four .. add up to the fifth"
   pub adds : (s regular alternate : List ℕ) → Accepted s regular alternate
       → sheetOf s .arrays + sheetOf s .slop + sheetOf s .free + sheetOf s .end ≡ sheetOf s .total
