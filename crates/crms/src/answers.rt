@@ -13,6 +13,7 @@ use line_tool::tokens::token_at;
 use line_tool::writing::put;
 use line_tool::writing::put_decimal;
 use line_tool::writing::put_hex;
+use storage_sheet::Sheet;
 
 pub fn error(fault: Fault, line: &[u8], token: Token) {
     let mut out = io::buffer();
@@ -92,6 +93,21 @@ pub fn array(lengths: &[u32], elements: &[u32]) {
     end(&mut out, e);
 }
 
+pub fn sheet(sums: Sheet) {
+    let mut out = io::buffer();
+    let a = put_count(&mut out, 0, b"sheet arrays ", sums.arrays);
+    let b = put_count(&mut out, a, b" slop ", sums.slop);
+    let c = put_count(&mut out, b, b" free ", sums.free);
+    let d = put_count(&mut out, c, b" end ", sums.end);
+    let e = put_count(&mut out, d, b" total ", sums.total);
+    end(&mut out, e);
+}
+
+fn put_count(out: &mut [u8], at: usize, name: &[u8], n: u32) -> usize {
+    let a = put(out, at, name);
+    put_decimal(out, a, n)
+}
+
 pub fn dump(seg: &[u32]) {
     let mut out = io::large_buffer();
     let a = put(&mut out, 0, b"dump");
@@ -131,7 +147,7 @@ pub fn help() {
         a,
         b"layout P FN GLOBALS ARRAYWORDS, run BUDGET, load ADDR RANK LEN .. | HEX .., look ADDR, ",
     );
-    let c = put(&mut out, b, b"replay, dump, hash, tally, explain, help");
+    let c = put(&mut out, b, b"sheet, replay, dump, hash, tally, explain, help");
     end(&mut out, c);
 }
 

@@ -3,6 +3,7 @@ use crate::answers;
 use crate::answers::error;
 use crate::arguments::Place;
 use crate::arguments::decimals;
+use crate::arguments::ends;
 use crate::arguments::lengths;
 use crate::arguments::takes;
 use crate::buffers;
@@ -17,6 +18,7 @@ use operations::Answer;
 use operations::Looked;
 use operations::Replayed;
 use operations::Run;
+use operations::Sheeted;
 use segment::word;
 
 pub fn lay_out(
@@ -161,6 +163,29 @@ pub fn look(
                 engine::look::lengths(seg, block),
                 engine::look::elements(seg, block),
             );
+            Last::Status(0)
+        }
+    }
+}
+
+pub fn sheet(
+    last: Last,
+    line: &[u8],
+    at: usize,
+    seg: &[u32],
+    regular: &[u8],
+    alternate: &[u8],
+) -> Last {
+    if !ends(line, at) {
+        return last;
+    }
+    match engine::sheet::sheet(seg, regular, alternate) {
+        Sheeted::Refused(n) => {
+            answers::status(b"sheet ", n);
+            Last::Status(n)
+        }
+        Sheeted::Summed(sums) => {
+            answers::sheet(sums);
             Last::Status(0)
         }
     }

@@ -12,6 +12,7 @@ use crate::calls::load;
 use crate::calls::look;
 use crate::calls::replayed;
 use crate::calls::run;
+use crate::calls::sheet;
 use crate::session::Session;
 use crate::sets::set_file;
 use crate::sets::set_procedure;
@@ -81,6 +82,7 @@ fn use_segments(
         Command::Run => run(last, line, at, seg, regular, alternate),
         Command::Load => load(last, line, at, seg, regular, alternate),
         Command::Look => look(last, line, at, seg, regular, alternate),
+        Command::Sheet => sheet(last, line, at, seg, regular, alternate),
         Command::Word => {
             set_words(1, line, at, seg);
             last

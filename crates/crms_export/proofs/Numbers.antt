@@ -1,16 +1,22 @@
--- A run's answer and words are its definition's; an array's parts are short.
+-- A run's answer and words are its definition's, and a sheet's counts; an array's parts are short.
 use Prim.Native.Nat.{ℕ, zero, suc, _+_, _-_, _≤_, _<_, _^_}
 use native.Mathlib.Omega.{arith}
 use mathlib.Core.Path.{_≡_, refl, ap, _∙_}
 use mathlib.Core.Bool.{Bool, true, false, cond}
-use mathlib.Core.List.{List, []}
+use mathlib.Core.List.{List, [], _∷_}
 use lib.ListN.{length}
 use lib.Dec.{leb}
+use lib.Seq.{sets}
 use Rattle.segment.specs.Blocks.{part, sizeAt, rankAt}
 use Rattle.segment.specs.Parts.{within, shapePart, elementsPart}
+use Rattle.storage_sheet.specs.declared.Sheet.{Sheet}
 use Rattle.operations.specs.declared.Run.{Run}
+use Rattle.operations.specs.declared.Sheeted.{Sheeted}
+use Rattle.operations.specs.declared.Sheeted.the-variants.{Summed}
+use Rattle.operations.specs.Answers.{sheetStatus}
 use Rattle.operations.specs.Run.{Ended, ended}
-use Rattle.crms_export.specs.Numbers.{runNumber}
+use Rattle.operations.proofs.Replays.{all-set}
+use Rattle.crms_export.specs.Numbers.{runNumber, sheetCounts}
 
 pub run-told : (number : ℕ) (answer : Run) (s : List ℕ) (e : Ended) → number ≡ runNumber answer → ended answer s ≡ e
     → (number ≡ runNumber (e .answer)) × (s ≡ e .words)
@@ -37,3 +43,9 @@ shape-short s a = omega (arith, within-short s (a + 2) (rankAt s a))
 pub elements-short : (s : List ℕ) (a : ℕ) → length (elementsPart s a) < 2 ^ 16
 unfolding elementsPart
 elements-short s a = omega (arith, within-short s (a + 2 + rankAt s a) (sizeAt s a - (rankAt s a + 2)))
+
+-- the five counts of a sheet, written over five words
+pub sums-told : (sums : Sheet) (answer : Sheeted) (old after : List ℕ) → Summed sums ≡ answer
+    → after ≡ sets old 0 (sums .arrays ∷ sums .slop ∷ sums .free ∷ sums .end ∷ sums .total ∷ []) → length old ≡ 5
+    → (0 ≡ sheetStatus answer) × (after ≡ sheetCounts answer old)
+sums-told sums answer old after told written five = rw (← told) (refl, written ∙ all-set _ old five)

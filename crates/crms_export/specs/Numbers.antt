@@ -1,12 +1,15 @@
--- What a run, a replay and a look answer as one number, for callers from C and Rust; include/crms.h takes it apart. Statuses are
--- document 01's numbers. A reader must believe: which bits of the number stand for what. Assumes nothing.
+-- What a run, a replay and a look answer as one number, and a sheet as five, for callers from C and Rust; include/crms.h takes the
+-- first apart. Statuses are document 01's numbers. A reader must believe: which bits of the number, and which of the five, stand for
+-- what. Assumes nothing.
 use Prim.Native.Nat.{ℕ, _+_, _*_, _%_, _^_}
-use mathlib.Core.List.{List}
+use mathlib.Core.List.{List, [], _∷_}
 use lib.ListN.{length}
 use Rattle.segment.specs.Parts.{shapePart, elementsPart}
 use Rattle.operations.specs.declared.Run.{Run}
 use Rattle.operations.specs.declared.Looked.{Looked}
 use Rattle.operations.specs.declared.Looked.the-variants.{Scalar, Array, Refused}
+use Rattle.operations.specs.declared.Sheeted.{Sheeted}
+use Rattle.operations.specs.declared.Sheeted.the-variants as S
 use Rattle.operations.specs.declared.Replayed.{Replayed}
 use Rattle.operations.specs.Answers.{runStatus, stepsOf, replayStatus, replayPlace}
 
@@ -30,3 +33,8 @@ lookNumber s g (Refused number) = fields number 0 0 0
 lookNumber s g (Scalar w) = fields 0 0 g 1
 lookNumber s g (Array block) =
     fields 0 (length (shapePart s (block .0))) (block .0 + 2 + length (shapePart s (block .0))) (length (elementsPart s (block .0)))
+
+-- The five counts after a sheet, which were `old`: in the paper's order; as they were where it is refused.
+abbrev pub sheetCounts : Sheeted → List ℕ → List ℕ
+sheetCounts (S.Summed sums) old = sums .arrays ∷ sums .slop ∷ sums .free ∷ sums .end ∷ sums .total ∷ []
+sheetCounts (S.Refused number) old = old

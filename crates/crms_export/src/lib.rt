@@ -4,13 +4,14 @@ ghost use Prim.Native.Nat.{_<_, _%_, _^_};
 ghost use lib.ListN.{length};
 ghost use Rattle.segment.specs.Parts.{shapePart, elementsPart};
 ghost use Rattle.fresh_segment.specs.LayOut as layout;
-ghost use Rattle.operations.specs.Answers.{statusOf};
+ghost use Rattle.operations.specs.Answers.{statusOf, sheetStatus};
 ghost use Rattle.operations.specs.Load as loading;
 ghost use Rattle.operations.specs.Look.{looked};
 ghost use Rattle.operations.specs.Replay.{replayed};
 ghost use Rattle.operations.specs.Run.{ran};
+ghost use Rattle.operations.specs.Sheet.{sheeted};
 ghost use Rattle.operations.specs.declared.Looked.the-variants as seen;
-ghost use Rattle.crms_export.specs.Numbers.{runNumber, replayNumber, lookNumber};
+ghost use Rattle.crms_export.specs.Numbers.{runNumber, replayNumber, lookNumber, sheetCounts};
 use descriptor::address::SegmentAddress;
 use engine::lay_out::lay_out;
 use engine::load::load;
@@ -18,11 +19,14 @@ use engine::look::elements;
 use engine::look::lengths;
 use engine::look::look;
 use engine::run::run;
+use engine::sheet::sheet;
 use operations::Answer;
 use operations::Looked;
 use operations::Replayed;
 use operations::Run;
+use operations::Sheeted;
 use replay::replay_into;
+use segment::put_all;
 
 #[no_mangle]
 pub extern "C" fn crms_lay_out(
@@ -99,6 +103,28 @@ pub extern "C" fn crms_look(seg: &[u32], regular: &[u8], alternate: &[u8], globa
         Looked::Refused(number) => number as u64 * 0x1_0000_0000,
         Looked::Scalar(_) => global as u64 * 0x4000 + 1,
         Looked::Array(block) => array_number(seg, block),
+    }
+}
+
+// The five counts are written where the segment is accepted.
+#[no_mangle]
+pub extern "C" fn crms_sheet(
+    seg: &[u32],
+    regular: &[u8],
+    alternate: &[u8],
+    counts: &mut [u32; 5],
+) -> u32
+    ensures { λ r. ⌜ r ≡ sheetStatus (sheeted (now (seg .entry)) (now (regular .entry)) (now (alternate .entry))) ⌝ }
+    ensures { λ _. ⌜ now (counts .exit)
+        ≡ sheetCounts (sheeted (now (seg .entry)) (now (regular .entry)) (now (alternate .entry))) (now (counts .entry)) ⌝ }
+{
+    match sheet(seg, regular, alternate) {
+        Sheeted::Refused(number) => number as u32,
+        Sheeted::Summed(sums) => {
+            let five = [sums.arrays, sums.slop, sums.free, sums.end, sums.total];
+            put_all(counts, 0, &five);
+            0
+        }
     }
 }
 

@@ -6,7 +6,7 @@ use mathlib.Core.List.{List, [], _∷_}
 use lib.Dec.{eqb}
 use Rattle.line_tool.specs.Text.{bytes}
 use Rattle.line_tool.specs.declared.command.Command.{Command}
-use Rattle.line_tool.specs.declared.command.Command.the-variants.{Seg, Word, Words, Reg, Alt, File, Layout, Run, Load, Look, Replay, Dump, Hash, Tally, Explain, Help, Unknown}
+use Rattle.line_tool.specs.declared.command.Command.the-variants.{Seg, Word, Words, Reg, Alt, File, Layout, Run, Load, Look, Sheet, Replay, Dump, Hash, Tally, Explain, Help, Unknown}
 
 -- Two texts are the same.
 unfoldable pub is : List ℕ → List ℕ → Bool
@@ -32,8 +32,9 @@ operationOf word =
     (cond (is word (bytes "run")) Run
     (cond (is word (bytes "load")) Load
     (cond (is word (bytes "look")) Look
+    (cond (is word (bytes "sheet")) Sheet
     (cond (is word (bytes "replay")) Replay
-    (questionOf word)))))
+    (questionOf word))))))
 
 -- First those that set what the operations are lent.
 unfoldable pub commandOf : List ℕ → Command

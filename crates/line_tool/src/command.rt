@@ -13,6 +13,7 @@ pub enum Command {
     Run,
     Load,
     Look,
+    Sheet,
     Replay,
     Dump,
     Hash,
@@ -61,6 +62,9 @@ fn operation_of(word: &[u8]) -> Command
     }
     if is(word, b"look") {
         return Command::Look;
+    }
+    if is(word, b"sheet") {
+        return Command::Sheet;
     }
     if is(word, b"replay") {
         return Command::Replay;

@@ -109,7 +109,7 @@ eight-counts : (s regular alternate bytes : List ℕ) → length (replayed s reg
 eight-counts s regular alternate bytes = replayed-kept (suc (length bytes)) (omega arith) regular alternate s bytes (omega arith) .eight
 
 -- as many counts as there is room for are all that is left there
-all-set : (counts l : List ℕ) → length l ≡ length counts → sets l 0 counts ≡ counts
+pub all-set : (counts l : List ℕ) → length l ≡ length counts → sets l 0 counts ≡ counts
 all-set counts l e =
     let none : drop (0 + length counts) l ≡ [] = drop-of-length-le l {i = 0 + length counts} (omega arith) in
     sets-eq counts l 0 (omega arith) ∙ ap (λ (rest : List ℕ). counts ++ rest) none ∙ append-nil counts

@@ -8,6 +8,8 @@ use Rattle.operations.specs.declared.Run.{Run}
 use Rattle.operations.specs.declared.Run.the-variants as R
 use Rattle.operations.specs.declared.Looked.{Looked}
 use Rattle.operations.specs.declared.Looked.the-variants as L
+use Rattle.operations.specs.declared.Sheeted.{Sheeted}
+use Rattle.operations.specs.declared.Sheeted.the-variants as S
 use Rattle.operations.specs.declared.Replayed.{Replayed}
 use Rattle.operations.specs.declared.Replayed.the-variants as P
 
@@ -34,6 +36,10 @@ abbrev pub lookStatus : Looked → ℕ
 lookStatus (L.Scalar w) = 0
 lookStatus (L.Array block) = 0
 lookStatus (L.Refused number) = number
+
+abbrev pub sheetStatus : Sheeted → ℕ
+sheetStatus (S.Summed sums) = 0
+sheetStatus (S.Refused number) = number
 
 -- Replay: with every number but 0 stands the place of a record's first byte.
 abbrev pub replayStatus : Replayed → ℕ
