@@ -147,7 +147,11 @@ pub fn help() {
         a,
         b"layout P FN GLOBALS ARRAYWORDS, run BUDGET, load ADDR RANK LEN .. | HEX .., look ADDR, ",
     );
-    let c = put(&mut out, b, b"sheet, replay, dump, hash, tally, explain, help");
+    let c = put(
+        &mut out,
+        b,
+        b"sheet, replay, dump, hash, tally, explain, help",
+    );
     end(&mut out, c);
 }
 

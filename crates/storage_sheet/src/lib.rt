@@ -40,13 +40,14 @@ pub fn add_up(seg: &[u32]) -> Sheet
         }
         let block = SegmentAddress::of(a);
         let size = size_at(seg, block) as u32;
+        let span = span_at(seg, block);
         if free_at(seg, block) {
             free += size;
         } else {
             arrays += size;
             slop += slop_at(seg, block);
         }
-        a += span_at(seg, block);
+        a += span;
         left -= 1;
     }
     Sheet {

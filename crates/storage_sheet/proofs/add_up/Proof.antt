@@ -36,14 +36,17 @@ size-at-requires c κs = search needs
 cast-size : tie.Need-cast-size Inv-loop μ-loop
 cast-size c = search needs
 
+span-at-requires : tie.Need-span-at-requires Inv-loop μ-loop
+span-at-requires c κs = search needs
+
 free-at-requires : tie.Need-free-at-requires Inv-loop μ-loop
 free-at-requires c κs = search needs
 
 add-free : tie.Need-add-free Inv-loop μ-loop
 add-free c =
-    let earlier = c .before .before .before .before in
-    let of = c .before .before .before .of .ensures in
-    let size = rw of at (c .before .before .size-at .ensures) in
+    let earlier = c .before .before .before .before .before in
+    let of = c .before .before .before .before .of .ensures in
+    let size = rw of at (c .before .before .before .size-at .ensures) in
     let free = rw of at (sym (c .before .free-at .ensures) ∙ c .if2 .taken) in
     record {
       fits = omega (
@@ -56,9 +59,9 @@ add-free c =
 
 add-arrays : tie.Need-add-arrays Inv-loop μ-loop
 add-arrays c =
-    let earlier = c .before .before .before .before in
-    let of = c .before .before .before .of .ensures in
-    let size = rw of at (c .before .before .size-at .ensures) in
+    let earlier = c .before .before .before .before .before in
+    let of = c .before .before .before .before .of .ensures in
+    let size = rw of at (c .before .before .before .size-at .ensures) in
     let array = rw of at (sym (c .before .free-at .ensures) ∙ c .if2 .left) in
     record {
       fits = omega (
@@ -74,8 +77,8 @@ slop-at-requires c κs = search needs
 
 add-slop : tie.Need-add-slop Inv-loop μ-loop
 add-slop c =
-    let earlier = c .before .before .before .before .before in
-    let of = c .before .before .before .before .of .ensures in
+    let earlier = c .before .before .before .before .before .before in
+    let of = c .before .before .before .before .before .of .ensures in
     let slop = rw of at (c .slop-at .ensures) in
     let array = rw of at (sym (c .before .before .free-at .ensures) ∙ c .before .if2 .left) in
     record {
@@ -86,9 +89,6 @@ add-slop c =
             (earlier .before .before .before .before .before .before .before .before .pre),
       );
     }
-
-span-at-requires : tie.Need-span-at-requires Inv-loop μ-loop
-span-at-requires c κs = search needs
 
 add-a : tie.Need-add-a Inv-loop μ-loop
 add-a c = search needs
@@ -104,14 +104,14 @@ loop-again c =
     let earlier = c .before .before .before .before .before in
     let of = c .before .before .before .before .of .ensures in
     let size = rw of at (c .before .before .before .size-at .ensures) in
-    let span = rw of at (c .span-at .ensures) in
+    let span = rw of at (c .before .before .span-at .ensures) in
     let inv = earlier .before .before .loop .inv in
     let some = earlier .before .loop-test .taken in
     let low = earlier .if1 .left in
     ⊎-elim
-    (λ k. rw (k .1, k .2, k .3, span, size) (free-on inv some low (rw of at (sym (c .before .before .free-at .ensures) ∙ k .0 .taken))))
-    (λ k. rw (k .2, k .3, k .4, span, size, rw of at (k .1 .ensures)) (array-on inv some low (rw of at (sym (c .before .before .free-at .ensures) ∙ k .0 .left))))
-    (c .before .if2 .came)
+    (λ k. rw (k .1, k .2, k .3, span, size) (free-on inv some low (rw of at (sym (c .before .free-at .ensures) ∙ k .0 .taken))))
+    (λ k. rw (k .2, k .3, k .4, span, size, rw of at (k .1 .ensures)) (array-on inv some low (rw of at (sym (c .before .free-at .ensures) ∙ k .0 .left))))
+    (c .if2 .came)
 
 sbase-requires : tie.Need-sbase-requires Inv-loop μ-loop
 sbase-requires c κs = search needs
@@ -145,12 +145,12 @@ add-up-spec =
     of-requires
     size-at-requires
     cast-size
+    span-at-requires
     free-at-requires
     add-free
     add-arrays
     slop-at-requires
     add-slop
-    span-at-requires
     add-a
     sub-left
     loop-less
