@@ -1,4 +1,4 @@
-/* The engine of the CRMS APL processor: five operations on a lent data segment and both procedure segments.
+/* The engine of the CRMS APL processor: six operations on a lent data segment and both procedure segments.
  *
  * The data segment is `n` words of 32 bits; the procedure segments are `nr` and `na` bytes, the most significant byte of a word
  * first. An unused procedure segment is the one word 0x00000001. A call that is refused changes nothing; a replay that halts leaves
@@ -6,9 +6,9 @@
  * stack a call takes. docs/FAULTS.md says what to do about each number.
  *
  * What the caller sees to: a pointer is never null, is aligned for its type, and leads to as many elements as the length after it
- * says (where that is 0, to none), a tally to eight; `data` and a tally overlap no other part that the same call is lent, so what a
- * look found in the segment is copied before it is loaded; and nobody else writes these parts during the call. Calls on different
- * segments may run at once. */
+ * says (where that is 0, to none), a tally to eight, the counts of a sheet to five; what a call writes (`data`, a tally, counts)
+ * overlaps no other part that the same call is lent, so what a look found in the segment is copied before it is loaded; and nobody
+ * else writes these parts during the call. Calls on different segments may run at once. */
 #ifndef CRMS_H
 #define CRMS_H
 
@@ -21,7 +21,7 @@ extern "C" {
 
 /* ---- status numbers: tests go in this order, save that 20 comes before 19, and 25 before the others for its record */
 enum crms_status {
-    CRMS_DONE = 0,              /* lay out, load, look: done; replay: every record was done */
+    CRMS_DONE = 0,              /* lay out, load, look, sheet: done; replay: every record was done */
     CRMS_BUDGET = 2,            /* run: as many instructions as asked were done; with 0 asked, none */
     CRMS_TRAP = 3,              /* run, replay: a trap; word 3 of the data segment has its class (bits 15-8) and number (bits 7-0) */
     CRMS_DATA_LENGTH = 10,      /* the data segment is not 32 to 16,384 words long */
@@ -99,6 +99,16 @@ enum crms_family {
     CRMS_FAMILIES = 8           /* how many there are */
 };
 
+/* ---- the counts of a sheet, in words of array storage; the first four add up to the fifth */
+enum crms_sheet_count {
+    CRMS_SHEET_ARRAYS = 0, /* SIZE of the arrays, each once, however many cells share it */
+    CRMS_SHEET_SLOP = 1,   /* words given to an array beyond its SIZE */
+    CRMS_SHEET_FREE = 2,   /* SIZE of the free blocks: an array that needs more words than these finds storage full */
+    CRMS_SHEET_END = 3,    /* the three words of the dummy block */
+    CRMS_SHEET_TOTAL = 4,  /* all words of array storage */
+    CRMS_SHEET_COUNTS = 5  /* how many there are */
+};
+
 /* A fresh data segment, whose bottom frame runs function `function` of procedure segment `segment` (0 regular, 1 alternate), with
  * `globals` globals, which start at address 8, and `array_words` words of array storage. Gives the status. */
 uint32_t crms_lay_out(uint32_t *data, size_t n, const uint8_t *regular, size_t nr, const uint8_t *alternate, size_t na,
@@ -127,6 +137,11 @@ uint64_t crms_replay(uint32_t *data, size_t n, const uint8_t *regular, size_t nr
  * first of `count` element words (a scalar: rank 0, the global's own address, count 1); the lengths are the `rank` words before it. */
 uint64_t crms_look(const uint32_t *data, size_t n, const uint8_t *regular, size_t nr, const uint8_t *alternate, size_t na,
                    uint32_t global);
+
+/* Where the words of array storage went. Gives the status; where it is CRMS_DONE, the counts are those of enum crms_sheet_count, and
+ * else they are as they were. */
+uint32_t crms_sheet(const uint32_t *data, size_t n, const uint8_t *regular, size_t nr, const uint8_t *alternate, size_t na,
+                    uint32_t counts[CRMS_SHEET_COUNTS]);
 
 /* ---- the parts of what run, replay and look give */
 static inline uint32_t crms_status_of(uint64_t answer) { return (uint32_t)(answer >> 32); }

@@ -9,6 +9,7 @@ extern "C" {
     fn crms_run(data: *mut u32, n: usize, regular: *const u8, nr: usize, alternate: *const u8, na: usize, budget: u32) -> u64;
     fn crms_load(data: *mut u32, n: usize, regular: *const u8, nr: usize, alternate: *const u8, na: usize, global: u32, lengths: *const u32, rank: usize, elements: *const u32, count: usize) -> u32;
     fn crms_replay(data: *mut u32, n: usize, regular: *const u8, nr: usize, alternate: *const u8, na: usize, file: *const u8, nf: usize, tally: *mut u32) -> u64;
+    fn crms_sheet(data: *const u32, n: usize, regular: *const u8, nr: usize, alternate: *const u8, na: usize, counts: *mut u32) -> u32;
 }
 
 /// A procedure segment without functions.
@@ -49,6 +50,14 @@ impl<'a> Engine<'a> {
         let (data, [p, q], mut tally) = (&mut self.data, self.procedures, [u32::MAX; 8]);
         let answer = unsafe { crms_replay(data.as_mut_ptr(), data.len(), p.as_ptr(), p.len(), q.as_ptr(), q.len(), file.as_ptr(), file.len(), tally.as_mut_ptr()) };
         (answer, tally)
+    }
+
+    /// Where the words of array storage went.
+    pub fn sheet(&self) -> [u32; 5] {
+        let (data, [p, q], mut counts) = (&self.data, self.procedures, [0; 5]);
+        let status = unsafe { crms_sheet(data.as_ptr(), data.len(), p.as_ptr(), p.len(), q.as_ptr(), q.len(), counts.as_mut_ptr()) };
+        assert_eq!(status, 0);
+        counts
     }
 
     /// What the cell at an address of the segment holds; nothing where it is undefined.

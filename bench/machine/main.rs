@@ -1,5 +1,6 @@
 //! The whole engine beside a plain Rust machine on the same bytes with the same tests, and beside A+ where bench/run has its
-//! times: nanoseconds for an instruction, for an element, for a word of acceptance, for a load out of a file of imports.
+//! times: nanoseconds for an instruction, for an element, for a word of acceptance, for a sheet, for a load out of a file
+//! of imports.
 #[path = "../plain/acceptance.rs"]
 mod acceptance;
 #[path = "../plain/arrays.rs"]
@@ -25,6 +26,8 @@ mod random;
 mod rows;
 #[path = "../acceptance/segments.rs"]
 mod segments;
+#[path = "../plain/sheet.rs"]
+mod sheet;
 #[path = "../plain/storage.rs"]
 mod storage;
 mod table;
@@ -47,6 +50,7 @@ fn main() {
         ("ns for an element", plain, rows::elements(random)),
         ("ns for a word of acceptance", plain, rows::words(random)),
         ("ns for a call", plain, rows::calls(random)),
+        ("ns for a sheet", plain, rows::sheets(random)),
         ("ns for a replayed load", plain, rows::loads(random)),
         ("ns for a replayed instruction", itself, rows::replays()),
     ];

@@ -4,7 +4,7 @@ use crate::engine::{plain, Engine};
 use crate::loops::{self, Loop};
 use crate::random::Random;
 use crate::windows::{nanoseconds, Times, Windows};
-use crate::{acceptance, files, imports, judges, segments};
+use crate::{acceptance, files, imports, judges, segments, sheet};
 
 /// About so many nanoseconds in a window.
 const WINDOW: f64 = 0.5e6;
@@ -133,6 +133,23 @@ pub fn calls(random: &mut Random) -> Vec<Row> {
         Row::new("a run of no instructions", Some(words), None, move || {
             let proved = nanoseconds(|| (0..calls).for_each(|_| ours.run(0)));
             let plain = nanoseconds(|| (0..calls).for_each(|_| assert_eq!(acceptance::judge(&s, p, p), 0)));
+            [proved / calls as f64, plain / calls as f64, 0.0, 0.0]
+        })
+    };
+    [(1_024, 120, 6), (16_384, 2_000, 60)].map(row).into()
+}
+
+/// The tests, and a walk over the blocks that adds them up.
+pub fn sheets(random: &mut Random) -> Vec<Row> {
+    let row = |(words, arrays, frames)| {
+        let p: &'static [u8] = segments::procedures().leak();
+        let s = segments::segment(words, arrays, frames, random);
+        let (ours, calls) = (Engine { data: s.clone(), procedures: [p, p] }, 65_536 / words);
+        let counts = ours.sheet();
+        assert_eq!(sheet::sheet(&s, p, p), Ok(counts));
+        Row::new("a sheet", Some(words), None, move || {
+            let proved = nanoseconds(|| (0..calls).for_each(|_| assert_eq!(ours.sheet(), counts)));
+            let plain = nanoseconds(|| (0..calls).for_each(|_| assert_eq!(sheet::sheet(&s, p, p), Ok(counts))));
             [proved / calls as f64, plain / calls as f64, 0.0, 0.0]
         })
     };

@@ -6,4 +6,5 @@ pub mod decode;
 pub mod elements;
 pub mod imports;
 pub mod machine;
+pub mod sheet;
 pub mod storage;

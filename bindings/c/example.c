@@ -1,5 +1,5 @@
-/* A par list is loaded and copied, the copy is written, and both are looked at: the list is as it was. Then the same by a file of
- * imports. */
+/* A par list is loaded and copied, the copy is written, and both are looked at: the list is as it was. A sheet tells what each step
+ * cost. Then the same by a file of imports. */
 #include <inttypes.h>
 #include <stdio.h>
 #include <stdlib.h>
@@ -69,6 +69,17 @@ static void print_list(const char *name, const uint32_t *data, uint32_t global)
     printf("\n");
 }
 
+/* Where the words of array storage went. */
+static void print_sheet(const uint32_t *data)
+{
+    uint32_t counts[CRMS_SHEET_COUNTS];
+
+    expect("sheet", crms_sheet(data, WORDS, PROCEDURES, counts), CRMS_DONE);
+    printf("  %" PRIu32 " words of arrays, %" PRIu32 " of slop, %" PRIu32 " free, %" PRIu32 " at the end: %" PRIu32 "\n",
+           counts[CRMS_SHEET_ARRAYS], counts[CRMS_SHEET_SLOP], counts[CRMS_SHEET_FREE], counts[CRMS_SHEET_END],
+           counts[CRMS_SHEET_TOTAL]);
+}
+
 /* So many instructions, then both lists. */
 static void run(const char *what, uint32_t *data, uint32_t budget)
 {
@@ -78,6 +89,7 @@ static void run(const char *what, uint32_t *data, uint32_t budget)
     printf("%s, %" PRIu32 " instructions\n", what, crms_steps_of(ran));
     print_list("list", data, LIST);
     print_list("copy", data, COPY);
+    print_sheet(data);
 }
 
 static void lay_out(uint32_t *data)
@@ -112,6 +124,7 @@ int main(void)
     expect("load", crms_load(data, WORDS, PROCEDURES, LIST, lengths, 1, par, 3), CRMS_DONE);
     printf("loaded\n");
     print_list("list", data, LIST);
+    print_sheet(data);
 
     run("copied", data, 2);
     run("written", data, 4);

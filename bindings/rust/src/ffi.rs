@@ -1,6 +1,6 @@
 //! The exported functions, as include/crms.h declares them. Nothing checks these lines against the library: keep them alike.
 
-use crate::Tally;
+use crate::{Sheet, Tally};
 
 extern "C" {
     pub fn crms_lay_out(
@@ -53,4 +53,14 @@ extern "C" {
         na: usize,
         global: u32,
     ) -> u64;
+
+    pub fn crms_sheet(
+        data: *const u32,
+        n: usize,
+        regular: *const u8,
+        nr: usize,
+        alternate: *const u8,
+        na: usize,
+        counts: *mut Sheet,
+    ) -> u32;
 }

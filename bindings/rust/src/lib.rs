@@ -1,15 +1,16 @@
-//! The engine of the CRMS APL processor: five operations on a lent data segment and both procedure segments.
+//! The engine of the CRMS APL processor: six operations on a lent data segment and both procedure segments.
 //!
 //! [`lay_out`] makes a fresh data segment, [`run`] does at most a given number of instructions, [`load`] puts a value into a
-//! global, [`replay`] does the loads and runs of a file of imports, and [`look`] hands a global's value back. A data segment is any
-//! `&mut [u32]` of 32 to 16,384 words. A call that is refused says why ([`Refusal`]) and changes nothing; a run that meets a trap
-//! says which ([`Trap`]). Nothing is kept between calls and nothing is allocated.
+//! global, [`replay`] does the loads and runs of a file of imports, [`look`] hands a global's value back, and [`sheet`] tells where
+//! the words of array storage went. A data segment is any `&mut [u32]` of 32 to 16,384 words. A call that is refused says why
+//! ([`Refusal`]) and changes nothing; a run that meets a trap says which ([`Trap`]). Nothing is kept between calls and nothing is
+//! allocated.
 //!
 //! The library under this crate is proved: what each operation answers, and each word that it leaves, is what its definition says.
 //! This crate only lends it slices and takes its numbers apart.
 //!
 //! ```
-//! use crms::{lay_out, load, look, replay, run, Layout, ProcedureSegment, Procedures, Ran, Replayed, Tally, Trap, Value};
+//! use crms::{lay_out, load, look, replay, run, sheet, Layout, ProcedureSegment, Procedures, Ran, Replayed, Sheet, Tally, Trap, Value};
 //!
 //! // Function 1 assigns global 8 to global 9, and then 0 to the element of global 9 at place 2.
 //! let functions = [
@@ -32,6 +33,9 @@
 //! // The copy was written, and the list is as it was.
 //! assert_eq!(look(&data, procedures, 8)?, Value::Array { lengths: &[3], elements: &[10, 20, 30] });
 //! assert_eq!(look(&data, procedures, 9)?, Value::Array { lengths: &[3], elements: &[10, 20, 0] });
+//!
+//! // Each has words of its own now.
+//! assert_eq!(sheet(&data, procedures)?, Sheet { arrays: 12, slop: 0, free: 9, end: 3, total: 24 });
 //!
 //! // RETURN in the bottom frame is how the function ends.
 //! let ended = Trap { class: 3, number: 13 };
@@ -155,6 +159,22 @@ pub struct Tally {
     pub index: u32,
 }
 
+/// Where the words of array storage went. The first four add up to the fifth.
+#[derive(Clone, Copy, Debug, Default, PartialEq, Eq)]
+#[repr(C)]
+pub struct Sheet {
+    /// SIZE of the arrays, each once, however many cells share it.
+    pub arrays: u32,
+    /// Words given to an array beyond its SIZE.
+    pub slop: u32,
+    /// SIZE of the free blocks: an array that needs more words than these finds storage full.
+    pub free: u32,
+    /// The three words of the dummy block.
+    pub end: u32,
+    /// All words of array storage.
+    pub total: u32,
+}
+
 /// What a global holds. The slices are parts of the data segment; their words are scalars ([`Scalar::from_word`]).
 #[derive(Clone, Copy, Debug, PartialEq, Eq)]
 pub enum Value<'s> {
@@ -274,6 +294,26 @@ pub fn look<'s>(data: &'s [u32], procedures: Procedures<'_>, global: u32) -> Res
         return Ok(Value::Scalar(data[first]));
     }
     Ok(Value::Array { lengths: &data[first - rank..first], elements: &data[first..first + count] })
+}
+
+/// Where the words of array storage went.
+pub fn sheet(data: &[u32], procedures: Procedures<'_>) -> Result<Sheet, Refusal> {
+    let Procedures { regular, alternate } = procedures;
+    let mut counts = Sheet::default();
+    // SAFETY: each pointer comes with its slice's length, and `counts` is borrowed alone: five counts in their order.
+    let status = unsafe {
+        ffi::crms_sheet(
+            data.as_ptr(),
+            data.len(),
+            regular.as_ptr(),
+            regular.len(),
+            alternate.as_ptr(),
+            alternate.len(),
+            &mut counts,
+        )
+    };
+    done(status)?;
+    Ok(counts)
 }
 
 fn done(status: u32) -> Result<(), Refusal> {

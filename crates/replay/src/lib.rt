@@ -1,5 +1,5 @@
 // Replays of files of imports on a lent data segment and both procedure segments. Beside the segment a tally is lent. A replay is the
-// loads and runs that its records are; it carries two contracts, as the four operations of `engine` do.
+// loads and runs that its records are; it carries two contracts, as the operations of `engine` do.
 ghost use mathlib.Core.Path.{_≡_};
 ghost use lib.Seq.{sets};
 ghost use Rattle.tally.specs.Counts.{added, countsOf, noneCounted, tallyOf};

@@ -1,6 +1,6 @@
 //! Procedure segments of a few instructions, and a data segment that is laid out for them.
 #![allow(dead_code)] // each test file uses a part of it
-use crms::{Layout, ProcedureSegment, Procedures, Ran, Refusal, Replayed, Tally, Trap, Value};
+use crms::{Layout, ProcedureSegment, Procedures, Ran, Refusal, Replayed, Sheet, Tally, Trap, Value};
 
 pub const SUM: u8 = 0x68;
 pub const QUOTIENT: u8 = 0x6B;
@@ -79,6 +79,10 @@ impl Fixture {
 
     pub fn look(&self, global: u32) -> Result<Value<'_>, Refusal> {
         crms::look(&self.data, Procedures::regular_only(&self.regular), global)
+    }
+
+    pub fn sheet(&self) -> Result<Sheet, Refusal> {
+        crms::sheet(&self.data, Procedures::regular_only(&self.regular))
     }
 }
 
