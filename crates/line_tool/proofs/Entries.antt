@@ -121,11 +121,9 @@ byte-passed text i (suc left) h some =
 pub passing-on : {text : List ℕ} {k left i after : ℕ} → Passing text k left i → i < length text → 0 < left → after ≡ cond (eqb (getD text i 0) 10) (left - 1) left → Passing text k after (i + 1)
 passing-on {text} {k} {left} {i} p h some e = record { so-far = rw e (sym (byte-passed text i left h some) ∙ p .so-far) }
 
-pub line-written : {w : Wrote} (out : List ℕ) (at : ℕ) (text : List ℕ) (start end k : ℕ) → end ≡ lineEnd text start → textLine 0 (drop start text) ≡ textLine k text
-    → w ≡ writes out at (take (end - start) (drop start text)) → w ≡ writes out at (textLine k text)
+pub line-between : (text : List ℕ) (start end k : ℕ) → end ≡ lineEnd text start → textLine 0 (drop start text) ≡ textLine k text → take (end - start) (drop start text) ≡ textLine k text
 unfolding lineEnd afterAll
-line-written out at text start end k e same written =
-    written ∙ ap (λ (l : List ℕ). writes out at l) (rw (e, add-sub-cancel-left start (leading (isOf InLine) (drop start text))) same)
+line-between text start end k e same = rw (e, add-sub-cancel-left start (leading (isOf InLine) (drop start text))) same
 
 -- ---- an entry that is written
 

@@ -7,6 +7,6 @@ pub mod fault;
 pub mod hash;
 pub mod list;
 pub mod number;
-mod tables;
+pub mod tables;
 pub mod tokens;
 pub mod writing;

@@ -27,9 +27,16 @@ pub fn place_of(key: u16, keys: &[u16]) -> usize
 pub fn put_line(out: &mut [u8], at: usize, text: &[u8], k: usize) -> usize
     ensures { λ r. ⌜ wrote r (now (out .exit)) ≡ writes (now (out .entry)) at (meaning.textLine k (now (text .entry))) ⌝ }
 {
+    put(out, at, line(text, k))
+}
+
+// Line k of a text, without its line feed; past the last line it is empty.
+pub fn line(text: &[u8], k: usize) -> &[u8]
+    ensures { λ r. ⌜ now r ≡ meaning.textLine k (now (text .entry)) ⌝ }
+{
     let start = line_start(text, k);
     let end = line_end(text, start);
-    put(out, at, &text[start..end])
+    &text[start..end]
 }
 
 // Where line k begins.

@@ -1,17 +1,6 @@
-use Rattle.line_tool.proofs.Entries.{line-written}
 use borrow.Author.Needs.{needs}
 use Rattle.line_tool.proofs.tables.put_line.Statement.{statement}
 use Rattle.line_tool.proofs.tables.put_line.Tie as tie
 
 pub put-line-spec : {M : Type 1} → statement M
-put-line-spec =
-    tie.close
-    (tie.spec
-    (λ c κs. search needs)
-    (λ c κs. search needs)
-    (λ c. search needs)
-    (λ c. search needs)
-    (λ c. search needs)
-    (λ c κs. search needs)
-    (λ c. search needs)
-    (λ c. line-written _ _ _ _ _ (c .before .before .before .before .before .before .before .before .before .args .k) (c .before .before .before .before .before .line-end .ensures .0) (c .before .before .before .before .before .before .line-start .ensures .1) (c .before .before .put .ensures)))
+put-line-spec = tie.close (tie.spec (λ c κs. search needs) (λ c κs. search needs) (λ c. search needs) (λ c. cc))
