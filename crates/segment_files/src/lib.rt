@@ -1,0 +1,4 @@
+// A data segment and both procedure segments, from the files that the lines of a text name.
+pub mod buffers;
+pub mod files;
+pub mod names;
