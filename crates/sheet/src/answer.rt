@@ -1,0 +1,56 @@
+// The answer to one call, in one write.
+use libc::STDOUT_FILENO;
+use line_tool::tables::line;
+use line_tool::writing::put;
+use line_tool::writing::put_decimal;
+use operations::Sheeted;
+use segment_files::buffers;
+use segment_files::files::read_bytes;
+use segment_files::files::read_words;
+use storage_sheet::Sheet;
+
+// Answers the three lines of a text. Was the answer written?
+pub fn answer(text: &[u8]) -> bool {
+    let mut out = io::buffer();
+    let n = match sheet_of(text) {
+        Sheeted::Refused(test) => put_count(&mut out, 0, b"refused ", test as u32),
+        Sheeted::Counted(sheet) => put_sheet(&mut out, sheet),
+    };
+    give(&out, n)
+}
+
+fn sheet_of(text: &[u8]) -> Sheeted {
+    let mut words = buffers::words();
+    let mut regular = buffers::procedure();
+    let mut alternate = buffers::procedure();
+    let n = read_words(line(text, 0), &mut words);
+    let r = read_bytes(line(text, 1), &mut regular);
+    let a = read_bytes(line(text, 2), &mut alternate);
+    engine::sheet::sheet(&words[0..n], &regular[0..r], &alternate[0..a])
+}
+
+fn put_sheet(out: &mut [u8], sheet: Sheet) -> usize {
+    let a = put_count(out, 0, b"arrays ", sheet.arrays);
+    let b = put_count(out, a, b"slop ", sheet.slop);
+    let c = put_count(out, b, b"free ", sheet.free);
+    let d = put_count(out, c, b"end ", sheet.end);
+    put_count(out, d, b"total ", sheet.total)
+}
+
+// A line: a word with a blank, and a number.
+fn put_count(out: &mut [u8], at: usize, name: &[u8], n: u32) -> usize {
+    let a = put(out, at, name);
+    let b = put_decimal(out, a, n);
+    put(out, b, b"\n")
+}
+
+fn give(out: &[u8], n: usize) -> bool {
+    if out.len() < n {
+        return true;
+    }
+    let done = io::write_all(STDOUT_FILENO, &out[0..n]);
+    if !done {
+        os::fail(b"sheet: cannot write the answer");
+    }
+    done
+}
