@@ -12,10 +12,7 @@ use storage_sheet::Sheet;
 // Answers the three lines of a text. Was the answer written?
 pub fn answer(text: &[u8]) -> bool {
     let mut out = io::buffer();
-    let n = match sheet_of(text) {
-        Sheeted::Refused(test) => put_count(&mut out, 0, b"refused ", test as u32),
-        Sheeted::Counted(sheet) => put_sheet(&mut out, sheet),
-    };
+    let n = put_answer(&mut out, sheet_of(text));
     give(&out, n)
 }
 
@@ -27,6 +24,13 @@ fn sheet_of(text: &[u8]) -> Sheeted {
     let r = read_bytes(line(text, 1), &mut regular);
     let a = read_bytes(line(text, 2), &mut alternate);
     engine::sheet::sheet(&words[0..n], &regular[0..r], &alternate[0..a])
+}
+
+fn put_answer(out: &mut [u8], sheeted: Sheeted) -> usize {
+    match sheeted {
+        Sheeted::Refused(test) => put_count(out, 0, b"refused ", test as u32),
+        Sheeted::Counted(sheet) => put_sheet(out, sheet),
+    }
 }
 
 fn put_sheet(out: &mut [u8], sheet: Sheet) -> usize {
