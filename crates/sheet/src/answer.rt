@@ -29,7 +29,7 @@ fn sheet_of(text: &[u8]) -> Sheeted {
 fn put_answer(out: &mut [u8], sheeted: Sheeted) -> usize {
     match sheeted {
         Sheeted::Refused(test) => put_count(out, 0, b"refused ", test as u32),
-        Sheeted::Counted(sheet) => put_sheet(out, sheet),
+        Sheeted::Summed(sheet) => put_sheet(out, sheet),
     }
 }
 
