@@ -2,3 +2,4 @@
 pub mod buffers;
 pub mod files;
 pub mod names;
+pub mod sheet;

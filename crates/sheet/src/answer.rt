@@ -5,25 +5,17 @@ use line_tool::writing::put;
 use line_tool::writing::put_decimal;
 use operations::Sheeted;
 use segment_files::buffers;
-use segment_files::files::read_bytes;
 use segment_files::files::read_words;
+use segment_files::sheet::sheet_of;
 use storage_sheet::Sheet;
 
 // Answers the three lines of a text. Was the answer written?
 pub fn answer(text: &[u8]) -> bool {
-    let mut out = io::buffer();
-    let n = put_answer(&mut out, sheet_of(text));
-    give(&out, n)
-}
-
-fn sheet_of(text: &[u8]) -> Sheeted {
     let mut words = buffers::words();
-    let mut regular = buffers::procedure();
-    let mut alternate = buffers::procedure();
     let n = read_words(line(text, 0), &mut words);
-    let r = read_bytes(line(text, 1), &mut regular);
-    let a = read_bytes(line(text, 2), &mut alternate);
-    engine::sheet::sheet(&words[0..n], &regular[0..r], &alternate[0..a])
+    let mut out = io::buffer();
+    let end = put_answer(&mut out, sheet_of(&words[0..n], text));
+    give(&out, end)
 }
 
 fn put_answer(out: &mut [u8], sheeted: Sheeted) -> usize {

@@ -4,37 +4,23 @@
 mod answer;
 
 use answer::answer;
-use segment_files::names::read_argument;
-use segment_files::names::read_standard_input;
-
-fn main() {
-    let count = os::arg_count();
-    if count < 2 {
-        answer_standard_input();
-        return;
-    }
-    answer_arguments(count);
-}
-
-fn answer_standard_input() {
-    let mut text = io::large_buffer();
-    let n = read_standard_input(&mut text);
-    answer(&text[0..n]);
-}
+use segment_files::names::read_text;
+use segment_files::names::texts_end;
 
 // After an answer that could not be written there are no others.
-fn answer_arguments(count: usize) {
+fn main() {
+    let end = texts_end();
     let mut k = 1;
-    while k < count {
-        if !answer_argument(k) {
+    while k < end {
+        if !answer_text(k) {
             return;
         }
         k += 1;
     }
 }
 
-fn answer_argument(k: usize) -> bool {
+fn answer_text(k: usize) -> bool {
     let mut text = io::large_buffer();
-    let n = read_argument(k, &mut text);
+    let n = read_text(k, &mut text);
     answer(&text[0..n])
 }

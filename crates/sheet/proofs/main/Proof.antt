@@ -1,22 +1,23 @@
 use Prim.Native.Nat.{_-_}
 use borrow.Author.Needs.{needs}
-use Rattle.sheet.proofs.answer_arguments.Statement.{statement}
-use Rattle.sheet.proofs.answer_arguments.Tie as tie
+use Rattle.sheet.proofs.main.Statement.{statement}
+use Rattle.sheet.proofs.main.Tie as tie
 
 abbrev Inv-loop : tie.InvT-loop
-Inv-loop count k₀ k = Unit {0}
+Inv-loop end k₀ k = Unit {0}
 
 abbrev μ-loop : tie.MeasureT-loop
-μ-loop count k₀ k = count - k
+μ-loop end k₀ k = end - k
 
-pub answer-arguments-spec : {M : Type 1} → statement M
-answer-arguments-spec =
+pub main-spec : {M : Type 1} → statement M
+main-spec =
     tie.close
     (tie.spec
     Inv-loop
     μ-loop
+    (λ c κs. search needs)  -- texts-end-requires
     (λ c. search needs)  -- loop-holds
-    (λ c κs. search needs)  -- answer-argument-requires
+    (λ c κs. search needs)  -- answer-text-requires
     (λ c. search needs)  -- returns
     (λ c. search needs)  -- add-k
     (λ c. search needs)  -- loop-less
