@@ -1,21 +1,20 @@
-// The answer to one call, in one write.
-use libc::STDOUT_FILENO;
+// The answer to one call.
 use line_tool::tables::line;
-use line_tool::writing::put;
-use line_tool::writing::put_decimal;
 use operations::Sheeted;
+use segment_files::answers::give;
+use segment_files::answers::put_count;
 use segment_files::buffers;
 use segment_files::files::read_words;
 use segment_files::sheet::sheet_of;
 use storage_sheet::Sheet;
 
-// Answers the three lines of a text. Was the answer written?
+// Answers the three lines of a text. Did standard output take the answer?
 pub fn answer(text: &[u8]) -> bool {
     let mut words = buffers::words();
     let n = read_words(line(text, 0), &mut words);
     let mut out = io::buffer();
     let end = put_answer(&mut out, sheet_of(&words[0..n], text));
-    give(&out, end)
+    give(&out, end, b"sheet: cannot write the answer")
 }
 
 fn put_answer(out: &mut [u8], sheeted: Sheeted) -> usize {
@@ -31,22 +30,4 @@ fn put_sheet(out: &mut [u8], sheet: Sheet) -> usize {
     let c = put_count(out, b, b"free ", sheet.free);
     let d = put_count(out, c, b"end ", sheet.end);
     put_count(out, d, b"total ", sheet.total)
-}
-
-// A line: a word with a blank, and a number.
-fn put_count(out: &mut [u8], at: usize, name: &[u8], n: u32) -> usize {
-    let a = put(out, at, name);
-    let b = put_decimal(out, a, n);
-    put(out, b, b"\n")
-}
-
-fn give(out: &[u8], n: usize) -> bool {
-    if out.len() < n {
-        return true;
-    }
-    let done = io::write_all(STDOUT_FILENO, &out[0..n]);
-    if !done {
-        os::fail(b"sheet: cannot write the answer");
-    }
-    done
 }

@@ -1,0 +1,31 @@
+use Prim.Native.Nat.{_-_}
+use borrow.Author.Needs.{needs}
+use Rattle.storage_map.proofs.blocks.measure.Statement.{statement}
+use Rattle.storage_map.proofs.blocks.measure.Tie as tie
+
+abbrev Inv-loop : tie.InvT-loop
+Inv-loop seg end a₀ longest₀ blocks₀ a longest blocks = Unit {0}
+
+abbrev μ-loop : tie.MeasureT-loop
+μ-loop seg end a₀ longest₀ blocks₀ a longest blocks = 16384 - blocks
+
+pub measure-spec : {M : Type 1} → statement M
+measure-spec =
+    tie.close
+    (tie.spec
+    Inv-loop
+    μ-loop
+    (λ c κs. search needs)  -- dummy-requires
+    (λ c κs. search needs)  -- number-requires
+    (λ c κs. search needs)  -- blockptr-requires
+    (λ c κs. search needs)  -- number-requires-2
+    (λ c. search needs)  -- loop-holds
+    (λ c. search needs)  -- returns
+    (λ c κs. search needs)  -- block-at-requires
+    (λ c κs. search needs)  -- span-requires
+    (λ c κs. search needs)  -- greater-requires
+    (λ c. search needs)  -- add-a
+    (λ c. search needs)  -- add-blocks
+    (λ c. search needs)  -- loop-less
+    (λ c. search needs)  -- loop-again
+    (λ c. search needs))  -- returns-2

@@ -1,0 +1,25 @@
+use Prim.Native.Nat.{_-_}
+use borrow.Author.Needs.{needs}
+use Rattle.storage_map.proofs.main.Statement.{statement}
+use Rattle.storage_map.proofs.main.Tie as tie
+
+abbrev Inv-loop : tie.InvT-loop
+Inv-loop end k₀ k = Unit {0}
+
+abbrev μ-loop : tie.MeasureT-loop
+μ-loop end k₀ k = end - k
+
+pub main-spec : {M : Type 1} → statement M
+main-spec =
+    tie.close
+    (tie.spec
+    Inv-loop
+    μ-loop
+    (λ c κs. search needs)  -- texts-end-requires
+    (λ c. search needs)  -- loop-holds
+    (λ c κs. search needs)  -- answer-text-requires
+    (λ c. search needs)  -- returns
+    (λ c. search needs)  -- add-k
+    (λ c. search needs)  -- loop-less
+    (λ c. search needs)  -- loop-again
+    (λ c. search needs))  -- returns-2

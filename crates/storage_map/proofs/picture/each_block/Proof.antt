@@ -1,0 +1,37 @@
+use Prim.Native.Nat.{_-_}
+use borrow.Author.Needs.{needs}
+use lib.ListN.{length}
+use mathlib.Core.Path.{_≡_}
+use Rattle.storage_map.proofs.picture.each_block.Statement.{statement}
+use Rattle.storage_map.proofs.picture.each_block.Tie as tie
+
+abbrev Inv-loop : tie.InvT-loop
+Inv-loop part out₀ seg first end pen₀ a₀ row₀ out pen a row = length out ≡ length out₀
+
+abbrev μ-loop : tie.MeasureT-loop
+μ-loop part out₀ seg first end pen₀ a₀ row₀ out pen a row = 16384 - row
+
+pub each-block-spec : {M : Type 1} → statement M
+each-block-spec =
+    tie.close
+    (tie.spec
+    Inv-loop
+    μ-loop
+    (λ c κs. search needs)  -- blockptr-requires
+    (λ c κs. search needs)  -- number-requires
+    (λ c κs. search needs)  -- dummy-requires
+    (λ c κs. search needs)  -- number-requires-2
+    (λ c. search needs)  -- loop-holds
+    (λ c. search needs)  -- same-length
+    (λ c. search needs)  -- returns
+    (λ c κs. search needs)  -- block-at-requires
+    (λ c κs. search needs)  -- minus-requires
+    (λ c. search needs)  -- cast-draw-block
+    (λ c κs. search needs)  -- draw-block-requires
+    (λ c κs. search needs)  -- span-requires
+    (λ c. search needs)  -- add-a
+    (λ c. search needs)  -- add-row
+    (λ c. search needs)  -- loop-less
+    (λ c. search needs)  -- loop-again
+    (λ c. search needs)  -- same-length-2
+    (λ c. search needs))  -- returns-2
