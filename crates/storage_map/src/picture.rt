@@ -54,7 +54,7 @@ text { font: 13px sans-serif; fill: #222 }
 .heading { font-size: 20px; font-weight: bold }
 .address { text-anchor: end; fill: #555 }
 rect { stroke: #777; stroke-width: 1; vector-effect: non-scaling-stroke }
-.many rect { stroke: none }
+.many rect { stroke: none; shape-rendering: crispEdges }
 .paper { fill: #fff; stroke: none }
 .frame { fill: none }
 .cells1 { fill: #cfe3f5 }
@@ -164,7 +164,7 @@ fn draw_block(part: Part, pen: Pen, out: &mut [u8], block: Block, x: u16, row: u
     match part {
         Part::Strip => pieces(pen, out, block, x, 0, 1),
         Part::Bars => pieces(pen, out, block, 0, height_of(row) + 3, 16),
-        Part::Labels => label(pen, out, block, height_of(row) + 182),
+        Part::Labels => label(pen, out, block, height_of(row) + 170),
     }
 }
 
@@ -207,13 +207,22 @@ fn shade(cells: u16) -> u32 {
     }
 }
 
-fn label(pen: Pen, out: &mut [u8], block: Block, y: u32) -> Pen {
+// The address, the shade once more, since a short bar beside a long one is hardly seen, and what the block is.
+fn label(pen: Pen, out: &mut [u8], block: Block, y: u32) -> Pen
+    requires { ⌜ y < 2 ^ 22 ⌝ }
+{
+    let kind = block.kind;
     let addressed = pen.write(
         out,
-        b"<text class='address' x='62' y='@'>@</text><text x='646' y='@'>",
-        &[y, block.at, y],
+        b"<text class='address' x='62' y='@'>@</text>",
+        &[y + 12, block.at],
     );
-    words(addressed, out, block).text(out, b"</text>\n")
+    let shaded = open_block(addressed, out, kind).write(
+        out,
+        b" x='646' y='@' width='12' height='12'/><text x='666' y='@'>",
+        &[y + 1, y + 12],
+    );
+    words(shaded, out, block).text(out, b"</text>\n")
 }
 
 fn words(pen: Pen, out: &mut [u8], block: Block) -> Pen {
