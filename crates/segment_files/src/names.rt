@@ -11,7 +11,10 @@ pub fn texts_end() -> usize {
     if count < 2 { 2 } else { count }
 }
 
-// Text k: how many bytes were put at the front of the buffer, none where it cannot be read.
+// Text k: how many bytes were put at the front of the buffer, none where it cannot be read. A text that is longer than the buffer
+// is cut. With 65,536 bytes that changes no answer: a name that can be opened and its line feed have 4,096 bytes at most, and a
+// longer line among the first three makes its segment empty, so that test 10 or 11 refuses the call whatever the lines after it
+// say.
 pub fn read_text(k: usize, text: &mut [u8]) -> usize
     ensures { λ r. ⌜ r ≤ length (now (text .exit)) ⌝ }
 {
@@ -23,9 +26,6 @@ pub fn read_text(k: usize, text: &mut [u8]) -> usize
     read_named(&name[..n], text)
 }
 
-// A text that is longer than the buffer is cut. With 65,536 bytes that changes no answer: three names that can be opened and
-// their line feeds have 12,288 bytes at most, and a longer line makes its segment empty, so that test 10 or 11 refuses the call
-// whatever the lines after it say.
 fn read_named(name: &[u8], text: &mut [u8]) -> usize
     ensures { λ r. ⌜ r ≤ length (now (text .exit)) ⌝ }
 {

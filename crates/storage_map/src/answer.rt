@@ -27,16 +27,15 @@ fn refuse(test: u8) -> bool {
     give(&out, n, b"storage_map: cannot write the answer")
 }
 
-// The file is not touched before the segment is accepted, so that a refused call leaves an old picture as it is.
+// A picture that cannot be written is told, and is no reason to end.
 fn map(seg: &[u32], sheet: Sheet, name: &[u8]) -> bool {
     if name.len() == 0 {
         return map_to_standard_output(seg, sheet);
     }
-    if !map_to_file(seg, sheet, name) {
-        tell(b"storage_map: cannot write ", name);
-        return true;
+    if map_to_file(seg, sheet, name) {
+        return say_mapped(name);
     }
-    say_mapped(name)
+    true
 }
 
 fn map_to_standard_output(seg: &[u32], sheet: Sheet) -> bool {
@@ -47,16 +46,23 @@ fn map_to_standard_output(seg: &[u32], sheet: Sheet) -> bool {
     drawn
 }
 
-// A file that cannot be drawn is left open: to close it could change the reason that is told.
+// The file is not touched before the segment is accepted, so that a refused call leaves an old picture as it is.
 fn map_to_file(seg: &[u32], sheet: Sheet, name: &[u8]) -> bool {
     let fd = os::open_overwrite(name);
     if fd < 0 {
+        cannot_write(name);
         return false;
     }
     if !draw(fd, seg, sheet) {
+        cannot_write(name);
+        libc::close(fd);
         return false;
     }
-    libc::close(fd) == 0
+    if libc::close(fd) < 0 {
+        cannot_write(name);
+        return false;
+    }
+    true
 }
 
 fn say_mapped(name: &[u8]) -> bool {
@@ -67,10 +73,10 @@ fn say_mapped(name: &[u8]) -> bool {
     give(&out, c, b"storage_map: cannot write the answer")
 }
 
-// On standard error, with the reason why the last call failed.
-fn tell(what: &[u8], name: &[u8]) {
+// Told on standard error, with the reason why the last call failed.
+fn cannot_write(name: &[u8]) {
     let mut out = io::large_buffer();
-    let a = put(&mut out, 0, what);
+    let a = put(&mut out, 0, b"storage_map: cannot write ");
     let b = put(&mut out, a, name);
     if b <= out.len() {
         os::fail(&out[0..b]);
