@@ -59,8 +59,8 @@ fn read_whole(fd: i32, buffer: &mut [u8]) -> usize
     n
 }
 
-// Reads until the buffer is full or the file ends, and answers how many bytes were read: none where a read fails, since the
-// first bytes of a file are another file.
+// Reads until the buffer is full or the file ends, and answers how many bytes were read: none where a read fails, since a part
+// would be taken for the whole.
 pub fn read_part(fd: i32, buffer: &mut [u8]) -> usize
     ensures { λ r. ⌜ r ≤ length (now (buffer .exit)) ⌝ }
 {
