@@ -29,7 +29,7 @@ use Rattle.acceptance_storage.specs.Head.{headTest}
 use Rattle.acceptance_storage.specs.Blocks.{freeSpan, blockSpan, walkFrom, walkTest, startsFrom, freeStarts, arrayStarts, blocksTest, arraySpan, arrayTest}
 use Rattle.acceptance_storage.specs.Ring.{linked, roundFrom, ringTest}
 use Rattle.acceptance.specs.Frames.{known, arguments, variables, framesPass, framesTest}
-use Rattle.acceptance.specs.Cells.{direct, frameCells, cellsFrom, cellsTest}
+use Rattle.acceptance.specs.Cells.{direct, freeCell, frameCells, cellsFrom, cellsTest}
 use Rattle.acceptance.specs.Counts.{countsTest, countTest}
 use Rattle.acceptance.specs.Refusal.{dataRefusal, refusal}
 use Rattle.manual.specs.Values as values
@@ -42,6 +42,8 @@ use Rattle.effects.specs.Seen.{read, seen, whole}
 use Rattle.effects.specs.Step.{stepIn, stepOf}
 use Rattle.effects.specs.Run.{stepsFrom, runOf}
 use Rattle.fresh_segment.specs.LayOut.{functionTest, partsTest, layOutRefusal, freshStorage, freshFrame, freshHead, fresh, laidOut}
+use Rattle.storage_sheet.specs.Sheet.{sheetOf}
+use Rattle.operations.specs.Sheet.{sheeted}
 use Rattle.operations.specs.Run.{ran}
 use Rattle.operations.specs.Load.{isGlobal, isValue, lacksRoom, loadRefusal, loaded}
 use Rattle.operations.specs.Look.{looked}
@@ -58,7 +60,7 @@ computed : Table × Story × Imported
 unfolding laidOut layOutRefusal functionTest partsTest fresh freshHead freshStorage freshFrame hasFunction headerAt wordAt
     procedureRefusal segmentLengthTest contentsTest entriesTest functionsTest functionPasses headerTest refusal dataRefusal
     headTest blocksTest freeSpan blockSpan walkFrom walkTest startsFrom freeStarts arrayStarts linked roundFrom ringTest known
-    arguments variables framesPass framesTest direct frameCells cellsFrom cellsTest countsTest tests.wordsWhere view.words
+    arguments variables framesPass framesTest direct freeCell frameCells cellsFrom cellsTest countsTest tests.wordsWhere view.words
     view.framesFrom hit isScalar kindOf integerKind undefinedKind unsignedKind ran runOf stepsFrom stepOf stepIn functionOf
     planAt planOf loads.shortConstant loads.constantScalar scalars.indexGenerator scalars.dyadic values.dyadic values.conform
     values.pairwise values.indexGenerator values.upFrom units wholeUnits wholeOf codeOf familyIn familyOf fetchByte fetchHalf
@@ -69,13 +71,16 @@ unfolding laidOut layOutRefusal functionTest partsTest fresh freshHead freshStor
     addressAt loadAt memoryAt discard storeAt store unshare writeElement storeElement whole isGlobal isValue lacksRoom loadRefusal
     loaded looked arrays.share arrays.raise arrays.lower memory.assignNoResult memory.assignIndexed memory.eat loads.load
     values.ravelPlace arrayKind countTest within tallied replayFrom replayed groupsAt numberAt severalAt importedElements
-    importedLengths importedLoad importedRun recordAt recordsUpTo recordsFrom countUp counted firstByte talliedFrom
+    importedLengths importedLoad importedRun recordAt recordsUpTo recordsFrom countUp counted firstByte talliedFrom sheeted sheetOf
 computed = (
   record {
     m1 = record { word0 = refl; word1 = refl; word12 = refl; word13 = refl; word33 = refl; word34 = refl };
+    m1Sheet = refl;
     m2 = record { onTop = record { done = refl; top = refl }; free = refl; array = refl; roverAt = refl };
+    m2Sheet = refl;
     m3 = record { onTop = record { done = refl; top = refl }; free = refl; array = refl; roverAt = refl };
     m4 = record { onTop = record { done = refl; top = refl }; free = refl; array = refl; roverAt = refl };
+    m4Sheet = refl;
     m5 = record { onTop = record { done = refl; top = refl }; value = refl };
     m6 = record { done = refl; top = refl };
     m7 = record { trapped = refl; trap = refl };
@@ -88,9 +93,11 @@ computed = (
     list = record { seen = refl; shape = refl; ravel = refl };
     copy = record { seen = refl; shape = refl; ravel = refl };
     count = refl;
+    sheetShared = refl;
     writes = refl;
     listAfter = record { seen = refl; shape = refl; ravel = refl };
     copyAfter = record { seen = refl; shape = refl; ravel = refl };
+    sheetAfter = refl;
   },
   record {
     none = (refl, refl);

@@ -2,28 +2,26 @@
 use Prim.Native.Nat.{ℕ, _≤_}
 use mathlib.Core.Path.{_≡_, refl, sym, _∙_, ap}
 use mathlib.Core.Bool.{Bool, true, false, cond, not, _&&_}
-use mathlib.Core.Logic.{_≢_, _⊎_, inl, inr, ⊎-elim}
+use mathlib.Core.Logic.{_≢_, _⊎_, ⊎-elim}
 use mathlib.Core.List.{List, [], _∷_}
 use native.Mathlib.Omega.{arith}
 use lib.Dec.{eqb}
-use lib.ListN.{set}
 use borrow.Author.Tests.{eq-eqb}
 use Rattle.procedure.specs.declared.header.Header.{Header}
 use Rattle.segment.specs.State.{flags, fcnctrc, fcnrtrc, stepFlag}
 use Rattle.segment.specs.Cells.{Cell}
 use Rattle.segment.specs.View.{view}
 use Rattle.acceptance.specs.Refusal.{lengthTest}
-use Rattle.manual.specs.OrTrap.{gives, trap}
+use Rattle.manual.specs.OrTrap.{gives}
 use Rattle.manual.specs.Effects.{Effect, performAll}
-use Rattle.effects.specs.declared.Outcome.{Outcome as Turn}
 use Rattle.effects.specs.Carried.{outcomeOf}
 use Rattle.effects_theorems.proofs.Tests.{never}
 use Rattle.step_theorems.specs.Planned.{planned, headerIn}
 use Rattle.step_theorems.proofs.Settled.{outcome-by}
 use Rattle.audit.specs.Calls.{Procedures, Call, layOut, run, load, look, sheet, Answer, refused, ran, trapped, Test, firstFailed, tests, globalValue}
-use Rattle.audit.specs.Steps.{StepOutcome, trapsBy, finishes, dueAfter, EffectsDone, Step, traps, full, does, inVain}
-use Rattle.audit.specs.Runs.{Runs, over, goesOn, RequestInVain}
-use Rattle.audit.specs.Did.{Tells, Did, isRefused, hasRun, hasTold}
+use Rattle.audit.specs.Steps.{trapsBy, finishes, dueAfter, EffectsDone, Step, full, does, inVain}
+use Rattle.audit.specs.Runs.{Runs, over, goesOn}
+use Rattle.audit.specs.Did.{Tells, Did}
 use Rattle.audit.specs.Lists.{refusalOf}
 use Rattle.audit.specs.RuledOut.{TwoDone, RuledOut}
 use Rattle.audit.proofs.Runs.{only-vain}

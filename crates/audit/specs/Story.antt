@@ -6,12 +6,14 @@ use mathlib.Core.List.{List, [], _∷_}
 use Rattle.descriptor.specs.Kinds.{segment}
 use Rattle.segment.specs.Blocks.{countAt}
 use Rattle.segment.specs.Parts.{shapePart, elementsPart}
+use Rattle.storage_sheet.specs.Examples.{sheet}
+use Rattle.operations.specs.declared.Sheeted.the-variants.{Summed}
 use Rattle.operations.specs.declared.Run.the-variants.{Done}
 use Rattle.operations.specs.declared.Looked.the-variants.{Array}
 use Rattle.operations.specs.Run.{Ended, ran}
 use Rattle.operations.specs.Load.{loaded}
 use Rattle.operations.specs.Look.{looked}
-use Rattle.audit.specs.Table.{coded, laid}
+use Rattle.audit.specs.Table.{coded, laid, sheetBeside}
 
 -- Global 8 is pushed and assigned to global 9; 0 and the subscript 2 are pushed, global 9 is assigned indexed, and the result eaten.
 abbrev pub storyCode : List ℕ
@@ -38,7 +40,10 @@ pub record Story : Type 0 where
   pub list : TellsVector (withCopy .words) 8 27 10 20 30
   pub copy : TellsVector (withCopy .words) 9 27 10 20 30
   pub count : countAt (withCopy .words) 27 ≡ 2
+  -- counted once in the sheet
+  pub sheetShared : sheetBeside storyCode (withCopy .words) ≡ Summed (sheet 6 0 15 3 24)
   pub writes : written .answer ≡ Done 4
   -- the copy has a block of its own now, and the list is as it was
   pub listAfter : TellsVector (written .words) 8 27 10 20 30
   pub copyAfter : TellsVector (written .words) 9 21 10 20 0
+  pub sheetAfter : sheetBeside storyCode (written .words) ≡ Summed (sheet 12 0 9 3 24)

@@ -11,6 +11,7 @@ use borrow.Author.Tests.{eq-eqb, ne-eqb}
 use lib.Dec.{eqb}
 use lib.ListN.{length, getD, take, drop, drop-of-length-le}
 use lib.Seq.{drop-cons}
+use Rattle.descriptor.proofs.Truth.{both}
 use Rattle.line_tool.specs.Text.{bytes}
 use Rattle.line_tool.specs.Tokens.{leading, isOf, lineEnd, afterAll}
 use Rattle.line_tool.specs.declared.tokens.Kind.the-variants.{InLine}
@@ -40,10 +41,6 @@ inLine (b ∷ text) = isOf InLine b && inLine text
 abbrev pub allInLine : List (ℕ × String) → String → Bool
 allInLine [] none = inLine (bytes none)
 allInLine (entry ∷ table) none = inLine (bytes (entry .1)) && allInLine table none
-
-both : (a b : Bool) → (a && b) ≡ true → (a ≡ true) × (b ≡ true)
-both true b h = (refl, h)
-both false b h = (h, cc)
 
 first-line : (text rest : List ℕ) → inLine text ≡ true → textLine 0 (text ++ (10 ∷ rest)) ≡ text
 first-line [] rest h = refl

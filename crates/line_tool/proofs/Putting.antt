@@ -8,13 +8,10 @@ use mathlib.Core.Path.{_≡_, refl, sym, ap, _∙_}
 use mathlib.Core.List.{List, [], _∷_, _++_, append-nil}
 use borrow.Author.Tests.{lt-ltb, le-ltb}
 use lib.ListN.{length, getD, set, take, drop, length-set, length-append, length-drop, drop-of-length-le}
-use lib.Seq.{sets, length-sets, set-out, set-split, drop-cons, drop-length, drop-at, append-snoc, length-take-le, take-all}
+use lib.Seq.{sets, length-sets, set-split, drop-cons, drop-length, drop-at, append-snoc, length-take-le, take-all}
+use Rattle.segment.proofs.Copies.{sets-out}
 use Rattle.line_tool.specs.Bytes.{pair, pairs}
 use Rattle.line_tool.specs.Writing.{Wrote, wrote, writes, digits, decimal}
-
-sets-out : (vs l : List ℕ) (i : ℕ) → length l ≤ i → sets l i vs ≡ l
-sets-out [] l i h = refl
-sets-out (v ∷ vs) l i h = rw (set-out l i v h) (sets-out vs l (suc i) (omega arith))
 
 -- the rest of a text is still to be put, from another place on
 pub record Putting (all out₀ : List ℕ) (at : ℕ) (rest out : List ℕ) (to : ℕ) : Type 0 where

@@ -13,7 +13,7 @@ use Rattle.storage.specs.Heap.{Block, free, array, Walk, over, frees, count}
 use Rattle.storage_theorems.specs.Words.{HasRoom}
 use Rattle.storage_theorems.proofs.Walks.{over-le}
 use Rattle.storage_theorems.proofs.Arrays.{array-fields}
-use Rattle.acceptance_storage.specs.Blocks.{freeStarts, arrayStarts}
+use Rattle.acceptance_storage.specs.Blocks.{arrayStarts}
 use Rattle.acceptance_storage.specs.Room.{longEnough}
 use Rattle.acceptance_storage.specs.Structure.{Stored, arrays}
 use Rattle.acceptance_storage.proofs.Structure.{stored-frees, stored-arrays}

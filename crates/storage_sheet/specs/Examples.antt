@@ -1,6 +1,5 @@
 -- The sheet of small segments, by computation. Assumes nothing.
 use mathlib.Core.Path.{_≡_, refl}
-use mathlib.Core.List.{List}
 use Prim.Native.Nat.{ℕ}
 use lib.ListN.{set}
 use Rattle.acceptance_storage.specs.Blocks.{startsFrom, freeStarts, arrayStarts}
