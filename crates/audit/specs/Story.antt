@@ -6,7 +6,7 @@ use mathlib.Core.List.{List, [], _∷_}
 use Rattle.descriptor.specs.Kinds.{segment}
 use Rattle.segment.specs.Blocks.{countAt}
 use Rattle.segment.specs.Parts.{shapePart, elementsPart}
-use Rattle.storage_sheet.specs.Examples.{sheet}
+use Rattle.storage_sheet.specs.Sheet.{sheet}
 use Rattle.operations.specs.declared.Sheeted.the-variants.{Summed}
 use Rattle.operations.specs.declared.Run.the-variants.{Done}
 use Rattle.operations.specs.declared.Looked.the-variants.{Array}

@@ -7,7 +7,7 @@ use lib.ListN.{getD, length, replicate}
 use Rattle.segment.specs.State.{sbase, ltop, rover, trapWord}
 use Rattle.scalar.specs.Value.{units}
 use Rattle.fresh_segment.specs.LayOut.{layout, laidOut}
-use Rattle.storage_sheet.specs.Examples.{sheet}
+use Rattle.storage_sheet.specs.Sheet.{sheet}
 use Rattle.operations.specs.declared.Sheeted.{Sheeted}
 use Rattle.operations.specs.declared.Sheeted.the-variants.{Summed}
 use Rattle.operations.specs.Sheet.{sheeted}

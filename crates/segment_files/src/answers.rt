@@ -13,7 +13,7 @@ pub fn put_count(out: &mut [u8], at: usize, name: &[u8], n: u32) -> usize {
 // Writes the first n bytes. Where they are not taken, standard error has what failed and why.
 pub fn give(out: &[u8], n: usize, what: &[u8]) -> bool {
     if out.len() < n {
-        return true;
+        return false;
     }
     let done = io::write_all(STDOUT_FILENO, &out[0..n]);
     if !done {

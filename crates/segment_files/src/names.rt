@@ -14,7 +14,7 @@ pub fn texts_end() -> usize {
 // Text k: how many bytes were put at the front of the buffer, none where it cannot be read. A text that is longer than the buffer
 // is cut. With 65,536 bytes that changes no answer: a name that can be opened and its line feed have 4,096 bytes at most, and a
 // longer line among the first three makes its segment empty, so that test 10 or 11 refuses the call whatever the lines after it
-// say.
+// say. A fourth line that is cut is too long to be opened.
 pub fn read_text(k: usize, text: &mut [u8]) -> usize
     ensures { λ r. ⌜ r ≤ length (now (text .exit)) ⌝ }
 {

@@ -73,9 +73,9 @@ fn say_mapped(name: &[u8]) -> bool {
     give(&out, c, b"storage_map: cannot write the answer")
 }
 
-// Told on standard error, with the reason why the last call failed.
+// Told on standard error, with as much of the name as there is room for, and the reason why the last call failed.
 fn cannot_write(name: &[u8]) {
-    let mut out = io::large_buffer();
+    let mut out = io::buffer();
     let a = put(&mut out, 0, b"storage_map: cannot write ");
     let b = put(&mut out, a, name);
     if b <= out.len() {

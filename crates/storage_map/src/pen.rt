@@ -73,6 +73,7 @@ impl Pen {
             return self;
         }
         if out.len() < n {
+            self.failed = true;
             return self;
         }
         self.failed = !io::write_all(self.fd, &out[0..n]);

@@ -61,7 +61,7 @@ module _ (s regular alternate : List ℕ) (h : Accepted s regular alternate) whe
   near : over (blockptr s) blocks < 2 ^ 16
   near = omega (arith, h .owned .heap .top, h .owned .heap .room, h .owned .heap .short)
 
-  summed : SummedFrom blocks (sheetOf s)
+  summed : SummedFrom s blocks (sheetOf s)
   unfolding sheetOf
   summed =
       let r = array-sums s (blockptr s) false blocks (h .owned .heap .walk) near in
@@ -69,18 +69,15 @@ module _ (s regular alternate : List ℕ) (h : Accepted s regular alternate) whe
         arrays = rw (stored-arrays s blocks (h .owned .ring) stored) (r .0);
         slop = rw (stored-arrays s blocks (h .owned .ring) stored) (r .1);
         free = rw (stored-frees s blocks (h .owned .ring) stored) (free-sum s (blockptr s) false blocks (h .owned .heap .walk) near);
+        end = h .owned .heap .top;
       }
 
   total-is : sheetOf s .total + blockptr s ≡ sbase s
   unfolding sheetOf
   total-is = omega (arith, h .owned .heap .top, over-le (blockptr s) blocks)
 
-  end-is : sheetOf s .end ≡ 3
-  unfolding sheetOf
-  end-is = refl
-
   adds : sheetOf s .arrays + sheetOf s .slop + sheetOf s .free + sheetOf s .end ≡ sheetOf s .total
-  adds = omega (arith, summed .arrays, summed .slop, summed .free, end-is, total-is, covered (blockptr s) blocks, h .owned .heap .top)
+  adds = omega (arith, summed .arrays, summed .slop, summed .free, summed .end, total-is, covered (blockptr s) blocks)
 
   once : (x : ℕ) → x < 2 ^ 16 → 0 < count (arrayWord x) (owners s) → count x (arrayStarts s) ≡ 1
   once x l k =

@@ -1,14 +1,9 @@
 -- The sheet of small segments, by computation. Assumes nothing.
 use mathlib.Core.Path.{_≡_, refl}
-use Prim.Native.Nat.{ℕ}
 use lib.ListN.{set}
 use Rattle.acceptance_storage.specs.Blocks.{startsFrom, freeStarts, arrayStarts}
 use Rattle.acceptance_storage.specs.Examples.{small}
-use Rattle.storage_sheet.specs.declared.Sheet.{Sheet}
-use Rattle.storage_sheet.specs.Sheet.{sheetOf}
-
-abbrev pub sheet : ℕ → ℕ → ℕ → ℕ → ℕ → Sheet
-sheet arrays slop free end total = record { arrays = arrays; slop = slop; free = free; end = end; total = total }
+use Rattle.storage_sheet.specs.Sheet.{sheet, sheetOf}
 
 pub record Examples : Type 0 where
   -- a free block of 5 words, an array of SIZE 5 with one word of slop, the dummy: 14 words from 8 up to 22

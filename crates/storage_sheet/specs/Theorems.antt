@@ -5,8 +5,9 @@ use mathlib.Core.Path.{_≡_}
 use mathlib.Core.Bool.{true}
 use mathlib.Core.List.{List, [], _∷_}
 use Rattle.descriptor.specs.Fields.{arrayWord}
+use Rattle.segment.specs.State.{sbase, blockptr}
 use Rattle.segment.specs.View.{owners}
-use Rattle.storage.specs.Heap.{Block, free, array, count}
+use Rattle.storage.specs.Heap.{Block, free, array, over, count}
 use Rattle.acceptance_storage.specs.Blocks.{arrayStarts}
 use Rattle.acceptance_storage.specs.Room.{longEnough}
 use Rattle.acceptance.specs.Structure.{Accepted}
@@ -29,15 +30,17 @@ freeWords [] = 0
 freeWords (free size ∷ blocks) = size + freeWords blocks
 freeWords (array size slop ∷ blocks) = freeWords blocks
 
--- A sheet whose counts are the sums over these blocks.
-pub record SummedFrom (blocks : List Block) (sheet : Sheet) : Type 0 where
+-- A sheet whose first four counts are the sums over these blocks from BLOCKPTR up, and over the dummy, which goes from their end up to
+-- SBASE.
+pub record SummedFrom (s : List ℕ) (blocks : List Block) (sheet : Sheet) : Type 0 where
   pub arrays : sheet .arrays ≡ arrayWords blocks
   pub slop : sheet .slop ≡ slopWords blocks
   pub free : sheet .free ≡ freeWords blocks
+  pub end : over (blockptr s) blocks + sheet .end ≡ sbase s
 
 pub record SheetTheorems : Type 0 where
   -- "each summed from the blocks": the blocks that tile array storage
-  pub summed : (s regular alternate : List ℕ) (a : Accepted s regular alternate) → SummedFrom (a .owned .blocks) (sheetOf s)
+  pub summed : (s regular alternate : List ℕ) (a : Accepted s regular alternate) → SummedFrom s (a .owned .blocks) (sheetOf s)
   -- "the first four .. add up to the fifth"
   pub adds : (s regular alternate : List ℕ) → Accepted s regular alternate
       → sheetOf s .arrays + sheetOf s .slop + sheetOf s .free + sheetOf s .end ≡ sheetOf s .total
