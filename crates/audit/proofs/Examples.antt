@@ -76,6 +76,7 @@ computed = (
   record {
     m1 = record { word0 = refl; word1 = refl; word12 = refl; word13 = refl; word33 = refl; word34 = refl };
     m1Sheet = refl;
+    m1Spoilt = refl;
     m2 = record { onTop = record { done = refl; top = refl }; free = refl; array = refl; roverAt = refl };
     m2Sheet = refl;
     m3 = record { onTop = record { done = refl; top = refl }; free = refl; array = refl; roverAt = refl };

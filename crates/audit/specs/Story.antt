@@ -6,7 +6,7 @@ use mathlib.Core.List.{List, [], _∷_}
 use Rattle.descriptor.specs.Kinds.{segment}
 use Rattle.segment.specs.Blocks.{countAt}
 use Rattle.segment.specs.Parts.{shapePart, elementsPart}
-use Rattle.storage_sheet.specs.Sheet.{sheet}
+use Rattle.storage_sheet.specs.Sheet.{sheetWith}
 use Rattle.operations.specs.declared.Sheeted.the-variants.{Summed}
 use Rattle.operations.specs.declared.Run.the-variants.{Done}
 use Rattle.operations.specs.declared.Looked.the-variants.{Array}
@@ -41,9 +41,9 @@ pub record Story : Type 0 where
   pub copy : TellsVector (withCopy .words) 9 27 10 20 30
   pub count : countAt (withCopy .words) 27 ≡ 2
   -- counted once in the sheet
-  pub sheetShared : sheetBeside storyCode (withCopy .words) ≡ Summed (sheet 6 0 15 3 24)
+  pub sheetShared : sheetBeside storyCode (withCopy .words) ≡ Summed (sheetWith 6 0 15 3 24)
   pub writes : written .answer ≡ Done 4
   -- the copy has a block of its own now, and the list is as it was
   pub listAfter : TellsVector (written .words) 8 27 10 20 30
   pub copyAfter : TellsVector (written .words) 9 21 10 20 0
-  pub sheetAfter : sheetBeside storyCode (written .words) ≡ Summed (sheet 12 0 9 3 24)
+  pub sheetAfter : sheetBeside storyCode (written .words) ≡ Summed (sheetWith 12 0 9 3 24)

@@ -1,15 +1,15 @@
 -- The marked examples M1–M10 of document 01 as one table: a lay out, and runs of one to three instructions after it; and the sheet of
--- M1, as document 02 has it in paper 3, of M2 and of M4. By computation from the definitions of the operations. Assumes nothing.
+-- M1, as document 02 has it in paper 3, of M1 spoilt, of M2 and of M4. By computation from the definitions of the operations. Assumes nothing.
 use Prim.Native.Nat.{ℕ, _+_, _-_}
 use mathlib.Core.Path.{_≡_}
 use mathlib.Core.List.{List, [], _∷_, _++_}
-use lib.ListN.{getD, length, replicate}
+use lib.ListN.{getD, length, replicate, set}
 use Rattle.segment.specs.State.{sbase, ltop, rover, trapWord}
 use Rattle.scalar.specs.Value.{units}
 use Rattle.fresh_segment.specs.LayOut.{layout, laidOut}
-use Rattle.storage_sheet.specs.Sheet.{sheet}
+use Rattle.storage_sheet.specs.Sheet.{sheetWith}
 use Rattle.operations.specs.declared.Sheeted.{Sheeted}
-use Rattle.operations.specs.declared.Sheeted.the-variants.{Summed}
+use Rattle.operations.specs.declared.Sheeted.the-variants.{Summed, Refused}
 use Rattle.operations.specs.Sheet.{sheeted}
 use Rattle.operations.specs.declared.Run.the-variants.{Done, Trapped}
 use Rattle.operations.specs.Run.{Ended, ran}
@@ -71,15 +71,17 @@ pub record Traps (e : Ended) (steps word3 : ℕ) : Type 0 where
 pub record Table : Type 0 where
   -- lay out 64 words, 4 globals, 24 array words, one local
   pub m1 : Lays (laid [])
-  pub m1Sheet : sheetBeside [] (laid []) ≡ Summed (sheet 0 0 21 3 24)
+  pub m1Sheet : sheetBeside [] (laid []) ≡ Summed (sheetWith 0 0 21 3 24)
+  -- the dummy's last word is not 0
+  pub m1Spoilt : sheetBeside [] (set (laid []) 35 1) ≡ Refused 14
   -- then INDEXGEN of 5
   pub m2 : Makes (ranAfter 2 (0x40 ∷ 0x05 ∷ 0xA9 ∷ [])) 0x0200_0019 0x8000_000D 25 0x4000_0008
-  pub m2Sheet : sheetBeside (0x40 ∷ 0x05 ∷ 0xA9 ∷ []) (ranAfter 2 (0x40 ∷ 0x05 ∷ 0xA9 ∷ []) .words) ≡ Summed (sheet 8 0 13 3 24)
+  pub m2Sheet : sheetBeside (0x40 ∷ 0x05 ∷ 0xA9 ∷ []) (ranAfter 2 (0x40 ∷ 0x05 ∷ 0xA9 ∷ []) .words) ≡ Summed (sheetWith 8 0 13 3 24)
   -- INDEXGEN of 15, a need of 18 from 21, splits
   pub m3 : Makes (ranAfter 2 (0x40 ∷ 0x0F ∷ 0xA9 ∷ [])) 0x0200_000F 0x8000_0003 15 0x4000_0012
   -- INDEXGEN of 16, a need of 19, leaves slop 2: the whole block is given
   pub m4 : Makes (ranAfter 2 (0x40 ∷ 0x10 ∷ 0xA9 ∷ [])) 0x0200_000C 0x0002_0013 12 0x0002_0013
-  pub m4Sheet : sheetBeside (0x40 ∷ 0x10 ∷ 0xA9 ∷ []) (ranAfter 2 (0x40 ∷ 0x10 ∷ 0xA9 ∷ []) .words) ≡ Summed (sheet 19 2 0 3 24)
+  pub m4Sheet : sheetBeside (0x40 ∷ 0x10 ∷ 0xA9 ∷ []) (ranAfter 2 (0x40 ∷ 0x10 ∷ 0xA9 ∷ []) .words) ≡ Summed (sheetWith 19 2 0 3 24)
   -- 1 as a float: 1 divided by 1
   pub m5 : Sums (ranAfter 3 (0x40 ∷ 0x01 ∷ 0x40 ∷ 0x01 ∷ 0x6B ∷ [])) 0x6000_0000 1
   -- 1 divided by 2

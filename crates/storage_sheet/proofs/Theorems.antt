@@ -22,15 +22,15 @@ use Rattle.acceptance_storage.proofs.Room.{room-told}
 use Rattle.acceptance.specs.Structure.{Accepted}
 use Rattle.acceptance.proofs.Compared.{arrays-once}
 use Rattle.storage_sheet.specs.Sheet.{sumOf, sheetOf}
-use Rattle.storage_sheet.specs.Theorems.{arrayWords, slopWords, freeWords, SummedFrom, SheetTheorems}
+use Rattle.storage_sheet.specs.Theorems.{arraySizes, slops, freeSizes, SummedFrom, SheetTheorems}
 
 -- every word of the blocks is an array's, slop or free
-covered : (a : ℕ) (blocks : List Block) → a + arrayWords blocks + slopWords blocks + freeWords blocks ≡ over a blocks
+covered : (a : ℕ) (blocks : List Block) → a + arraySizes blocks + slops blocks + freeSizes blocks ≡ over a blocks
 covered a [] = omega arith
 covered a (free n ∷ blocks) = omega (arith, covered (a + n) blocks)
 covered a (array n slop ∷ blocks) = omega (arith, covered (a + (n + slop)) blocks)
 
-room-small : (blocks : List Block) (n : ℕ) → HasRoom blocks n → n ≤ freeWords blocks
+room-small : (blocks : List Block) (n : ℕ) → HasRoom blocks n → n ≤ freeSizes blocks
 room-small (free m ∷ blocks) n (inl h) = omega arith
 room-small (free m ∷ blocks) n (inr h) = omega (arith, room-small blocks n h)
 room-small (array m slop ∷ blocks) n h = room-small blocks n h
@@ -38,7 +38,7 @@ room-small (array m slop ∷ blocks) n h = room-small blocks n h
 -- the sums over the starts are those over the blocks
 module _ (s : List ℕ) where
   array-sums : (a : ℕ) (before : Bool) (blocks : List Block) → Walk s a before blocks → over a blocks < 2 ^ 16
-      → (sumOf (sizeAt s) (arrays a blocks) ≡ arrayWords blocks) × (sumOf (slopAt s) (arrays a blocks) ≡ slopWords blocks)
+      → (sumOf (sizeAt s) (arrays a blocks) ≡ arraySizes blocks) × (sumOf (slopAt s) (arrays a blocks) ≡ slops blocks)
   array-sums a before [] w l = (refl, refl)
   array-sums a before (free n ∷ blocks) w l = array-sums (a + n) true blocks (w .1) l
   array-sums a before (array n slop ∷ blocks) w l =
@@ -46,7 +46,7 @@ module _ (s : List ℕ) where
       let r = array-sums (a + (n + slop)) false blocks (w .1) l in
       (omega (arith, f .0, r .0), omega (arith, f .1, r .1))
 
-  free-sum : (a : ℕ) (before : Bool) (blocks : List Block) → Walk s a before blocks → over a blocks < 2 ^ 16 → sumOf (sizeAt s) (frees a blocks) ≡ freeWords blocks
+  free-sum : (a : ℕ) (before : Bool) (blocks : List Block) → Walk s a before blocks → over a blocks < 2 ^ 16 → sumOf (sizeAt s) (frees a blocks) ≡ freeSizes blocks
   free-sum a before [] w l = refl
   free-sum a before (free n ∷ blocks) w l = omega (arith, w .0 .first, over-le (a + n) blocks, free-sum (a + n) true blocks (w .1) l)
   free-sum a before (array n slop ∷ blocks) w l = free-sum (a + (n + slop)) false blocks (w .1) l

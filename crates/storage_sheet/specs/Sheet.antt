@@ -13,8 +13,9 @@ abbrev pub sumOf : (ℕ → ℕ) → List ℕ → ℕ
 sumOf number [] = 0
 sumOf number (x ∷ l) = number x + sumOf number l
 
-abbrev pub sheet : ℕ → ℕ → ℕ → ℕ → ℕ → Sheet
-sheet arrays slop free end total = record { arrays = arrays; slop = slop; free = free; end = end; total = total }
+-- The sheet with these counts.
+abbrev pub sheetWith : ℕ → ℕ → ℕ → ℕ → ℕ → Sheet
+sheetWith arrays slop free end total = record { arrays = arrays; slop = slop; free = free; end = end; total = total }
 
 unfoldable pub sheetOf : List ℕ → Sheet
 sheetOf s =

@@ -15,27 +15,27 @@ use Rattle.storage_sheet.specs.declared.Sheet.{Sheet}
 use Rattle.storage_sheet.specs.Sheet.{sheetOf}
 
 -- SIZE of the arrays, SLOP, and SIZE of the free blocks.
-abbrev pub arrayWords : List Block → ℕ
-arrayWords [] = 0
-arrayWords (free size ∷ blocks) = arrayWords blocks
-arrayWords (array size slop ∷ blocks) = size + arrayWords blocks
+abbrev pub arraySizes : List Block → ℕ
+arraySizes [] = 0
+arraySizes (free size ∷ blocks) = arraySizes blocks
+arraySizes (array size slop ∷ blocks) = size + arraySizes blocks
 
-abbrev pub slopWords : List Block → ℕ
-slopWords [] = 0
-slopWords (free size ∷ blocks) = slopWords blocks
-slopWords (array size slop ∷ blocks) = slop + slopWords blocks
+abbrev pub slops : List Block → ℕ
+slops [] = 0
+slops (free size ∷ blocks) = slops blocks
+slops (array size slop ∷ blocks) = slop + slops blocks
 
-abbrev pub freeWords : List Block → ℕ
-freeWords [] = 0
-freeWords (free size ∷ blocks) = size + freeWords blocks
-freeWords (array size slop ∷ blocks) = freeWords blocks
+abbrev pub freeSizes : List Block → ℕ
+freeSizes [] = 0
+freeSizes (free size ∷ blocks) = size + freeSizes blocks
+freeSizes (array size slop ∷ blocks) = freeSizes blocks
 
 -- A sheet whose first four counts are the sums over these blocks from BLOCKPTR up, and over the dummy, which goes from their end up to
 -- SBASE.
 pub record SummedFrom (s : List ℕ) (blocks : List Block) (sheet : Sheet) : Type 0 where
-  pub arrays : sheet .arrays ≡ arrayWords blocks
-  pub slop : sheet .slop ≡ slopWords blocks
-  pub free : sheet .free ≡ freeWords blocks
+  pub arrays : sheet .arrays ≡ arraySizes blocks
+  pub slop : sheet .slop ≡ slops blocks
+  pub free : sheet .free ≡ freeSizes blocks
   pub end : over (blockptr s) blocks + sheet .end ≡ sbase s
 
 pub record SheetTheorems : Type 0 where

@@ -17,16 +17,16 @@ take-spec =
     (tie.spec
     Inv-loop
     μ-loop
-    (λ c. search needs)  -- loop-holds
-    (λ c κs. search needs)  -- line-end-requires
-    (λ c. search needs)  -- add-next
-    (λ c. search needs)  -- sub-take-part
-    (λ c. search needs)  -- part-take-part-start
-    (λ c. search needs)  -- part-take-part-end
-    (λ c κs. search needs)  -- take-part-requires
-    (λ c. search needs)  -- loop-less
-    (λ c. search needs)  -- loop-again
-    (λ c. search needs)  -- same-length
-    (λ c. search needs)  -- same-length-2
-    (λ c. search needs)  -- same-length-3
-    (λ c. search needs))  -- returns
+    (λ c. search needs)
+    (λ c κs. search needs)
+    (λ c. search needs)
+    (λ c. search needs)
+    (λ c. search needs)
+    (λ c. search needs)
+    (λ c κs. search needs)
+    (λ c. search needs)
+    (λ c. search needs)
+    (λ c. search needs)
+    (λ c. search needs)
+    (λ c. search needs)
+    (λ c. search needs))

@@ -17,15 +17,15 @@ put-words-spec =
     (tie.spec
     Inv-loop
     μ-loop
-    (λ c. search needs)  -- returns
-    (λ c. search needs)  -- loop-holds
-    (λ c. search needs)  -- mul-word-at
-    (λ c. search needs)  -- cast-word-at
-    (λ c κs. search needs)  -- word-at-requires
-    (λ c. search needs)  -- mul-words
-    (λ c. search needs)  -- slice-write-words
-    (λ c. search needs)  -- add-i
-    (λ c. search needs)  -- loop-less
-    (λ c. search needs)  -- loop-again
-    (λ c. search needs)  -- same-length
-    (λ c. search needs))  -- returns-2
+    (λ c. search needs)
+    (λ c. search needs)
+    (λ c. search needs)
+    (λ c. search needs)
+    (λ c κs. search needs)
+    (λ c. search needs)
+    (λ c. search needs)
+    (λ c. search needs)
+    (λ c. search needs)
+    (λ c. search needs)
+    (λ c. search needs)
+    (λ c. search needs))

@@ -17,21 +17,21 @@ read-part-spec =
     (tie.spec
     Inv-loop
     μ-loop
-    (λ c. search needs)  -- loop-holds
-    (λ c. search needs)  -- sub-read
-    (λ c. search needs)  -- part-read-start
-    (λ c. search needs)  -- part-read-end
-    (λ c κs. search needs)  -- read-requires
-    (λ c. search needs)  -- same-length
-    (λ c. search needs)  -- returns
-    (λ c. search needs)  -- sub-count
-    (λ c. search needs)  -- part-count-start
-    (λ c. search needs)  -- part-count-end
-    (λ c κs. search needs)  -- count-requires
-    (λ c. search needs)  -- same-length-2
-    (λ c. search needs)  -- returns-2
-    (λ c. search needs)  -- add-n
-    (λ c. search needs)  -- loop-less
-    (λ c. search needs)  -- loop-again
-    (λ c. search needs)  -- same-length-3
-    (λ c. search needs))  -- returns-3
+    (λ c. search needs)
+    (λ c. search needs)
+    (λ c. search needs)
+    (λ c. search needs)
+    (λ c κs. search needs)
+    (λ c. search needs)
+    (λ c. search needs)
+    (λ c. search needs)
+    (λ c. search needs)
+    (λ c. search needs)
+    (λ c κs. search needs)
+    (λ c. search needs)
+    (λ c. search needs)
+    (λ c. search needs)
+    (λ c. search needs)
+    (λ c. search needs)
+    (λ c. search needs)
+    (λ c. search needs))

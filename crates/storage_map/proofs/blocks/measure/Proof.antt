@@ -15,17 +15,17 @@ measure-spec =
     (tie.spec
     Inv-loop
     μ-loop
-    (λ c κs. search needs)  -- dummy-requires
-    (λ c κs. search needs)  -- number-requires
-    (λ c κs. search needs)  -- blockptr-requires
-    (λ c κs. search needs)  -- number-requires-2
-    (λ c. search needs)  -- loop-holds
-    (λ c. search needs)  -- returns
-    (λ c κs. search needs)  -- block-at-requires
-    (λ c κs. search needs)  -- span-requires
-    (λ c κs. search needs)  -- greater-requires
-    (λ c. search needs)  -- add-a
-    (λ c. search needs)  -- add-blocks
-    (λ c. search needs)  -- loop-less
-    (λ c. search needs)  -- loop-again
-    (λ c. search needs))  -- returns-2
+    (λ c κs. search needs)
+    (λ c κs. search needs)
+    (λ c κs. search needs)
+    (λ c κs. search needs)
+    (λ c. search needs)
+    (λ c. search needs)
+    (λ c κs. search needs)
+    (λ c κs. search needs)
+    (λ c κs. search needs)
+    (λ c. search needs)
+    (λ c. search needs)
+    (λ c. search needs)
+    (λ c. search needs)
+    (λ c. search needs))

@@ -14,16 +14,16 @@ bar-from-spec =
     (tie.spec
     Inv-loop
     μ-loop
-    (λ c κs. search needs)  -- token-at-requires
-    (λ c. search needs)  -- loop-holds
-    (λ c κs. search needs)  -- is-empty-requires
-    (λ c. search needs)  -- returns
-    (λ c κs. search needs)  -- text-requires
-    (λ c. search needs)  -- slice-aggregate-is
-    (λ c κs. search needs)  -- is-requires
-    (λ c. search needs)  -- returns-2
-    (λ c κs. search needs)  -- token-at-requires-2
-    (λ c. search needs)  -- sub-left
-    (λ c. search needs)  -- loop-less
-    (λ c. search needs)  -- loop-again
-    (λ c. search needs))  -- returns-3
+    (λ c κs. search needs)
+    (λ c. search needs)
+    (λ c κs. search needs)
+    (λ c. search needs)
+    (λ c κs. search needs)
+    (λ c. search needs)
+    (λ c κs. search needs)
+    (λ c. search needs)
+    (λ c κs. search needs)
+    (λ c. search needs)
+    (λ c. search needs)
+    (λ c. search needs)
+    (λ c. search needs))
