@@ -6,6 +6,7 @@ ghost use Rattle.manual.specs.Values as values;
 ghost use Rattle.elements.specs.Answers.{results, pairwiseBy, Paired};
 ghost use Rattle.elements.specs.Parts.{Operands};
 use crate::Finished;
+use crate::comparisons;
 use crate::extension::extent;
 use crate::extension::pick;
 use crate::integers;
@@ -19,6 +20,9 @@ pub fn dyadic(op: Dyadic, a: &[u32], b: &[u32], out: &mut [u32]) -> Finished
 {
     let n = extent(a, b);
     if integers::all(op, a, b, n, out) {
+        return Finished::Done;
+    }
+    if comparisons::all(op, a, b, n, out) {
         return Finished::Done;
     }
     exact(op, a, b, n, out)

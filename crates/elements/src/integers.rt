@@ -7,9 +7,7 @@ ghost use Rattle.scalar.specs.Operators as S;
 ghost use Rattle.elements.specs.Parts.{Operands, Relied};
 use crate::extension::pick;
 use crate::words::difference_word;
-use crate::words::is_zero;
-use crate::words::oddness;
-use crate::words::product_oddness;
+use crate::words::product_size;
 use crate::words::product_word;
 use crate::words::sum_word;
 use operator::Dyadic;
@@ -28,11 +26,11 @@ pub fn all(operator: Dyadic, a: &[u32], b: &[u32], n: usize, out: &mut [u32]) ->
         Dyadic::Sum => sum(a, b, n, out),
         Dyadic::Difference => difference(a, b, n, out),
         Dyadic::Product => product(a, b, n, out),
-        Dyadic::Less => less(a, b, n, out),
-        Dyadic::Equal => equal(a, b, n, out),
         Dyadic::Quotient => false,
         Dyadic::LogicalProduct => false,
         Dyadic::LogicalSum => false,
+        Dyadic::Less => false,
+        Dyadic::Equal => false,
     }
 }
 
@@ -40,83 +38,48 @@ fn sum(a: &[u32], b: &[u32], n: usize, out: &mut [u32]) -> bool
     requires { ⌜ Operands (now a) (now b) n × (n ≤ length (now out)) × (n ≤ 65536) ⌝ }
     ensures { λ r. ⌜ Relied S.sum r (now (a .entry)) (now (b .entry)) (take n (now (out .exit))) ⌝ }
 {
-    let mut odd: u32 = 0;
+    let mut seen: u32 = 0;
     let mut i = 0;
     while i < n {
         let x = pick(a, i);
         let y = pick(b, i);
         let w = sum_word(x, y);
         out[i] = w;
-        odd += oddness(x, y, w);
+        seen = seen | x | y | w;
         i += 1;
     }
-    odd == 0
+    seen / 0x80_0000 % 0x100 == 0
 }
 
 fn difference(a: &[u32], b: &[u32], n: usize, out: &mut [u32]) -> bool
     requires { ⌜ Operands (now a) (now b) n × (n ≤ length (now out)) × (n ≤ 65536) ⌝ }
     ensures { λ r. ⌜ Relied S.difference r (now (a .entry)) (now (b .entry)) (take n (now (out .exit))) ⌝ }
 {
-    let mut odd: u32 = 0;
+    let mut seen: u32 = 0;
     let mut i = 0;
     while i < n {
         let x = pick(a, i);
         let y = pick(b, i);
         let d = difference_word(x, y);
         out[i] = d;
-        odd += oddness(x, y, d);
+        seen = seen | x | y | d;
         i += 1;
     }
-    odd == 0
-}
-
-// LESS and EQUAL go by the difference, and trap with it.
-fn less(a: &[u32], b: &[u32], n: usize, out: &mut [u32]) -> bool
-    requires { ⌜ Operands (now a) (now b) n × (n ≤ length (now out)) × (n ≤ 65536) ⌝ }
-    ensures { λ r. ⌜ Relied S.less r (now (a .entry)) (now (b .entry)) (take n (now (out .exit))) ⌝ }
-{
-    let mut odd: u32 = 0;
-    let mut i = 0;
-    while i < n {
-        let x = pick(a, i);
-        let y = pick(b, i);
-        let d = difference_word(x, y);
-        out[i] = d / 0x8000_0000;
-        odd += oddness(x, y, d);
-        i += 1;
-    }
-    odd == 0
-}
-
-fn equal(a: &[u32], b: &[u32], n: usize, out: &mut [u32]) -> bool
-    requires { ⌜ Operands (now a) (now b) n × (n ≤ length (now out)) × (n ≤ 65536) ⌝ }
-    ensures { λ r. ⌜ Relied S.equal r (now (a .entry)) (now (b .entry)) (take n (now (out .exit))) ⌝ }
-{
-    let mut odd: u32 = 0;
-    let mut i = 0;
-    while i < n {
-        let x = pick(a, i);
-        let y = pick(b, i);
-        let d = difference_word(x, y);
-        out[i] = is_zero(d);
-        odd += oddness(x, y, d);
-        i += 1;
-    }
-    odd == 0
+    seen / 0x80_0000 % 0x100 == 0
 }
 
 fn product(a: &[u32], b: &[u32], n: usize, out: &mut [u32]) -> bool
     requires { ⌜ Operands (now a) (now b) n × (n ≤ length (now out)) × (n ≤ 65536) ⌝ }
     ensures { λ r. ⌜ Relied S.product r (now (a .entry)) (now (b .entry)) (take n (now (out .exit))) ⌝ }
 {
-    let mut odd: u64 = 0;
+    let mut seen: u32 = 0; let mut large: u64 = 0;
     let mut i = 0;
     while i < n {
         let x = pick(a, i);
         let y = pick(b, i);
         out[i] = product_word(x, y);
-        odd += product_oddness(x, y);
+        seen = seen | x | y; large = large | product_size(x, y);
         i += 1;
     }
-    odd == 0
+    seen / 0x80_0000 % 0x100 == 0 && large / 0x80_0000 == 0
 }

@@ -1,4 +1,5 @@
 // Loops over the element words of arrays: parts of lent slices, with proved indices.
+mod comparisons;
 pub mod copies;
 pub mod dyadic;
 mod extension;

@@ -79,7 +79,7 @@ pub fn product_word(x: u32, y: u32) -> u32
     }
 }
 
-fn product_size(x: u32, y: u32) -> u64
+pub fn product_size(x: u32, y: u32) -> u64
     ensures { λ r. ⌜ (r ≡ magnitude x * magnitude y) × (r < 2 ^ 46) ⌝ }
 {
     (x % 0x80_0000) as u64 * (y % 0x80_0000) as u64

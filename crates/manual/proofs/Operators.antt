@@ -19,7 +19,7 @@ use Rattle.scalar.specs.declared.Answer.the-variants.{Word, Trap}
 use Rattle.scalar.specs.Value.{one, units, oneFloat}
 use Rattle.scalar.specs.Results.{integer, float, rounded, result}
 use Rattle.scalar.specs.Reading.{wholeOf, truthOf}
-use Rattle.scalar.specs.Operators.{number, numbers, identity, withSign, negative, ones, wholeNear, floor, ceiling, magnitudeOf, notTruth, notOf, testNumber, converted, convert, sumSign, sumSize, plus, sum, minus, difference, productSign, times, product, ratioOf, quotient, logical, logicalProduct, logicalSum, ifNegative, ifZero, less, equal, monadicOf, dyadicOf}
+use Rattle.scalar.specs.Operators.{number, numbers, identity, withSign, negative, ones, wholeNear, floor, ceiling, magnitudeOf, notTruth, notOf, testNumber, converted, convert, sumSign, sumSize, plus, sum, minus, difference, productSign, times, product, ratioOf, quotient, logical, logicalProduct, logicalSum, less, equal, monadicOf, dyadicOf}
 use Rattle.manual.specs.Values.{answered}
 use Rattle.manual.specs.Traps.{listed}
 use Rattle.manual.proofs.Lists.{Listed}
@@ -113,14 +113,6 @@ logical-listed f (T.Value p) T.Character = refl
 logical-listed f (T.Value p) T.Other = refl
 logical-listed f (T.Value p) (T.Value q) = tt
 
-negative-listed : (x : Answer) → Answers x → Answers (ifNegative x)
-negative-listed (Word w) h = tt
-negative-listed (Trap class number) h = h
-
-zero-listed : (x : Answer) → Answers x → Answers (ifZero x)
-zero-listed (Word w) h = tt
-zero-listed (Trap class number) h = h
-
 pub dyadic-answers : (op : Dyadic) (a b : ℕ) → Answers (dyadicOf op a b)
 unfolding sum difference times product quotient logicalProduct logicalSum less equal
 dyadic-answers D.Sum a b = numbers-listed a b _ (plus-listed (oneFloat a b) (sign a) (units a) (sign b) (units b))
@@ -129,5 +121,5 @@ dyadic-answers D.Product a b = numbers-listed a b _ (result-listed (oneFloat a b
 dyadic-answers D.Quotient a b = numbers-listed a b _ (ratio-listed a b)
 dyadic-answers D.LogicalProduct a b = logical-listed _&&_ (truthOf a) (truthOf b)
 dyadic-answers D.LogicalSum a b = logical-listed _||_ (truthOf a) (truthOf b)
-dyadic-answers D.Less a b = numbers-listed a b _ (negative-listed (minus a b) (minus-listed a b))
-dyadic-answers D.Equal a b = chosen (isCharacter a) _ _ tt (chosen (isCharacter b) _ _ tt (zero-listed (minus a b) (minus-listed a b)))
+dyadic-answers D.Less a b = numbers-listed a b _ tt
+dyadic-answers D.Equal a b = chosen (isCharacter a) _ _ tt (chosen (isCharacter b) _ _ tt tt)

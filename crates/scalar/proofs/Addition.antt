@@ -178,13 +178,13 @@ module _ (s t u v g e q f : ℕ) (x : u ≡ g * 2 ^ e) (y : v ≡ q * 2 ^ f) whe
 
 -- ---- the sum of two places on the line around 2 ^ 62
 
-place-plus : (s n : ℕ) → s ≡ 0 → signedPlace s n ≡ 2 ^ 62 + n
+place-plus : (s n : ℕ) → s ≡ 0 → signedPlace (2 ^ 62) s n ≡ 2 ^ 62 + n
 place-plus s n h = simp (eq-eqb s 0 h)
 
-place-minus : (s n : ℕ) → (s ≡ 0 → ⊥) → signedPlace s n ≡ 2 ^ 62 - n
+place-minus : (s n : ℕ) → (s ≡ 0 → ⊥) → signedPlace (2 ^ 62) s n ≡ 2 ^ 62 - n
 place-minus s n h = simp (ne-eqb s 0 h)
 
-pub place-lt : (s n : ℕ) → n < 2 ^ 62 → signedPlace s n < 2 ^ 63
+pub place-lt : (s n : ℕ) → n < 2 ^ 62 → signedPlace (2 ^ 62) s n < 2 ^ 63
 place-lt s n h = elim (ℕ-discrete s 0) [
   | yes e ↦ omega (arith, place-plus s n e)
   | no e ↦ omega (arith, place-minus s n e)
@@ -217,7 +217,7 @@ either P s h f g = ⊎-elim (λ (e : s ≡ 0). f e) (λ (l : 0 < s). g (omega ar
 
 module _ (s n t m : ℕ) (p : s < 2) (q : t < 2) (i : n < 2 ^ 62) (j : m < 2 ^ 62) where
   abbrev pub line : ℕ
-  line = signedPlace s n + signedPlace t m
+  line = signedPlace (2 ^ 62) s n + signedPlace (2 ^ 62) t m
 
   -- the sum has the sign g and the magnitude d
   made : (g d : ℕ) → Sum s n t m g d → Located line g d → d < 2 ^ 63 → SignedSum s n t m (1 - line / 2 ^ 63) (distanceOf line)
@@ -260,7 +260,7 @@ module _ (s n t m : ℕ) (p : s < 2) (q : t < 2) (i : n < 2 ^ 62) (j : m < 2 ^ 6
       (omega arith)
 
   -- from the places x and y, and the distance d
-  pub added : (x y d : ℕ) → x ≡ signedPlace s n → y ≡ signedPlace t m → d ≡ distanceOf (x + y) → SignedSum s n t m (1 - (x + y) / 2 ^ 63) d
+  pub added : (x y d : ℕ) → x ≡ signedPlace (2 ^ 62) s n → y ≡ signedPlace (2 ^ 62) t m → d ≡ distanceOf (x + y) → SignedSum s n t m (1 - (x + y) / 2 ^ 63) d
   unfolding Goal
   added x y d e f h =
       let k : x + y ≡ line = ap₂ _+_ e f in

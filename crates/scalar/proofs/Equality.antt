@@ -6,13 +6,14 @@ use lib.Dec.{eqb}
 use Rattle.descriptor.specs.Fields.{isCharacter}
 use Rattle.descriptor.specs.Kinds.{bit}
 use Rattle.scalar.specs.Value.{characterCode}
-use Rattle.scalar.specs.Operators.{comparison, ifZero, equal}
+use Rattle.scalar.specs.Order.{isEqual}
+use Rattle.scalar.specs.Operators.{equal}
 use Rattle.scalar.specs.declared.Answer.the-variants.{Word}
 
 module _ (a b : ℕ) where
-  by : (t u : Bool) → isCharacter a ≡ t → isCharacter b ≡ u → cond t (Word (bit (isCharacter b && eqb (characterCode a) (characterCode b)))) (cond u (Word 0) (ifZero (comparison a b))) ≡ equal a b
+  by : (t u : Bool) → isCharacter a ≡ t → isCharacter b ≡ u → cond t (Word (bit (isCharacter b && eqb (characterCode a) (characterCode b)))) (cond u (Word 0) (Word (bit (isEqual a b)))) ≡ equal a b
   unfolding equal
-  by t u h k = ap₂ (λ (x y : Bool). cond x (Word (bit (isCharacter b && eqb (characterCode a) (characterCode b)))) (cond y (Word 0) (ifZero (comparison a b)))) (sym h) (sym k)
+  by t u h k = ap₂ (λ (x y : Bool). cond x (Word (bit (isCharacter b && eqb (characterCode a) (characterCode b)))) (cond y (Word 0) (Word (bit (isEqual a b))))) (sym h) (sym k)
 
   pub equal-first : isCharacter a ≡ true → Word (bit (isCharacter b && eqb (characterCode a) (characterCode b))) ≡ equal a b
   equal-first h = by true (isCharacter b) h refl
@@ -20,7 +21,7 @@ module _ (a b : ℕ) where
   pub equal-second : isCharacter a ≡ false → isCharacter b ≡ true → Word 0 ≡ equal a b
   equal-second h k = by false true h k
 
-  pub equal-numbers : isCharacter a ≡ false → isCharacter b ≡ false → ifZero (comparison a b) ≡ equal a b
+  pub equal-numbers : isCharacter a ≡ false → isCharacter b ≡ false → Word (bit (isEqual a b)) ≡ equal a b
   equal-numbers h k = by false false h k
 
   -- two characters, or a character and a number

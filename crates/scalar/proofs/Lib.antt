@@ -10,3 +10,4 @@ pub mod Ones
 pub mod Integral
 pub mod Logical
 pub mod Equality
+pub mod Ordering

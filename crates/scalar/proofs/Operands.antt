@@ -66,17 +66,17 @@ first-plain a b h = ap (λ (t : Bool). t || isCharacter b) h
 -- ---- two words with bits 30–23 clear
 
 -- bits 30–23 of w are clear
-abbrev Small : ℕ → Type 0
+abbrev pub Small : ℕ → Type 0
 Small w = w / 2 ^ 23 % 2 ^ 8 ≡ 0
 
 small-plain : (w : ℕ) → Small w → isCharacter w ≡ false
 small-plain w h = sym (character-bits w) ∙ ne-eqb (w / 2 ^ 24 % 2 ^ 7) 1 (λ q. omega arith)
 
 module _ (a b : ℕ) (h : bothSmall a b ≡ true) where
-  small-first : Small a
+  pub small-first : Small a
   small-first = eqb-true (a / 2 ^ 23 % 2 ^ 8) 0 (both (eqb (a / 2 ^ 23 % 2 ^ 8) 0) (eqb (b / 2 ^ 23 % 2 ^ 8) 0) h .0)
 
-  small-second : Small b
+  pub small-second : Small b
   small-second = eqb-true (b / 2 ^ 23 % 2 ^ 8) 0 (both (eqb (a / 2 ^ 23 % 2 ^ 8) 0) (eqb (b / 2 ^ 23 % 2 ^ 8) 0) h .1)
 
   pub small-first-plain : isCharacter a ≡ false

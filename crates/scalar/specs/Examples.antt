@@ -7,6 +7,7 @@ use Rattle.scalar.specs.declared.Answer.the-variants.{Word, Trap}
 use Rattle.scalar.specs.declared.Whole.the-variants as W
 use Rattle.scalar.specs.declared.Truth.the-variants as T
 use Rattle.scalar.specs.Value.{units}
+use Rattle.scalar.specs.Order.{side, isBelow, isEqual}
 use Rattle.scalar.specs.Results.{integer, float, rounded, result}
 use Rattle.scalar.specs.Reading.{wholeUnits, wholeOf, truthUnits, truthOf}
 use Rattle.scalar.specs.Operators.{negative, ones, wholeNear, floor, ceiling, notOf, convert, sumSign, sumSize, plus, minus, times, sum, difference, product, ratioOf, quotient, logicalProduct, logicalSum, less, equal}
@@ -57,16 +58,13 @@ pub record Further : Type 0 where
   pub ordered : logicalProduct 2 0x01000041 ≡ Trap 7 0
   pub outside : logicalSum 2 1 ≡ Trap 8 5
   pub not-one : notOf 0x60000000 ≡ Word 0
-  -- -3 < 2.0; far apart, the difference traps
-  pub below : less 0x80000003 0x60400000 ≡ Word 1
-  pub apart : less 0x807fffff 0x007fffff ≡ Trap 8 1
   -- -2.0 is whole, 2.5 is not
   pub whole : wholeOf 0xe0400000 ≡ W.Number true 2
   pub fraction : wholeOf 0x60500000 ≡ W.Fraction
   pub true-float : truthOf 0x60000000 ≡ T.Value true
 
 pub further : Further
-unfolding units integer float rounded result wholeUnits wholeOf truthUnits truthOf negative ones wholeNear floor ceiling notOf convert sumSign sumSize plus minus times sum difference product ratioOf quotient logicalProduct logicalSum less equal size
+unfolding units integer float rounded result wholeUnits wholeOf truthUnits truthOf negative ones wholeNear floor ceiling notOf convert sumSign sumSize plus minus times sum difference product ratioOf quotient logicalProduct logicalSum side isEqual equal size
 further =
     record {
       halves = refl;
@@ -89,9 +87,61 @@ further =
       ordered = refl;
       outside = refl;
       not-one = refl;
-      below = refl;
-      apart = refl;
       whole = refl;
       fraction = refl;
       true-float = refl;
+    }
+
+-- LESS and EQUAL of numbers far apart and near, of which DIFFERENCE traps, and of an integer and a float.
+pub record Compared : Type 0 where
+  -- a large debit and a large credit: integers, and the greatest floats
+  pub debit-below : less 0x807fffff 0x007fffff ≡ Word 1
+  pub credit-above : less 0x007fffff 0x807fffff ≡ Word 0
+  pub debit-unequal : equal 0x807fffff 0x007fffff ≡ Word 0
+  pub debit-difference : difference 0x807fffff 0x007fffff ≡ Trap 8 1
+  pub far-below : less 0xffffffff 0x7fffffff ≡ Word 1
+  pub far-above : less 0x7fffffff 0xffffffff ≡ Word 0
+  pub far-unequal : equal 0xffffffff 0x7fffffff ≡ Word 0
+  pub far-difference : difference 0xffffffff 0x7fffffff ≡ Trap 8 3
+  -- the least float and the next
+  pub near-below : less 0x40000000 0x40000001 ≡ Word 1
+  pub near-unequal : equal 0x40000000 0x40000001 ≡ Word 0
+  pub near-difference : difference 0x40000000 0x40000001 ≡ Trap 8 2
+  -- -3 and 2.0; 8,388,607 and the same as a float, and 8,388,608; -1 and the float below it
+  pub mixed : less 0x80000003 0x60400000 ≡ Word 1
+  pub whole-equal : equal 0x007fffff 0x65bfffff ≡ Word 1
+  pub whole-level : less 0x007fffff 0x65bfffff ≡ Word 0
+  pub next : less 0x007fffff 0x65c00000 ≡ Word 1
+  pub lower-float : less 0xe0000001 0x80000001 ≡ Word 1
+  -- no number is below itself, zero neither
+  pub level : less 0x65c00001 0x65c00001 ≡ Word 0
+  pub zero-level : less 0 0 ≡ Word 0
+  -- a character is not ordered
+  pub typed-first : less 0x01000041 0x7fffffff ≡ Trap 7 0
+  pub typed-second : less 0x7fffffff 0x01000041 ≡ Trap 7 0
+
+pub compared : Compared
+unfolding units integer float rounded result sumSign sumSize plus minus difference side isBelow isEqual less equal size
+compared =
+    record {
+      debit-below = refl;
+      credit-above = refl;
+      debit-unequal = refl;
+      debit-difference = refl;
+      far-below = refl;
+      far-above = refl;
+      far-unequal = refl;
+      far-difference = refl;
+      near-below = refl;
+      near-unequal = refl;
+      near-difference = refl;
+      mixed = refl;
+      whole-equal = refl;
+      whole-level = refl;
+      next = refl;
+      lower-float = refl;
+      level = refl;
+      zero-level = refl;
+      typed-first = refl;
+      typed-second = refl;
     }

@@ -1,6 +1,6 @@
 -- The sixteen operators of the GENSCALAR family on scalars, in the manual's order and words. Operand a is the first.
 -- A reader must believe: each is the manual's, with document 01's zero and the order of decision 17 (each line of a trap
--- list is judged over both operands before the next). Assumes nothing.
+-- list is judged over both operands before the next), but for LESS and EQUAL, which are paper 4's. Assumes nothing.
 use Prim.Native.Nat.{ℕ, _+_, _-_, _*_, _/_, _%_, _^_}
 use mathlib.Core.Bool.{Bool, true, false, cond, not, _&&_, _||_}
 use lib.Dec.{ltb, eqb}
@@ -11,6 +11,7 @@ use Rattle.operator.specs.declared.Monadic.the-variants as M
 use Rattle.operator.specs.declared.Dyadic.{Dyadic}
 use Rattle.operator.specs.declared.Dyadic.the-variants as D
 use Rattle.scalar.specs.Value.{one, units, oneFloat, characterCode}
+use Rattle.scalar.specs.Order.{isBelow, isEqual}
 use Rattle.scalar.specs.Results.{typeError, zeroDivisor, domainError, integer, rounded, result}
 use Rattle.scalar.specs.Reading.{wholeOf, truthOf}
 use Rattle.scalar.specs.declared.Whole.{Whole}
@@ -139,27 +140,15 @@ logicalProduct a b = logical _&&_ (truthOf a) (truthOf b)
 unfoldable pub logicalSum : ℕ → ℕ → Answer
 logicalSum a b = logical _||_ (truthOf a) (truthOf b)
 
--- The comparison of two numbers: the word of a number that is negative, zero or positive as a is below, equal to or above
--- b, or a trap. By the manual it is their difference.
-abbrev pub comparison : ℕ → ℕ → Answer
-comparison a b = minus a b
-
-abbrev pub ifNegative : Answer → Answer
-ifNegative (Word w) = Word (sign w)
-ifNegative (Trap c n) = Trap c n
-
-abbrev pub ifZero : Answer → Answer
-ifZero (Word w) = Word (bit (eqb w 0))
-ifZero (Trap c n) = Trap c n
-
+-- Of two numbers, by their exact values: LESS traps for a character alone, EQUAL never.
 unfoldable pub less : ℕ → ℕ → Answer
-less a b = numbers a b (ifNegative (comparison a b))
+less a b = numbers a b (Word (bit (isBelow a b)))
 
 -- "A character scalar is equal only to another character scalar possessing the same character code."
 unfoldable pub equal : ℕ → ℕ → Answer
 equal a b =
     cond (isCharacter a) (Word (bit (isCharacter b && eqb (characterCode a) (characterCode b))))
-    (cond (isCharacter b) (Word 0) (ifZero (comparison a b)))
+    (cond (isCharacter b) (Word 0) (Word (bit (isEqual a b))))
 
 -- ---- all of them
 

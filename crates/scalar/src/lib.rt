@@ -5,6 +5,7 @@ ghost use Rattle.scalar.specs.Operators as S;
 mod characters;
 mod comparisons;
 mod logic;
+pub mod order;
 mod products;
 pub mod reading;
 mod results;

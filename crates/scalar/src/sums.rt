@@ -46,14 +46,14 @@ pub fn difference(a: u32, b: u32) -> Answer
 }
 
 // The difference of two numbers.
-pub fn minus(a: u32, b: u32) -> Answer
+fn minus(a: u32, b: u32) -> Answer
     ensures { λ r. ⌜ r ≡ S.minus a b ⌝ }
 {
     plus(a / 0x8000_0000, a, 1 - b / 0x8000_0000, b)
 }
 
 // The difference of two integers.
-pub fn integer_difference(a: u32, b: u32) -> Answer
+fn integer_difference(a: u32, b: u32) -> Answer
     ensures { λ r. ⌜ r ≡ S.plus false (sign a) (magnitude a * one) (1 - sign b) (magnitude b * one) ⌝ }
 {
     integer_sum(
@@ -65,7 +65,7 @@ pub fn integer_difference(a: u32, b: u32) -> Answer
 }
 
 // The sum of two integers.
-pub fn integer_sum(s: u32, n: u32, t: u32, m: u32) -> Answer
+fn integer_sum(s: u32, n: u32, t: u32, m: u32) -> Answer
     requires { ⌜ (s < 2) × (t < 2) × (n < 2 ^ 23) × (m < 2 ^ 23) ⌝ }
     ensures { λ r. ⌜ r ≡ S.plus false s (n * one) t (m * one) ⌝ }
 {
@@ -151,7 +151,7 @@ fn add_signed(s: u32, n: u64, t: u32, m: u64) -> Signed
 
 fn place(s: u32, n: u64) -> u64
     requires { ⌜ n < 2 ^ 62 ⌝ }
-    ensures { λ r. ⌜ r ≡ signedPlace s n ⌝ }
+    ensures { λ r. ⌜ r ≡ signedPlace (2 ^ 62) s n ⌝ }
 {
     if s == 0 {
         0x4000_0000_0000_0000 + n

@@ -1,9 +1,10 @@
--- LESS and EQUAL look at the word of the difference, which has the sign of the exact difference and is 0 only where that is.
+-- LESS and EQUAL by the places on the line, and by the word of the difference, which has the sign of the exact difference and
+-- is 0 only where that is.
 use Prim.Native.Nat.{ℕ, _+_, _-_, _*_, _/_, _%_, _^_, _≤_, _<_}
 use mathlib.Core.Path.{_≡_, refl, sym, ap, ap₂, _∙_, subst}
 use mathlib.Core.Bool.{Bool, true, false, cond, _||_}
 use mathlib.Core.Logic.{⊎-elim}
-use native.Mathlib.Nat.{eq-zero-or-pos, zero-mul, mul-pos}
+use native.Mathlib.Nat.{eq-zero-or-pos, zero-mul, mul-pos, le-of-lt}
 use native.Mathlib.Decide.{ℕ-discrete}
 use native.Mathlib.Omega.{arith}
 use borrow.Author.Tests.{lt-ltb, le-ltb, eq-eqb, ne-eqb}
@@ -14,44 +15,75 @@ use Rattle.descriptor.specs.Kinds.{bit}
 use Rattle.descriptor.proofs.Truth.{neither}
 use Rattle.scalar.specs.Value.{one, units, oneFloat}
 use Rattle.scalar.specs.Results.{integer, rounded, typeError}
-use Rattle.scalar.specs.Operators.{sumSign, sumSize, plus, minus, difference, less, equal, comparison, ifNegative, ifZero}
+use Rattle.scalar.specs.Order.{side, isBelow, isEqual}
+use Rattle.scalar.specs.Operators.{sumSign, sumSize, plus, minus, difference, less, equal}
 use Rattle.scalar.specs.Parts.{oneCharacter}
 use Rattle.scalar.specs.declared.Answer.the-variants.{Word}
 use Rattle.scalar.proofs.Operands.{numbers-plain, numbers-character, first-float, second-float}
 use Rattle.scalar.proofs.Rounding.{rounded-none}
 use Rattle.scalar.proofs.Addition.{like, less as lower, more, cases, sign-lt, scaled, plus-float, plus-integers, minus-integers, either}
 use Rattle.scalar.proofs.Equality.{equal-numbers}
+use Rattle.scalar.proofs.Ordering.{Follows, follows-ltb, follows-eqb, placed}
 use Rattle.scalar.proofs.Units.{units-integer}
 use Rattle.scalar_theorems.specs.Line.{middle, linePlace}
 use Rattle.scalar_theorems.specs.Comparing.{Compares}
 use Rattle.scalar_theorems.proofs.Words.{never, same-word, integer-word, rounded-word, float-pos, below-middle}
 
--- ---- the order of two places, by the sign g and the magnitude d of the difference
+-- ---- numbers, by their places on the line
+
+itself : {p q : ℕ} → Follows p q p q
+itself = record { up = λ l. l; same = λ e. e; down = λ l. l }
+
+module _ (a b : ℕ) (p : isCharacter a ≡ false) (q : isCharacter b ≡ false) where
+  less-numbers : Word (bit (isBelow a b)) ≡ less a b
+  unfolding less
+  less-numbers = sym (numbers-plain a b (Word (bit (isBelow a b))) (ap₂ _||_ p q))
+
+  on-line : Follows (linePlace a) (linePlace b) (side a b) (side b a)
+  unfolding linePlace side
+  on-line = placed middle (sign a) (sign b) (le-of-lt (below-middle a)) (le-of-lt (below-middle b)) itself itself itself
+
+  less-line : less a b ≡ Word (bit (ltb (linePlace a) (linePlace b)))
+  unfolding isBelow
+  less-line = sym (ap (λ (t : Bool). Word (bit t)) (follows-ltb on-line) ∙ less-numbers)
+
+  equal-line : equal a b ≡ Word (bit (eqb (linePlace a) (linePlace b)))
+  unfolding isEqual
+  equal-line = sym (ap (λ (t : Bool). Word (bit t)) (follows-eqb on-line) ∙ equal-numbers a b p q)
+
+-- ---- the order of two sides, by the sign g and the magnitude d of the difference
 
 pub record Ordered (x y g d : ℕ) : Type 0 where
   pub same : d ≡ 0 → x ≡ y
   pub below : 0 < d → g ≡ 1 → x < y
   pub above : 0 < d → g ≡ 0 → y < x
 
--- the place of a magnitude with a sign, on a line with zero at m
-abbrev at : ℕ → ℕ → ℕ → ℕ
-at m s a = cond (eqb s 0) (m + a) (m - a)
+-- the side of a first number, of magnitude a with the sign s, against a second, of magnitude b with the sign r
+abbrev sideOf : ℕ → ℕ → ℕ → ℕ → ℕ
+sideOf s a r b = cond (eqb s 0) a 0 + cond (eqb r 0) 0 b
 
-at-plus : (m s a : ℕ) → s ≡ 0 → at m s a ≡ m + a
-at-plus m s a h = simp (eq-eqb s 0 h)
+module _ (s a r b : ℕ) where
+  both-plus : s ≡ 0 → r ≡ 0 → sideOf s a r b ≡ a
+  both-plus h k = simp (eq-eqb s 0 h, eq-eqb r 0 k) (omega arith)
 
-at-minus : (m s a : ℕ) → (s ≡ 0 → ⊥) → at m s a ≡ m - a
-at-minus m s a h = simp (ne-eqb s 0 h)
+  plus-minus : s ≡ 0 → r ≡ 1 → sideOf s a r b ≡ a + b
+  plus-minus h k = simp (eq-eqb s 0 h, ne-eqb r 0 (λ z. omega arith))
 
-module _ (m s a r b : ℕ) (p : s < 2) (q : r < 2) (i : a < m) (j : b < m) where
+  minus-plus : s ≡ 1 → r ≡ 0 → sideOf s a r b ≡ 0
+  minus-plus h k = simp (ne-eqb s 0 (λ z. omega arith), eq-eqb r 0 k)
+
+  both-minus : s ≡ 1 → r ≡ 1 → sideOf s a r b ≡ b
+  both-minus h k = simp (ne-eqb s 0 (λ z. omega arith), ne-eqb r 0 (λ z. omega arith)) (omega arith)
+
+module _ (s a r b : ℕ) (p : s < 2) (q : r < 2) where
   Goal : Type 0
-  Goal = Ordered (at m s a) (at m r b) (sumSign s a (1 - r) b) (sumSize s a (1 - r) b)
+  Goal = Ordered (sideOf s a r b) (sideOf r b s a) (sumSign s a (1 - r) b) (sumSize s a (1 - r) b)
 
   -- the signs, and the sum that they make
-  by : (g d x y : ℕ) → sumSign s a (1 - r) b ≡ g → sumSize s a (1 - r) b ≡ d → at m s a ≡ x → at m r b ≡ y → Ordered x y g d → Goal
+  by : (g d x y : ℕ) → sumSign s a (1 - r) b ≡ g → sumSize s a (1 - r) b ≡ d → sideOf s a r b ≡ x → sideOf r b s a ≡ y → Ordered x y g d → Goal
   unfolding Goal
   by g d x y e f u v o =
-      subst (λ (z : ℕ). Ordered z (at m r b) (sumSign s a (1 - r) b) (sumSize s a (1 - r) b)) (sym u)
+      subst (λ (z : ℕ). Ordered z (sideOf r b s a) (sumSign s a (1 - r) b) (sumSize s a (1 - r) b)) (sym u)
       (subst (λ (z : ℕ). Ordered x z (sumSign s a (1 - r) b) (sumSize s a (1 - r) b)) (sym v)
       (subst (λ (z : ℕ). Ordered x y z (sumSize s a (1 - r) b)) (sym e) (subst (λ (z : ℕ). Ordered x y g z) (sym f) o)))
 
@@ -59,22 +91,22 @@ module _ (m s a r b : ℕ) (p : s < 2) (q : r < 2) (i : a < m) (j : b < m) where
   alike e =
       let k = like s a (1 - r) b e in
       either Goal s p
-      (λ z. by s (a + b) (m + a) (m - b) (k .0) (k .1) (at-plus m s a z) (at-minus m r b (λ y. omega arith)) (record { same = λ d. omega arith; below = λ d g. absurd (omega arith); above = λ d g. omega arith }))
-      (λ z. by s (a + b) (m - a) (m + b) (k .0) (k .1) (at-minus m s a (λ y. omega arith)) (at-plus m r b (omega arith)) (record { same = λ d. omega arith; below = λ d g. omega arith; above = λ d g. absurd (omega arith) }))
+      (λ z. by s (a + b) (a + b) 0 (k .0) (k .1) (plus-minus s a r b z (omega arith)) (minus-plus r b s a (omega arith) z) (record { same = λ d. d; below = λ d g. absurd (omega arith); above = λ d g. d }))
+      (λ z. by s (a + b) 0 (b + a) (k .0) (k .1) (minus-plus s a r b z (omega arith)) (plus-minus r b s a (omega arith) z) (record { same = λ d. omega arith; below = λ d g. omega arith; above = λ d g. absurd (omega arith) }))
 
   lesser : (s ≡ 1 - r → ⊥) → a < b → Goal
   lesser e l =
       let k = lower s a (1 - r) b e l in
       either Goal s p
-      (λ z. by (1 - r) (b - a) (m + a) (m + b) (k .0) (k .1) (at-plus m s a z) (at-plus m r b (omega (arith, e))) (record { same = λ d. omega arith; below = λ d g. omega arith; above = λ d g. absurd (e (omega arith)) }))
-      (λ z. by (1 - r) (b - a) (m - a) (m - b) (k .0) (k .1) (at-minus m s a (λ y. omega arith)) (at-minus m r b (λ y. e (omega arith))) (record { same = λ d. omega arith; below = λ d g. absurd (e (omega arith)); above = λ d g. omega arith }))
+      (λ z. by (1 - r) (b - a) a b (k .0) (k .1) (both-plus s a r b z (omega (arith, e))) (both-plus r b s a (omega (arith, e)) z) (record { same = λ d. omega arith; below = λ d g. l; above = λ d g. absurd (e (omega arith)) }))
+      (λ z. by (1 - r) (b - a) b a (k .0) (k .1) (both-minus s a r b z (omega (arith, e))) (both-minus r b s a (omega (arith, e)) z) (record { same = λ d. omega arith; below = λ d g. absurd (e (omega arith)); above = λ d g. l }))
 
   greater : (s ≡ 1 - r → ⊥) → b ≤ a → Goal
   greater e l =
       let k = more s a (1 - r) b e l in
       either Goal s p
-      (λ z. by s (a - b) (m + a) (m + b) (k .0) (k .1) (at-plus m s a z) (at-plus m r b (omega (arith, e))) (record { same = λ d. omega arith; below = λ d g. absurd (omega arith); above = λ d g. omega arith }))
-      (λ z. by s (a - b) (m - a) (m - b) (k .0) (k .1) (at-minus m s a (λ y. omega arith)) (at-minus m r b (λ y. e (omega arith))) (record { same = λ d. omega arith; below = λ d g. omega arith; above = λ d g. absurd (omega arith) }))
+      (λ z. by s (a - b) a b (k .0) (k .1) (both-plus s a r b z (omega (arith, e))) (both-plus r b s a (omega (arith, e)) z) (record { same = λ d. omega arith; below = λ d g. absurd (omega arith); above = λ d g. omega arith }))
+      (λ z. by s (a - b) b a (k .0) (k .1) (both-minus s a r b z (omega (arith, e))) (both-minus r b s a (omega (arith, e)) z) (record { same = λ d. omega arith; below = λ d g. omega arith; above = λ d g. absurd (omega arith) }))
 
   ordered : Goal
   ordered = cases s a (1 - r) b Goal alike lesser greater
@@ -175,43 +207,49 @@ module _ (a b w : ℕ) (fa : a < 2 ^ 32) (fb : b < 2 ^ 32) (h : difference a b �
     | no p ↦ floating (first-float a b p)
   ]
 
-  order : Ordered (linePlace a) (linePlace b) g d
-  unfolding linePlace g d Goal
-  order = ordered middle (sign a) (units a) (sign b) (units b) (omega arith) (omega arith) (below-middle a) (below-middle b)
+  order : Ordered (side a b) (side b a) g d
+  unfolding side g d Goal
+  order = ordered (sign a) (units a) (sign b) (units b) (omega arith) (omega arith)
 
   -- ---- both agree, by whether the difference is zero, and its sign
 
   Agrees : Type 0
-  Agrees = (sign w ≡ bit (ltb (linePlace a) (linePlace b))) × (bit (eqb w 0) ≡ bit (eqb (linePlace a) (linePlace b)))
+  Agrees = (bit (isBelow a b) ≡ sign w) × (bit (isEqual a b) ≡ bit (eqb w 0))
 
   agrees : Agrees
-  unfolding Agrees
+  unfolding Agrees isBelow isEqual
   agrees = ⊎-elim
       (λ (z : d ≡ 0). let k = told .none z in let o = order .same z in (
-        ap sign k ∙ sym (ap bit (le-ltb (linePlace a) (linePlace b) (omega arith))),
-        ap bit (eq-eqb w 0 k) ∙ sym (ap bit (eq-eqb (linePlace a) (linePlace b) o)),
+        ap bit (le-ltb (side a b) (side b a) (omega arith)) ∙ sym (ap sign k),
+        ap bit (eq-eqb (side a b) (side b a) o) ∙ sym (ap bit (eq-eqb w 0 k)),
       ))
-      (λ (z : 0 < d). either ((sign w ≡ bit (ltb (linePlace a) (linePlace b))) × (bit (eqb w 0) ≡ bit (eqb (linePlace a) (linePlace b)))) g g-lt
+      (λ (z : 0 < d). either ((bit (ltb (side a b) (side b a)) ≡ sign w) × (bit (eqb (side a b) (side b a)) ≡ bit (eqb w 0))) g g-lt
       (λ e. let o = order .above z e in (
-        told .signed z ∙ e ∙ sym (ap bit (le-ltb (linePlace a) (linePlace b) (omega arith))),
+        ap bit (le-ltb (side a b) (side b a) (omega arith)) ∙ sym (told .signed z ∙ e),
         differ z (λ y. omega arith),
       ))
       (λ e. let o = order .below z e in (
-        told .signed z ∙ e ∙ sym (ap bit (lt-ltb (linePlace a) (linePlace b) o)),
+        ap bit (lt-ltb (side a b) (side b a) o) ∙ sym (told .signed z ∙ e),
         differ z (λ y. omega arith),
       )))
       (eq-zero-or-pos d)
     where
-      differ : 0 < d → (linePlace a ≡ linePlace b → ⊥) → bit (eqb w 0) ≡ bit (eqb (linePlace a) (linePlace b))
-      differ z n = let k = told .some z in ap bit (ne-eqb w 0 (λ y. omega arith)) ∙ sym (ap bit (ne-eqb (linePlace a) (linePlace b) n))
+      differ : 0 < d → (side a b ≡ side b a → ⊥) → bit (eqb (side a b) (side b a)) ≡ bit (eqb w 0)
+      differ z n = let k = told .some z in ap bit (ne-eqb (side a b) (side b a) n) ∙ sym (ap bit (ne-eqb w 0 (λ y. omega arith)))
 
-  less-is : less a b ≡ Word (bit (ltb (linePlace a) (linePlace b)))
-  unfolding less Agrees
-  less-is = numbers-plain a b (ifNegative (comparison a b)) plain ∙ ap ifNegative given ∙ ap (λ (x : ℕ). Word x) (agrees .0)
+  first-number : isCharacter a ≡ false
+  first-number = neither (isCharacter a) (isCharacter b) plain .0
 
-  equal-is : equal a b ≡ Word (bit (eqb (linePlace a) (linePlace b)))
+  second-number : isCharacter b ≡ false
+  second-number = neither (isCharacter a) (isCharacter b) plain .1
+
+  less-by : less a b ≡ Word (sign w)
   unfolding Agrees
-  equal-is = sym (equal-numbers a b (neither (isCharacter a) (isCharacter b) plain .0) (neither (isCharacter a) (isCharacter b) plain .1)) ∙ ap ifZero given ∙ ap (λ (x : ℕ). Word x) (agrees .1)
+  less-by = sym (less-numbers a b first-number second-number) ∙ ap Word (agrees .0)
+
+  equal-by : equal a b ≡ Word (bit (eqb w 0))
+  unfolding Agrees
+  equal-by = sym (equal-numbers a b first-number second-number) ∙ ap Word (agrees .1)
 
 pub compares : Compares
-compares = record { less = λ a b w p q h. less-is a b w p q h; equal = λ a b w p q h. equal-is a b w p q h }
+compares = record { less-exact = less-line; equal-exact = equal-line; less-difference = less-by; equal-difference = equal-by }

@@ -19,7 +19,8 @@ use Rattle.operator.specs.declared.Dyadic.the-variants as D
 use Rattle.scalar.specs.Value.{one, units, oneFloat, characterCode}
 use Rattle.scalar.specs.Results.{typeError, zeroDivisor, domainError, integer, rounded, result}
 use Rattle.scalar.specs.Reading.{wholeOf, truthOf}
-use Rattle.scalar.specs.Operators.{number, numbers, identity, negative, withSign, ones, wholeNear, floor, ceiling, magnitudeOf, notTruth, notOf, testNumber, characterOf, converted, convert, sumSign, sumSize, plus, sum, minus, difference, productSign, times, product, ratioOf, quotient, logical, logicalProduct, logicalSum, comparison, ifNegative, ifZero, less, equal, monadicOf, dyadicOf}
+use Rattle.scalar.specs.Order.{isBelow, isEqual}
+use Rattle.scalar.specs.Operators.{number, numbers, identity, negative, withSign, ones, wholeNear, floor, ceiling, magnitudeOf, notTruth, notOf, testNumber, characterOf, converted, convert, sumSign, sumSize, plus, sum, minus, difference, productSign, times, product, ratioOf, quotient, logical, logicalProduct, logicalSum, less, equal, monadicOf, dyadicOf}
 use Rattle.scalar.specs.Parts.{oneCharacter}
 use Rattle.scalar.specs.declared.Whole.{Whole}
 use Rattle.scalar.specs.declared.Whole.the-variants as W
@@ -197,22 +198,14 @@ module _ (a b w : ℕ) (va : Valid a) (vb : Valid b) where
   logical-valid f (T.Value p) T.Other h = absurd (never h refl)
   logical-valid f (T.Value p) (T.Value q) h = at-word h refl (valid-bit (f p q))
 
-  negative-valid : (x : Answer) → minus a b ≡ x → ifNegative x ≡ Word w → Valid w
-  negative-valid (Word u) e h = at-word h refl (valid-sign u (minus-valid u e .word))
-  negative-valid (Trap c n) e h = absurd (never h refl)
-
-  zero-valid : (x : Answer) → ifZero x ≡ Word w → Valid w
-  zero-valid (Word u) h = at-word h refl (valid-bit (eqb u 0))
-  zero-valid (Trap c n) h = absurd (never h refl)
-
   equal-valid : equal a b ≡ Word w → Valid w
   unfolding equal
   equal-valid h = go (isCharacter a) (isCharacter b) h
     where
-      go : (t u : Bool) → cond t (Word (bit (u && eqb (characterCode a) (characterCode b)))) (cond u (Word 0) (ifZero (comparison a b))) ≡ Word w → Valid w
+      go : (t u : Bool) → cond t (Word (bit (u && eqb (characterCode a) (characterCode b)))) (cond u (Word 0) (Word (bit (isEqual a b)))) ≡ Word w → Valid w
       go true u k = at-word k refl (valid-bit (u && eqb (characterCode a) (characterCode b)))
       go false true k = at-word k refl (valid-bit false)
-      go false false k = zero-valid (comparison a b) k
+      go false false k = at-word k refl (valid-bit (isEqual a b))
 
   dyadic-valid : (o : Dyadic) → dyadicOf o a b ≡ Word w → Valid w
   unfolding sum difference product quotient logicalProduct logicalSum less
@@ -222,7 +215,7 @@ module _ (a b w : ℕ) (va : Valid a) (vb : Valid b) where
   dyadic-valid D.Quotient h = ratio-valid (both _ h)
   dyadic-valid D.LogicalProduct h = logical-valid _&&_ (truthOf a) (truthOf b) h
   dyadic-valid D.LogicalSum h = logical-valid _||_ (truthOf a) (truthOf b) h
-  dyadic-valid D.Less h = negative-valid (minus a b) refl (both _ h)
+  dyadic-valid D.Less h = at-word (both _ h) refl (valid-bit (isBelow a b))
   dyadic-valid D.Equal h = equal-valid h
 
 pub valid-results : ValidResults

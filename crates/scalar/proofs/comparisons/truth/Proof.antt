@@ -1,0 +1,11 @@
+use Rattle.scalar.proofs.comparisons.truth.Statement.{statement}
+use Rattle.scalar.proofs.comparisons.truth.Tie as tie
+
+returns : tie.Need-returns
+returns c = simp (c .if1 .taken)
+
+returns-2 : tie.Need-returns-2
+returns-2 c = simp (c .if1 .left)
+
+pub truth-spec : {M : Type 1} → statement M
+truth-spec = tie.close (tie.spec returns returns-2)
