@@ -1,23 +1,19 @@
 -- The words that the fast loops store are those of the operators, for integers whose result is an integer.
 use Prim.Native.Nat.{ℕ, _+_, _-_, _*_, _/_, _%_, _^_, _≤_, _<_, min}
-use native.Mathlib.Nat.{mod-eq-of-lt, lt-of-le-of-lt, le-of-lt, mul-le-mul-left, mul-lt-mul-of-pos-right}
-use lib.Pow.{pow-pos}
+use native.Mathlib.Nat.{mod-eq-of-lt}
 use native.Mathlib.Omega.{arith}
 use mathlib.Core.Path.{_≡_, refl, sym, ap, ap₂, _∙_}
 use mathlib.Core.Bool.{false, _||_}
-use lib.Dec.{eqb}
 use borrow.Author.Tests.{eq-eqb, ne-eqb, lt-ltb}
 use Rattle.descriptor.specs.Fields.{sign, magnitude, isCharacter}
-use Rattle.descriptor.specs.Kinds.{bit}
 use Rattle.scalar.specs.Value.{units, oneFloat}
 use Rattle.scalar.specs.declared.Answer.{Answer}
 use Rattle.scalar.specs.declared.Answer.the-variants.{Word}
 use Rattle.scalar.specs.Results.{integer}
-use Rattle.scalar.specs.Operators.{sumSign, sumSize, plus, minus, times, sum, difference, product, productSign, less as lessOf, equal, ifNegative, ifZero, numbers}
+use Rattle.scalar.specs.Operators.{sumSign, sumSize, plus, minus, times, sum, difference, product, productSign, numbers}
 use Rattle.scalar.proofs.Operands.{character-bits, numbers-plain}
 use Rattle.scalar.proofs.Addition.{like, less, more, cases, either, plus-integers, sum-integers, minus-integers}
 use Rattle.scalar.proofs.Multiplication.{product-integer}
-use Rattle.scalar.proofs.Equality.{equal-numbers}
 use Rattle.elements.specs.Parts.{Plain, Offset, Back}
 
 -- ---- the word of a signed magnitude
@@ -106,7 +102,7 @@ module _ (n m o q r : ℕ) (hn : n < 2 ^ 23) (hm : m < 2 ^ 23) (b : Back (o + q)
 no-float : (x : ℕ) → Plain x → x / 2 ^ 30 % 2 ≡ 0
 no-float x p = omega arith
 
-no-character : (x : ℕ) → Plain x → isCharacter x ≡ false
+pub no-character : (x : ℕ) → Plain x → isCharacter x ≡ false
 no-character x p = sym (character-bits x) ∙ ne-eqb (x / 2 ^ 24 % 2 ^ 7) 1 (λ e. omega arith)
 
 -- two plain words are numbers
@@ -140,24 +136,11 @@ module _ (x y o q r : ℕ) (hx : x < 2 ^ 32) (hy : y < 2 ^ 32) (ox : Offset (x /
       ∙ any-sign (x % 2 ^ 23) (y % 2 ^ 23) o (2 ^ 25 - q) r (omega arith) (omega arith) b pr (x / 2 ^ 31) (1 - y / 2 ^ 31) (omega arith) (omega arith) ox
       (negated (y / 2 ^ 31) (y % 2 ^ 23) q (omega arith) (omega arith) oy)
 
--- ---- what goes by the difference d
-
-module _ (x y d : ℕ) (px : Plain x) (py : Plain y) (e : minus x y ≡ Word d) where
-  pub difference-by : difference x y ≡ Word d
-  unfolding difference
-  difference-by = plain-numbers x y (minus x y) px py ∙ e
-
-  pub less-by : lessOf x y ≡ Word (d / 2 ^ 31)
-  unfolding lessOf
-  less-by = plain-numbers x y (ifNegative (minus x y)) px py ∙ ap ifNegative e
-
-  pub equal-by : equal x y ≡ Word (bit (eqb d 0))
-  equal-by = sym (equal-numbers x y (no-character x px) (no-character y py)) ∙ ap ifZero e
+pub difference-by : (x y d : ℕ) → Plain x → Plain y → minus x y ≡ Word d → difference x y ≡ Word d
+unfolding difference
+difference-by x y d p q e = plain-numbers x y (minus x y) p q ∙ e
 
 -- ---- products
-
-pub small-product : {m n : ℕ} → m < 2 ^ 23 → n < 2 ^ 23 → m * n < 2 ^ 46
-small-product {m} {n} p q = lt-of-le-of-lt (mul-le-mul-left m (le-of-lt q)) (mul-lt-mul-of-pos-right p (pow-pos 23))
 
 -- from the product p of the magnitudes, of which the lowest 23 bits are taken
 module _ (x y p r : ℕ) (px : Plain x) (py : Plain y) (e : p ≡ magnitude x * magnitude y) (h : magnitude x * magnitude y < 2 ^ 23) where

@@ -2,8 +2,10 @@
 pub mod Filling
 pub mod Collecting
 pub mod Fast
+pub mod Seen
 pub mod Testing
 pub mod Lengths
 pub mod Places
 pub mod Integral
+pub mod Compared
 pub mod Conformity

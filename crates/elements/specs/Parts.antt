@@ -2,8 +2,9 @@
 -- Assumes nothing.
 use Prim.Native.Nat.{ℕ, _+_, _/_, _%_, _^_, _<_, _≤_, max}
 use mathlib.Core.Path.{_≡_}
-use mathlib.Core.Bool.{Bool, true, cond}
+use mathlib.Core.Bool.{Bool, true, cond, _||_}
 use mathlib.Core.List.{List, [], _∷_}
+use lib.Dec.{eqb}
 use lib.ListN.{length}
 use Rattle.scalar.specs.declared.Answer.{Answer}
 use Rattle.scalar.specs.declared.Whole.{Whole}
@@ -30,6 +31,10 @@ Relied f says a b words = says ≡ true → gives words ≡ pairwise (λ x y. an
 -- Bits 30–23 are clear: an integer's word, if it is a scalar's.
 abbrev pub Plain : ℕ → Type 0
 Plain w = w / 2 ^ 23 % 2 ^ 8 ≡ 0
+
+-- From the bits that any of some words has, and those that all have: they are integers' words, or floats', if they are scalars'.
+abbrev pub oneKind : ℕ → ℕ → Bool
+oneKind any every = eqb (any / 2 ^ 23 % 2 ^ 8) 0 || eqb (every / 2 ^ 30 % 2) 1
 
 -- o is 2 ^ 24 plus the number of sign s and magnitude n.
 pub record Offset (s n o : ℕ) : Type 0 where

@@ -1,22 +1,24 @@
-// Fast loops for LESS and EQUAL, without branches. They compare words by their places, which is right for integers and for
-// floats; what bits any word has, and what bits all have, tells whether they were.
+// Fast loops for LESS and EQUAL, without branches. They go by the places of words, which is right among integers and among
+// floats, and keep which bits any word had and which all had: these tell whether it was.
+ghost use mathlib.Core.Path.{_≡_};
 ghost use Prim.Native.Nat.{_≤_};
 ghost use lib.ListN.{length, take};
 ghost use Rattle.scalar.specs.Operators as S;
-ghost use Rattle.elements.specs.Parts.{Operands, Relied};
+ghost use Rattle.elements.specs.Parts.{Operands, Relied, oneKind};
 use crate::extension::pick;
+use crate::words::plain;
 use operator::Dyadic;
 use scalar::order::is_below;
 use scalar::order::is_level;
 use segment::word;
 
-// The results of n pairs, and true, if the operator compares and all are integers, or all floats; else false. Operands
-// that do not start so are not tried.
+// The results of n pairs, and true, if the operator compares and all are integers or all are floats; else false. Operands of
+// which the first elements are not so are not tried.
 pub fn all(operator: Dyadic, a: &[u32], b: &[u32], n: usize, out: &mut [u32]) -> bool
-    requires { ⌜ Operands (now a) (now b) n × (n ≤ length (now out)) × (n ≤ 65536) ⌝ }
+    requires { ⌜ Operands (now a) (now b) n × (n ≤ length (now out)) ⌝ }
     ensures { λ r. ⌜ Relied (S.dyadicOf operator) r (now (a .entry)) (now (b .entry)) (take n (now (out .exit))) ⌝ }
 {
-    if !alike(word(a, 0) | word(b, 0), word(a, 0) & word(b, 0)) {
+    if !one_kind(word(a, 0) | word(b, 0), word(a, 0) & word(b, 0)) {
         return false;
     }
     match operator {
@@ -27,7 +29,7 @@ pub fn all(operator: Dyadic, a: &[u32], b: &[u32], n: usize, out: &mut [u32]) ->
 }
 
 fn less(a: &[u32], b: &[u32], n: usize, out: &mut [u32]) -> bool
-    requires { ⌜ Operands (now a) (now b) n × (n ≤ length (now out)) × (n ≤ 65536) ⌝ }
+    requires { ⌜ Operands (now a) (now b) n × (n ≤ length (now out)) ⌝ }
     ensures { λ r. ⌜ Relied S.less r (now (a .entry)) (now (b .entry)) (take n (now (out .exit))) ⌝ }
 {
     let mut any: u32 = 0;
@@ -41,11 +43,11 @@ fn less(a: &[u32], b: &[u32], n: usize, out: &mut [u32]) -> bool
         every = every & x & y;
         i += 1;
     }
-    alike(any, every)
+    one_kind(any, every)
 }
 
 fn equal(a: &[u32], b: &[u32], n: usize, out: &mut [u32]) -> bool
-    requires { ⌜ Operands (now a) (now b) n × (n ≤ length (now out)) × (n ≤ 65536) ⌝ }
+    requires { ⌜ Operands (now a) (now b) n × (n ≤ length (now out)) ⌝ }
     ensures { λ r. ⌜ Relied S.equal r (now (a .entry)) (now (b .entry)) (take n (now (out .exit))) ⌝ }
 {
     let mut any: u32 = 0;
@@ -59,10 +61,12 @@ fn equal(a: &[u32], b: &[u32], n: usize, out: &mut [u32]) -> bool
         every = every & x & y;
         i += 1;
     }
-    alike(any, every)
+    one_kind(any, every)
 }
 
-// No word has one of bits 30-23, or all have bit 30.
-fn alike(any: u32, every: u32) -> bool {
-    any / 0x80_0000 % 0x100 == 0 || every / 0x4000_0000 % 2 == 1
+// No word had one of bits 30-23, as with integers, or all had bit 30, as with floats.
+fn one_kind(any: u32, every: u32) -> bool
+    ensures { λ r. ⌜ r ≡ oneKind any every ⌝ }
+{
+    plain(any) || every / 0x4000_0000 % 2 == 1
 }

@@ -1,19 +1,17 @@
-// The words of integer results, without branches, and whether they can be relied on.
+// The words of integer results, without branches.
 ghost use mathlib.Core.Path.{_≡_};
-ghost use mathlib.Core.Bool.{true};
 ghost use Prim.Native.Nat.{_*_, _/_, _%_, _^_, _<_};
 ghost use lib.Dec.{eqb};
 ghost use Rattle.descriptor.specs.Fields.{magnitude};
-ghost use Rattle.descriptor.specs.Kinds.{bit};
 ghost use Rattle.scalar.specs.declared.Answer.the-variants.{Word};
 ghost use Rattle.scalar.specs.Operators as S;
 ghost use Rattle.elements.specs.Parts.{Plain, Offset, Back};
 
-// Zero if three words have bits 30-23 clear.
-pub fn oddness(x: u32, y: u32, w: u32) -> u32
-    ensures { λ r. ⌜ (r < 1024) × (r ≡ 0 → Plain x × Plain y × Plain w) ⌝ }
+// Bits 30-23 are clear.
+pub fn plain(w: u32) -> bool
+    ensures { λ r. ⌜ r ≡ eqb (w / 2 ^ 23 % 2 ^ 8) 0 ⌝ }
 {
-    x / 0x80_0000 % 0x100 + y / 0x80_0000 % 0x100 + w / 0x80_0000 % 0x100
+    w / 0x80_0000 % 0x100 == 0
 }
 
 // The word of the sum of two integers, and of the difference, if all three words have bits 30-23 clear.
@@ -53,21 +51,7 @@ fn back(t: u32) -> u32
     }
 }
 
-// 1 for zero, else 0.
-pub fn is_zero(w: u32) -> u32
-    ensures { λ r. ⌜ r ≡ bit (eqb w 0) ⌝ }
-{
-    if w == 0 { 1 } else { 0 }
-}
-
-// Zero if two words have bits 30-23 clear and the product of their magnitudes is below 2^23.
-pub fn product_oddness(x: u32, y: u32) -> u64
-    ensures { λ r. ⌜ (r < 2 ^ 24) × (r ≡ 0 → Plain x × Plain y × (magnitude x * magnitude y < 2 ^ 23)) ⌝ }
-{
-    (x / 0x80_0000 % 0x100 + y / 0x80_0000 % 0x100) as u64 + product_size(x, y) / 0x80_0000
-}
-
-// The word of the product, if the oddness is zero.
+// The word of the product of two integers, if the product of their magnitudes is below 2^23.
 pub fn product_word(x: u32, y: u32) -> u32
     ensures { λ r. ⌜ (Plain x → Plain y → magnitude x * magnitude y < 2 ^ 23 → S.product x y ≡ Word r) ⌝ }
 {
@@ -79,8 +63,9 @@ pub fn product_word(x: u32, y: u32) -> u32
     }
 }
 
+// The product of two magnitudes.
 pub fn product_size(x: u32, y: u32) -> u64
-    ensures { λ r. ⌜ (r ≡ magnitude x * magnitude y) × (r < 2 ^ 46) ⌝ }
+    ensures { λ r. ⌜ r ≡ magnitude x * magnitude y ⌝ }
 {
     (x % 0x80_0000) as u64 * (y % 0x80_0000) as u64
 }

@@ -6,14 +6,14 @@ use Rattle.elements.proofs.dyadic.dyadic.Tie as tie
 extent-requires : tie.Need-extent-requires
 extent-requires c κs = search needs
 
-all-requires : tie.Need-all-requires
-all-requires c κs = let s = c .before .before .before .before .before in (operands (s .pre .0) (c .before .extent .ensures), search needs, search needs)
+fast-requires : tie.Need-fast-requires
+fast-requires c κs = let s = c .before .before .before .before .before in (operands (s .pre .0) (c .before .extent .ensures), search needs)
 
 same-length : tie.Need-same-length
 same-length c = search needs
 
 returns : tie.Need-returns
-returns c = rw (← c .before .before .before .before .before .extent .ensures) (c .before .before .before .all .ensures (c .if1 .taken))
+returns c = rw (← c .before .before .before .before .before .extent .ensures) (c .before .before .before .fast .ensures (c .if1 .taken))
 
 exact-requires : tie.Need-exact-requires
 exact-requires c κs = let s = c .before .before .before .before .before .before .before .before .before .before in (operands (s .pre .0) (c .before .before .before .before .before .before .extent .ensures), search needs)
@@ -29,7 +29,7 @@ dyadic-spec =
     tie.close
     (tie.spec
     extent-requires
-    all-requires
+    fast-requires
     same-length
     returns
     exact-requires

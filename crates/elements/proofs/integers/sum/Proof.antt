@@ -1,25 +1,28 @@
 use Prim.Native.Nat.{_-_}
+use mathlib.Core.Path.{sym, _∙_}
 use native.Mathlib.Omega.{arith}
+use borrow.Author.Tests.{eqb-true}
 use borrow.Author.Needs.{needs}
 use Rattle.scalar.specs.Operators.{sum}
+use Rattle.elements.specs.Parts.{Plain}
 use Rattle.elements.proofs.Fast.{Fast, begins, first-there, second-there, goes-on, ends}
+use Rattle.elements.proofs.Seen.{plain-result}
 use Rattle.elements.proofs.integers.sum.Statement.{statement}
 use Rattle.elements.proofs.integers.sum.Tie as tie
 
 abbrev Inv-loop : tie.InvT-loop
-Inv-loop a b n out₀ odd₀ i₀ out odd i = Fast sum 1024 a b n out₀ out odd i
+Inv-loop a b n out₀ seen₀ i₀ out seen i = Fast sum (Plain seen) a b n out₀ out i
 
 abbrev μ-loop : tie.MeasureT-loop
-μ-loop a b n out₀ odd₀ i₀ out odd i = n - i
+μ-loop a b n out₀ seen₀ i₀ out seen i = n - i
 
 loop-again : tie.Need-loop-again Inv-loop μ-loop
 loop-again c =
-    let w = c .before in
-    let y = w .before in
+    let y = c .before in
     let x = y .before in
     let l = x .before in
-    goes-on (l .before .loop .inv) (l .loop-test .taken) (x .pick .ensures) (y .pick2 .ensures) (c .oddness .ensures .0)
-    (λ z. let p = c .oddness .ensures .1 z in w .sum-word .ensures (p .0) (p .1) (p .2))
+    goes-on (l .before .loop .inv) (l .loop-test .taken) (x .pick .ensures) (y .pick2 .ensures)
+    (λ z. let p = plain-result _ _ _ _ z in (p .0, c .sum-word .ensures (p .1) (p .2) (p .3)))
 
 pub sum-spec : {M : Type 1} → statement M
 sum-spec =
@@ -33,10 +36,9 @@ sum-spec =
     (λ c κs. search needs)
     (λ c. omega arith)
     (λ c. omega arith)
-    (λ c κs. search needs)
-    (λ c. omega arith)
     (λ c. omega arith)
     (λ c. omega arith)
     loop-again
-    (λ c. c .before .loop .inv .kept)
-    (λ c. ends (c .before .loop .inv) (omega arith)))
+    (λ c κs. search needs)
+    (λ c. c .before .before .loop .inv .kept)
+    (λ c. ends (c .before .before .loop .inv) (omega arith) (λ t. eqb-true _ _ (sym (c .plain .ensures) ∙ t))))

@@ -1,5 +1,4 @@
 use Rattle.scalar.proofs.Multiplication.{short-product}
-use Rattle.elements.proofs.Integral.{small-product}
 use Prim.Native.Nat.{_-_}
 use mathlib.Core.Path.{refl}
 use native.Mathlib.Omega.{arith}
@@ -18,7 +17,7 @@ mul-result : tie.Need-mul-result
 mul-result c = short-product (omega arith) (omega arith)
 
 returns : tie.Need-returns
-returns c = (refl, small-product (omega arith) (omega arith))
+returns c = refl
 
 pub product-size-spec : {M : Type 1} → statement M
 product-size-spec = tie.close (tie.spec cast-result cast-result-2 mul-result returns)

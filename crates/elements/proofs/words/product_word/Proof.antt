@@ -22,10 +22,10 @@ add-result-2 : tie.Need-add-result-2
 add-result-2 c = search needs
 
 returns : tie.Need-returns
-returns c = λ p q h. fast-product (c .before .before .args .x) (c .before .before .args .y) (c .before .product-size .result) 0 p q (c .before .product-size .ensures .0) h (λ z. refl) (λ k. absurd (k (c .if1 .taken)))
+returns c = λ p q h. fast-product (c .before .before .args .x) (c .before .before .args .y) (c .before .product-size .result) 0 p q (c .before .product-size .ensures) h (λ z. refl) (λ k. absurd (k (c .if1 .taken)))
 
 returns-2 : tie.Need-returns-2
-returns-2 c = λ p q h. fast-product (c .before .before .args .x) (c .before .before .args .y) (c .before .product-size .result) _ p q (c .before .product-size .ensures .0) h (λ z. absurd (c .if1 .left z)) (λ k. refl)
+returns-2 c = λ p q h. fast-product (c .before .before .args .x) (c .before .before .args .y) (c .before .product-size .result) _ p q (c .before .product-size .ensures) h (λ z. absurd (c .if1 .left z)) (λ k. refl)
 
 pub product-word-spec : {M : Type 1} → statement M
 product-word-spec =

@@ -1,0 +1,47 @@
+use Prim.Native.Nat.{_-_}
+use mathlib.Core.Path.{_≡_, sym, ap, _∙_}
+use mathlib.Core.Bool.{Bool, true}
+use native.Mathlib.Omega.{arith}
+use borrow.Author.Needs.{needs}
+use Rattle.descriptor.specs.Kinds.{bit}
+use Rattle.scalar.specs.declared.Answer.the-variants.{Word}
+use Rattle.scalar.specs.Operators.{less}
+use Rattle.elements.specs.Parts.{oneKind}
+use Rattle.elements.proofs.Fast.{Fast, begins, first-there, second-there, goes-on, ends}
+use Rattle.elements.proofs.Compared.{with-both, fast-less}
+use Rattle.elements.proofs.comparisons.less.Statement.{statement}
+use Rattle.elements.proofs.comparisons.less.Tie as tie
+
+abbrev Inv-loop : tie.InvT-loop
+Inv-loop a b n out₀ any₀ every₀ i₀ out any every i = Fast less (oneKind any every ≡ true) a b n out₀ out i
+
+abbrev μ-loop : tie.MeasureT-loop
+μ-loop a b n out₀ any₀ every₀ i₀ out any every i = n - i
+
+loop-again : tie.Need-loop-again Inv-loop μ-loop
+loop-again c =
+    let y = c .before in
+    let x = y .before in
+    let l = x .before in
+    goes-on (l .before .loop .inv) (l .loop-test .taken) (x .pick .ensures) (y .pick2 .ensures)
+    (λ z. let p = with-both (l .before .loop .any) (l .before .loop .every) (x .pick .result) (y .pick2 .result) z in (p .0, fast-less (p .1) ∙ ap (λ (t : Bool). Word (bit t)) (sym (c .is-below .ensures))))
+
+pub less-spec : {M : Type 1} → statement M
+less-spec =
+    tie.close
+    (tie.spec
+    Inv-loop
+    μ-loop
+    (λ c. begins (c .before .before .before .pre .0) (omega arith))
+    (λ c κs. first-there (c .before .loop .inv) (c .loop-test .taken))
+    (λ c κs. second-there (c .before .before .loop .inv) (c .before .loop-test .taken))
+    (λ c κs. search needs)
+    (λ c. search needs)
+    (λ c. omega arith)
+    (λ c. omega arith)
+    (λ c. omega arith)
+    (λ c. omega arith)
+    loop-again
+    (λ c κs. search needs)
+    (λ c. c .before .before .loop .inv .kept)
+    (λ c. ends (c .before .before .loop .inv) (omega arith) (λ t. sym (c .one-kind .ensures) ∙ t)))
