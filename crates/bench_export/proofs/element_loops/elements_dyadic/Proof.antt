@@ -5,7 +5,7 @@ use Rattle.bench_export.proofs.element_loops.elements_dyadic.Tie as tie
 
 dyadic-requires : tie.Need-dyadic-requires
 dyadic-requires c κs =
-    let fits = c .before .before .before .before .results .ensures (omega arith) in (fits .0, omega (arith, fits .1), omega (arith, fits .1))
+    let fits = c .before .before .before .before .results .ensures (omega arith) in (fits .0, omega (arith, fits .1))
 
 pub elements-dyadic-spec : {M : Type 1} → statement M
 elements-dyadic-spec =

@@ -20,7 +20,7 @@ elements-of-requires-3 c κs = search needs
 dyadic-requires : tie.Need-dyadic-requires
 dyadic-requires c κs =
     let few = elements-few _ _ (c .before .before .before .before .before .before .before .pre .0 .2) (c .before .before .before .before .before .before .before .pre .0 .3) _ refl in
-    rw (c .before .before .before .elements-of .ensures, c .before .before .elements-of2 .ensures) (c .before .before .before .before .before .before .before .pre .1 .0, omega (arith, c .before .before .before .before .before .before .before .pre .1 .1), omega (arith, c .before .before .before .before .before .before .before .pre .1 .1))
+    rw (c .before .before .before .elements-of .ensures, c .before .before .elements-of2 .ensures) (c .before .before .before .before .before .before .before .pre .1 .0, omega (arith, c .before .before .before .before .before .before .before .pre .1 .1))
 
 slice-reshare-prefix-replace-by-elements : tie.Need-slice-reshare-prefix-replace-by-elements
 slice-reshare-prefix-replace-by-elements c = omega (arith, elements-few _ _ (c .before .before .before .before .before .before .before .before .before .before .before .pre .0 .2) (c .before .before .before .before .before .before .before .before .before .before .before .pre .0 .3) _ (c .before .before .before .before .before .elements-of3 .ensures))

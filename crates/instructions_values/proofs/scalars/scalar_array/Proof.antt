@@ -17,7 +17,7 @@ slice-aggregate-dyadic : tie.Need-slice-aggregate-dyadic
 slice-aggregate-dyadic c = search needs
 
 dyadic-requires : tie.Need-dyadic-requires
-dyadic-requires c κs = (single-first _ _, omega (arith, elements-few _ _ (c .before .before .before .before .before .before .pre .0) (c .before .before .before .before .before .before .pre .1) _ (c .before .before .elements-of .ensures)), omega (arith, elements-few _ _ (c .before .before .before .before .before .before .pre .0) (c .before .before .before .before .before .before .pre .1) _ (c .before .before .elements-of .ensures)))
+dyadic-requires c κs = (single-first _ _, omega (arith, elements-few _ _ (c .before .before .before .before .before .before .pre .0) (c .before .before .before .before .before .before .pre .1) _ (c .before .before .elements-of .ensures)))
 
 slice-reshare-prefix-replace-by-elements : tie.Need-slice-reshare-prefix-replace-by-elements
 slice-reshare-prefix-replace-by-elements c = omega (arith, elements-few _ _ (c .before .before .before .before .before .before .before .before .before .before .pre .0) (c .before .before .before .before .before .before .before .before .before .before .pre .1) _ (c .before .before .before .before .before .before .elements-of .ensures))
