@@ -1,7 +1,7 @@
 -- What the bits that any of some words has, and those that all have, tell of each of them.
-use Prim.Native.Nat.{ℕ, _+_, _/_, _%_, _^_, _≤_, _<_}
+use Prim.Native.Nat.{ℕ, _/_, _%_, _^_, _≤_, _<_}
 use native.Mathlib.Omega.{arith}
-use mathlib.Core.Path.{_≡_, sym, ap, _∙_, subst}
+use mathlib.Core.Path.{_≡_, sym, ap, _∙_}
 use lib.Bits.{bitAnd, bitOr, and-le-l, and-le-r, or-add-and, or-shr, or-mod, and-shr, and-mod}
 use Rattle.elements.specs.Parts.{Plain}
 
@@ -17,16 +17,14 @@ small-both a b h = (omega (arith, h, or-first a b), omega (arith, h, or-second a
 module _ (a b : ℕ) where
   pub plain-both : Plain (bitOr a b) → Plain a × Plain b
   plain-both h =
-      let p : bitOr (a / 2 ^ 23 % 2 ^ 8) (b / 2 ^ 23 % 2 ^ 8) ≡ 0 = sym (ap (λ (x : ℕ). x % 2 ^ 8) (or-shr a b 23) ∙ or-mod (a / 2 ^ 23) (b / 2 ^ 23) 8) ∙ h in
-      (
+      let p : bitOr (a / 2 ^ 23 % 2 ^ 8) (b / 2 ^ 23 % 2 ^ 8) ≡ 0 = sym (ap (λ (x : ℕ). x % 2 ^ 8) (or-shr a b 23) ∙ or-mod (a / 2 ^ 23) (b / 2 ^ 23) 8) ∙ h in (
         omega (arith, p, or-first (a / 2 ^ 23 % 2 ^ 8) (b / 2 ^ 23 % 2 ^ 8)),
         omega (arith, p, or-second (a / 2 ^ 23 % 2 ^ 8) (b / 2 ^ 23 % 2 ^ 8)),
       )
 
   pub float-both : bitAnd a b / 2 ^ 30 % 2 ≡ 1 → (a / 2 ^ 30 % 2 ≡ 1) × (b / 2 ^ 30 % 2 ≡ 1)
   float-both h =
-      let p : bitAnd (a / 2 ^ 30 % 2) (b / 2 ^ 30 % 2) ≡ 1 = sym (ap (λ (x : ℕ). x % 2) (and-shr a b 30) ∙ and-mod (a / 2 ^ 30) (b / 2 ^ 30) 1) ∙ h in
-      (
+      let p : bitAnd (a / 2 ^ 30 % 2) (b / 2 ^ 30 % 2) ≡ 1 = sym (ap (λ (x : ℕ). x % 2) (and-shr a b 30) ∙ and-mod (a / 2 ^ 30) (b / 2 ^ 30) 1) ∙ h in (
         omega (arith, p, and-le-l (a / 2 ^ 30 % 2) (b / 2 ^ 30 % 2)),
         omega (arith, p, and-le-r (a / 2 ^ 30 % 2) (b / 2 ^ 30 % 2)),
       )

@@ -15,7 +15,7 @@ use Rattle.scalar.specs.declared.Whole.the-variants as W
 use Rattle.scalar.specs.declared.Truth.{Truth}
 use Rattle.scalar.specs.declared.Truth.the-variants as T
 use Rattle.scalar.specs.declared.Answer.{Answer}
-use Rattle.scalar.specs.declared.Answer.the-variants.{Word, Trap}
+use Rattle.scalar.specs.declared.Answer.the-variants.{Word}
 use Rattle.scalar.specs.Value.{one, units, oneFloat}
 use Rattle.scalar.specs.Results.{integer, float, rounded, result}
 use Rattle.scalar.specs.Reading.{wholeOf, truthOf}

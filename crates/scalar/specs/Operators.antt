@@ -19,7 +19,7 @@ use Rattle.scalar.specs.declared.Whole.the-variants as W
 use Rattle.scalar.specs.declared.Truth.{Truth}
 use Rattle.scalar.specs.declared.Truth.the-variants as T
 use Rattle.scalar.specs.declared.Answer.{Answer}
-use Rattle.scalar.specs.declared.Answer.the-variants.{Word, Trap}
+use Rattle.scalar.specs.declared.Answer.the-variants.{Word}
 
 -- "(7,0) -- Type error if the operand is of character type", or either of them.
 abbrev pub number : ℕ → Answer → Answer

@@ -53,9 +53,5 @@ fn same_character(a: u32, b: u32) -> Answer
 fn truth(t: bool) -> Answer
     ensures { λ r. ⌜ r ≡ Answer.Word (bit t) ⌝ }
 {
-    if t {
-        Answer::Word(1)
-    } else {
-        Answer::Word(0)
-    }
+    if t { Answer::Word(1) } else { Answer::Word(0) }
 }

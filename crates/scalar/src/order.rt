@@ -1,5 +1,5 @@
-// The order of numbers by their words: two integers, and two floats, lie as their words do with the sign taken off and put
-// before. Any number can be had as a float.
+// The order of numbers by their words: two integers, and two floats, lie as their words do, read as a sign and a magnitude of
+// 31 bits. Any number can be had as a float.
 ghost use mathlib.Core.Path.{_≡_};
 ghost use Prim.Native.Nat.{_+_, _%_, _^_};
 ghost use lib.Dec.{ltb, eqb};

@@ -27,7 +27,7 @@ use Rattle.scalar.specs.declared.Whole.the-variants as W
 use Rattle.scalar.specs.declared.Truth.{Truth}
 use Rattle.scalar.specs.declared.Truth.the-variants as T
 use Rattle.scalar.specs.declared.Answer.{Answer}
-use Rattle.scalar.specs.declared.Answer.the-variants.{Word, Trap}
+use Rattle.scalar.specs.declared.Answer.the-variants.{Word}
 use Rattle.scalar.proofs.Operands.{character-bits}
 use Rattle.scalar.proofs.Rounding.{not-lt-le, rounded-none}
 use Rattle.scalar.proofs.Units.{units-integer}
@@ -59,9 +59,6 @@ valid-integer s n p l = go (eqb n 0) refl
 valid-bit : (t : Bool) → Valid (bit t)
 valid-bit true = valid-small 1 (lit< tt) (omega arith) (λ z. omega arith)
 valid-bit false = valid-small 0 (lit< tt) (omega arith) (λ z. omega arith)
-
-valid-sign : (w : ℕ) → w < 2 ^ 32 → Valid (sign w)
-valid-sign w f = valid-small (sign w) (omega arith) (omega arith) (λ z. omega arith)
 
 valid-character : (c : ℕ) → c < 2 ^ 8 → Valid (characterWord c)
 valid-character c l = record { word = omega arith; scalar = large-scalar (characterWord c) (omega arith) (λ z. omega arith) (omega arith) ∙ eq-eqb (characterWord c / 2 ^ 8) (2 ^ 16) (omega arith) }

@@ -1,5 +1,4 @@
-use mathlib.Core.Path.{sym, ap, _∙_}
-use mathlib.Core.Bool.{Bool, _||_}
+use mathlib.Core.Path.{sym}
 use borrow.Author.Needs.{needs}
 use Rattle.elements.proofs.comparisons.one_kind.Statement.{statement}
 use Rattle.elements.proofs.comparisons.one_kind.Tie as tie
