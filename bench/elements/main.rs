@@ -48,6 +48,7 @@ fn main() {
     for n in [1, 10, 100, 1_000, 10_000] {
         let integers: [Vec<u32>; 2] = [0, 1].map(|_| (0..n).map(|_| random.integer()).collect());
         let floats: [Vec<u32>; 2] = [0, 1].map(|_| (0..n).map(|_| random.float()).collect());
+        let mixed = [0, 1].map(|k| (0..n).map(|i| if (i + k) % 3 == 0 { integers[k][i] } else { floats[k][i] }).collect::<Vec<u32>>());
         let mut out = vec![0; n];
         let mut other = vec![0; n];
         let cases = [
@@ -61,6 +62,8 @@ fn main() {
             ("float PRODUCT", PRODUCT, &floats, n),
             ("float QUOTIENT", QUOTIENT, &floats, n),
             ("float LESS", LESS, &floats, n),
+            ("float EQUAL", EQUAL, &floats, n),
+            ("mixed LESS", LESS, &mixed, n),
         ];
         for (name, op, [a, b], m) in cases {
             let b = &b[..m];

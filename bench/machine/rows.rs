@@ -1,5 +1,5 @@
 //! What is timed: a row has a window of the proved code and one of what it is held against, taken by turns.
-use crate::assemble::{LESS, PRODUCT, QUOTIENT, SUM};
+use crate::assemble::{EQUAL, LESS, PRODUCT, QUOTIENT, SUM};
 use crate::engine::{plain, Engine};
 use crate::loops::{self, Loop};
 use crate::random::Random;
@@ -90,13 +90,14 @@ fn element(name: &str, n: usize, target: Option<f64>, l: Loop) -> Row {
 }
 
 pub fn elements(random: &mut Random) -> Vec<Row> {
-    let operators: [(&str, u8, fn(&mut Random) -> u32, Option<f64>); 6] = [
+    let operators: [(&str, u8, fn(&mut Random) -> u32, Option<f64>); 7] = [
         ("integer SUM", SUM, Random::integer, Some(1.0)),
         ("integer LESS", LESS, Random::integer, Some(1.0)),
+        ("integer EQUAL", EQUAL, Random::integer, Some(1.0)),
         ("float SUM", SUM, Random::float, Some(12.0)),
         ("float PRODUCT", PRODUCT, Random::float, Some(6.0)),
         ("float QUOTIENT", QUOTIENT, Random::float, Some(6.0)),
-        ("float LESS", LESS, Random::float, None),
+        ("float LESS", LESS, Random::float, Some(1.0)),
     ];
     let mut rows = Vec::new();
     for (name, operator, word, target) in operators {

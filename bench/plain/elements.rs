@@ -1,5 +1,6 @@
-//! Operators over elements as one writes them in Rust for speed: integers by a loop without branches, of which the compiler
-//! makes vector code, and all else in doubles, element by element, up to the first trap. A bench need not use all of them.
+//! Operators over elements as one writes them in Rust for speed: integers, and comparisons of floats, by loops without branches,
+//! of which the compiler makes vector code, and all else in doubles, element by element, up to the first trap. A bench need not
+//! use all of them.
 #![allow(dead_code)]
 
 pub const SUM: u32 = 8;
@@ -99,11 +100,22 @@ fn quotient(a: u32, b: u32) -> Answer {
     float_word(value(a) / value(b))
 }
 
+/// A double holds every number, so that a comparison of doubles is exact.
+fn less(a: u32, b: u32) -> Answer {
+    if let (Some(x), Some(y)) = (integer(a), integer(b)) {
+        return Ok((x < y) as u32);
+    }
+    if is_character(a) || is_character(b) {
+        return Err(0x700);
+    }
+    Ok((value(a) < value(b)) as u32)
+}
+
 fn equal(a: u32, b: u32) -> Answer {
     match (is_character(a), is_character(b)) {
         (true, same) => Ok((same && a & 0xff == b & 0xff) as u32),
         (false, true) => Ok(0),
-        (false, false) => difference(a, b).map(|w| (w == 0) as u32),
+        (false, false) => Ok((value(a) == value(b)) as u32),
     }
 }
 
@@ -115,7 +127,7 @@ pub fn one(op: u32, a: u32, b: u32) -> Answer {
         DIFFERENCE => difference(a, b),
         PRODUCT => arithmetic(a, b, |x, y| x * y, |x, y| x * y),
         QUOTIENT => quotient(a, b),
-        LESS => difference(a, b).map(|w| w >> 31),
+        LESS => less(a, b),
         _ => equal(a, b),
     }
 }
@@ -130,7 +142,7 @@ fn pairs(a: &[u32], b: &[u32], out: &mut [u32], mut put: impl FnMut(u32, u32, &m
 }
 
 /// All pairs, if all are integers and so are the results.
-fn integers(a: &[u32], b: &[u32], out: &mut [u32], whole: impl Fn(i32, i32) -> i32, last: impl Fn(u32) -> u32) -> bool {
+fn integers(a: &[u32], b: &[u32], out: &mut [u32], whole: impl Fn(i32, i32) -> i32) -> bool {
     let mut seen = a.first().unwrap_or(&0) | b.first().unwrap_or(&0);
     if seen & NO_INTEGER != 0 {
         return false;
@@ -138,9 +150,34 @@ fn integers(a: &[u32], b: &[u32], out: &mut [u32], whole: impl Fn(i32, i32) -> i
     pairs(a, b, out, |x, y, to| {
         let w = word(whole(signed(x), signed(y)));
         seen |= x | y | w;
-        *to = last(w);
+        *to = w;
     });
     seen & NO_INTEGER == 0
+}
+
+/// Where a word stands among integers' words, or among floats'.
+fn place(w: u32) -> i32 {
+    let sign = w as i32 >> 31;
+    ((w & 0x7fff_ffff) as i32 ^ sign) - sign
+}
+
+fn one_kind(any: u32, every: u32) -> bool {
+    any & NO_INTEGER == 0 || every & 0x4000_0000 != 0
+}
+
+/// All pairs, if all are integers or all are floats.
+fn compared(a: &[u32], b: &[u32], out: &mut [u32], test: impl Fn(i32, i32) -> bool) -> bool {
+    let (x, y) = (a.first().unwrap_or(&0), b.first().unwrap_or(&0));
+    let (mut any, mut every) = (x | y, x & y);
+    if !one_kind(any, every) {
+        return false;
+    }
+    pairs(a, b, out, |x, y, to| {
+        any |= x | y;
+        every &= x & y;
+        *to = test(place(x), place(y)) as u32;
+    });
+    one_kind(any, every)
 }
 
 fn each(a: &[u32], b: &[u32], out: &mut [u32], f: impl Fn(u32, u32) -> Answer) -> u32 {
@@ -157,10 +194,10 @@ fn each(a: &[u32], b: &[u32], out: &mut [u32], f: impl Fn(u32, u32) -> Answer) -
 #[inline(never)]
 pub fn dyadic(op: u32, a: &[u32], b: &[u32], out: &mut [u32]) -> u32 {
     let served = match op {
-        SUM => integers(a, b, out, |x, y| x + y, |w| w),
-        DIFFERENCE => integers(a, b, out, |x, y| x - y, |w| w),
-        LESS => integers(a, b, out, |x, y| x - y, |w| w >> 31),
-        EQUAL => integers(a, b, out, |x, y| x - y, |w| (w == 0) as u32),
+        SUM => integers(a, b, out, |x, y| x + y),
+        DIFFERENCE => integers(a, b, out, |x, y| x - y),
+        LESS => compared(a, b, out, |x, y| x < y),
+        EQUAL => compared(a, b, out, |x, y| x == y),
         _ => false,
     };
     if served {

@@ -114,12 +114,20 @@ mod plain {
     #[inline]
     pub fn less(a: u32, b: u32) -> Answer {
         if small(a, b) {
-            return integer(signed(a) - signed(b)).map(|w| w >> 31);
+            return Ok((signed(a) < signed(b)) as u32);
         }
         if character(a) || character(b) {
             return Err((7, 0));
         }
-        difference(a, b, 1).map(|w| w >> 31)
+        Ok((place(a) < place(b)) as u32)
+    }
+
+    /// Where a number stands among all: by its digits, their exponent before them.
+    #[inline]
+    fn place(w: u32) -> i64 {
+        let (g, e) = unpack(w);
+        let place = ((e as i64) << 22) + g as i64;
+        if w >> 31 == 1 { -place } else { place }
     }
 
     #[inline]
@@ -200,7 +208,7 @@ fn main() {
     let factor = |r: u32, s: u32| if r % 2048 == 0 { 0 } else { r % 2048 | s & 0x8000_0000 };
     let float = |r: u32, s: u32| 0x4000_0000 | r & 0x803F_FFFF | (118 + s % 20) << 22;
     let mixed = |r: u32, s: u32| if s & 4 == 0 { r % 4_000_000 } else { 0x4000_0000 | r & 0x803F_FFFF | (140 + s / 8 % 8) << 22 };
-    let rows: [(&str, u32, Vec<u32>, Vec<u32>, &str); 9] = [
+    let rows: [(&str, u32, Vec<u32>, Vec<u32>, &str); 10] = [
         ("SUM of integers", SUM, words(integer), words(integer), "1.5"),
         ("PRODUCT of integers", PRODUCT, words(factor), words(factor), ""),
         ("LESS of integers", LESS, words(integer), words(integer), ""),
@@ -210,6 +218,7 @@ fn main() {
         ("QUOTIENT of integers", QUOTIENT, words(integer), words(integer), ""),
         ("LESS of floats", LESS, words(float), words(float), ""),
         ("SUM of mixed numbers", SUM, words(mixed), words(mixed), ""),
+        ("LESS of mixed numbers", LESS, words(mixed), words(mixed), ""),
     ];
     println!("{:24} {:>10} {:>10} {:>8} {:>8}", "ns an element", "proved", "plain", "ratio", "target");
     for (name, suboperation, a, b, target) in rows {

@@ -1,9 +1,9 @@
 #!/usr/bin/env python3
 """Makes the files stdin and stdout of the program scalar_cases: cases of the sixteen scalar operators, and their answers.
 
-The answers come from exact rational arithmetic (fractions.Fraction), from document 01 and the manual and from no code of
-the project. Run it in this folder. A case is a line of 20 characters: the suboperation number and the two operands, in
-hexadecimal; an operator of one operand has 0 for the second.
+The answers come from exact rational arithmetic (fractions.Fraction), from document 01, the manual and paper 4 of document
+02, and from no code of the project. Run it in this folder. A case is a line of 20 characters: the suboperation number and
+the two operands, in hexadecimal; an operator of one operand has 0 for the second.
 """
 from fractions import Fraction
 from itertools import product as pairs
@@ -133,12 +133,11 @@ def dyadic(op, a, b):
         if w == 0:
             raise Trap(8, 4)
         return nearest(v / w)
-    difference = result(v - w, a, b)
     if op == LESS:
         return 1 if v < w else 0
     if op == EQUAL:
         return 1 if v == w else 0
-    return difference
+    return result(v - w, a, b)
 
 
 def answer(op, a, b):
@@ -186,6 +185,15 @@ for n, m in [(LIMIT, 1), (LIMIT, 0), (LIMIT, -1), (LIMIT, LIMIT), (LIMIT - 1, 1)
              (2897, 2896), (2897, 2895), (-2896, 2897), (0, -LIMIT), (5, 5), (-5, 5)]:
     add([SUM, DIFFERENCE, PRODUCT, QUOTIENT, LESS, EQUAL], integer(n), integer(m))
     add([SUM, DIFFERENCE], integer(m), integer(n))
+
+# comparisons of numbers in rising order: credits and debits far apart, neighbours, integers beside floats
+rising = [greatest ^ 0x8000_0000, number(-LIMIT - 1), integer(-LIMIT), number(-LIMIT), integer(-1), number(-1), fields(1, 0, 1),
+          least ^ 0x8000_0000, 0, least, fields(0, 0, 1), one, 1, fields(0, 128, 1), integer(LIMIT), number(LIMIT + 1), greatest]
+for a, b in pairs(rising, repeat=2):
+    add([LESS, EQUAL], a, b)
+for a, b in pairs([greatest, greatest ^ 0x8000_0000, least, LIMIT], [character(0), character(255)]):
+    add([LESS, EQUAL], a, b)
+    add([LESS, EQUAL], b, a)
 
 # around a tie: an odd and an even number of units, and a half of one, less, exactly and more, near and far below
 for digits in (2**22, 2**22 + 1, 2**23 - 1, 2**23 - 2):

@@ -11,3 +11,4 @@ pub mod Variables
 pub mod Decoding
 pub mod Cases
 pub mod Traps
+pub mod Comparisons

@@ -23,10 +23,32 @@ module _ {A : Type 0} (P : A → Type 0) (T : ℕ → ℕ → Type 0) where
   either true x y h k = h refl
   either false x y h k = k refl
 
+-- ---- of the traps alone
+
+module _ (T : ℕ → ℕ → Type 0) where
+  abbrev pub Within : {A : Type 0} → OrTrap A → Type 0
+  Within x = OfPlan (λ a. Unit {0}) T x
+
+  module _ {A : Type 0} where
+    pub stops-within : (test : Bool) (class number : ℕ) (rest : OrTrap A) → T class number → Within rest → Within (stopIf test class number rest)
+    stops-within true class number rest t h = t
+    stops-within false class number rest t h = h
+
+    pub goes-within : {B : Type 0} (x : OrTrap B) (next : B → OrTrap A) → Within x → ((b : B) → Within (next b)) → Within (andThen x next)
+    goes-within (gives b) next t h = h b
+    goes-within (trap class number) next t h = t
+
+    pub chosen-within : (test : Bool) (x y : OrTrap A) → Within x → Within y → Within (cond test x y)
+    chosen-within true x y h k = h
+    chosen-within false x y h k = k
+
 -- ---- that a trap is in the table
 
+abbrev pub InTheTable : ℕ → ℕ → Type 0
+InTheTable class number = listed class number ≡ true
+
 abbrev pub Listed : {A : Type 0} → OrTrap A → Type 0
-Listed x = OfPlan (λ a. Unit {0}) (λ class number. listed class number ≡ true) x
+Listed x = Within InTheTable x
 
 pub in-table : {A : Type 0} (x : OrTrap A) → Listed x → InTable x
 in-table x h class number e = subst Listed e h
@@ -38,9 +60,7 @@ of-table (trap class number) h = h class number refl
 module _ {A : Type 0} where
   pub stops-listed : (test : Bool) (class number : ℕ) (rest : OrTrap A) → listed class number ≡ true → Listed rest
       → Listed (stopIf test class number rest)
-  stops-listed true class number rest t h = t
-  stops-listed false class number rest t h = h
+  stops-listed = stops-within InTheTable
 
   pub goes-listed : {B : Type 0} (x : OrTrap B) (next : B → OrTrap A) → Listed x → ((b : B) → Listed (next b)) → Listed (andThen x next)
-  goes-listed (gives b) next t h = h b
-  goes-listed (trap class number) next t h = t
+  goes-listed = goes-within InTheTable

@@ -1,7 +1,7 @@
 -- The traps of the operators on values, and of subscripts, are in the table.
 use Prim.Native.Nat.{ℕ, _+_, _^_}
 use mathlib.Core.Path.{refl}
-use mathlib.Core.Bool.{Bool, true, false, cond, not, _&&_, _||_}
+use mathlib.Core.Bool.{true, false, not, _&&_, _||_}
 use mathlib.Core.List.{List, [], _∷_, map}
 use lib.Dec.{ltb, leb, eqb}
 use lib.ListN.{length}
@@ -20,53 +20,60 @@ use Rattle.manual.specs.OrTrap.{OrTrap}
 use Rattle.manual.specs.Values.{Value, rank, size, isSingle, same, any, answered, collect, each, monadic, conform, zip, spread, extent, pairwise, dyadic, shortOf, shorts, truth, single, truthOfValue, catenate, indexGenerator, reshape, isFraction, inRanges, ravelPlace}
 use Rattle.manual.specs.Scalars.{valueOf, scalarWords, subscripted}
 use Rattle.manual.specs.Traps.{listed}
-use Rattle.manual.proofs.Lists.{Listed, stops-listed, goes-listed}
+use Rattle.manual.proofs.Lists.{Within, stops-within, goes-within, chosen-within, InTheTable, Listed, stops-listed, goes-listed}
 use Rattle.manual.proofs.Operators.{monadic-answers, dyadic-answers}
+
+-- ---- operands, and operators on pairs of elements, by the traps of each pair
+
+module _ (T : ℕ → ℕ → Type 0) where
+  pub value-within : T 3 5 → (c : Cell) → Within T (valueOf c)
+  value-within t undefined = t
+  value-within t (indirect i) = t
+  value-within t (holds shape ravel) = tt
+  value-within t invalid = t
+
+  zip-within : (f : ℕ → ℕ → OrTrap ℕ) → ((x y : ℕ) → Within T (f x y)) → (a b : List ℕ) → Within T (collect (zip f a b))
+  zip-within f h [] b = tt
+  zip-within f h (x ∷ a) [] = tt
+  zip-within f h (x ∷ a) (y ∷ b) = goes-within T (f x y) _ (h x y) (λ v. goes-within T (collect (zip f a b)) _ (zip-within f h a b) (λ vs. tt))
+
+  pairwise-within : (f : ℕ → ℕ → OrTrap ℕ) → ((x y : ℕ) → Within T (f x y)) → (a b : List ℕ) → Within T (pairwise f a b)
+  unfolding pairwise
+  pairwise-within f h a b = zip-within f h (spread (extent a b) a) (spread (extent a b) b)
+
+  module _ (rank-error : T 5 0) (length-error : T 6 0) where
+    conform-within : (a : List ℕ) (n : ℕ) (b : List ℕ) (m : ℕ) → Within T (conform a n b m)
+    unfolding conform
+    conform-within a n b m =
+        chosen-within T (eqb n 1) _ _ tt
+        (chosen-within T (eqb m 1) _ _ tt (stops-within T (not (eqb (length a) (length b))) _ _ _ rank-error (stops-within T (not (same a b)) _ _ _ length-error tt)))
+
+    pub dyadic-within : (op : Dyadic) → ((x y : ℕ) → Within T (answered (dyadicOf op x y))) → (a b : Value) → Within T (dyadic op a b)
+    unfolding dyadic
+    dyadic-within op h a b =
+        goes-within T (conform (a .shape) (size a) (b .shape) (size b)) _ (conform-within (a .shape) (size a) (b .shape) (size b)) (λ shape.
+        goes-within T (pairwise (λ x y. answered (dyadicOf op x y)) (a .ravel) (b .ravel)) _
+        (pairwise-within (λ x y. answered (dyadicOf op x y)) h (a .ravel) (b .ravel)) (λ ravel. tt))
+
+-- ---- the table
 
 pub value-listed : (c : Cell) → Listed (valueOf c)
 unfolding listed
-value-listed undefined = refl
-value-listed (indirect t) = refl
-value-listed (holds shape ravel) = tt
-value-listed invalid = refl
+value-listed = value-within InTheTable refl
 
--- ---- element by element
+pub dyadic-listed : (op : Dyadic) (a b : Value) → Listed (dyadic op a b)
+unfolding listed
+dyadic-listed op = dyadic-within InTheTable refl refl op (dyadic-answers op)
 
 each-listed : (f : ℕ → OrTrap ℕ) → ((w : ℕ) → Listed (f w)) → (ravel : List ℕ) → Listed (each f ravel)
 unfolding each
 each-listed f h [] = tt
 each-listed f h (w ∷ ws) = goes-listed (f w) _ (h w) (λ v. goes-listed (collect (map f ws)) _ (each-listed f h ws) (λ vs. tt))
 
-zip-listed : (f : ℕ → ℕ → OrTrap ℕ) → ((x y : ℕ) → Listed (f x y)) → (a b : List ℕ) → Listed (collect (zip f a b))
-zip-listed f h [] b = tt
-zip-listed f h (x ∷ a) [] = tt
-zip-listed f h (x ∷ a) (y ∷ b) = goes-listed (f x y) _ (h x y) (λ v. goes-listed (collect (zip f a b)) _ (zip-listed f h a b) (λ vs. tt))
-
-pairwise-listed : (f : ℕ → ℕ → OrTrap ℕ) → ((x y : ℕ) → Listed (f x y)) → (a b : List ℕ) → Listed (pairwise f a b)
-unfolding pairwise
-pairwise-listed f h a b = zip-listed f h (spread (extent a b) a) (spread (extent a b) b)
-
 pub monadic-listed : (op : Monadic) (v : Value) → Listed (monadic op v)
 unfolding monadic
 monadic-listed op v =
     goes-listed (each (λ w. answered (monadicOf op w)) (v .ravel)) _ (each-listed (λ w. answered (monadicOf op w)) (monadic-answers op) (v .ravel)) (λ ravel. tt)
-
-chosen : {A : Type 0} (test : Bool) (x y : OrTrap A) → Listed x → Listed y → Listed (cond test x y)
-chosen true x y h k = h
-chosen false x y h k = k
-
-conform-listed : (a : List ℕ) (n : ℕ) (b : List ℕ) (m : ℕ) → Listed (conform a n b m)
-unfolding conform listed
-conform-listed a n b m =
-    chosen (eqb n 1) _ _ tt
-    (chosen (eqb m 1) _ _ tt (stops-listed (not (eqb (length a) (length b))) _ _ _ refl (stops-listed (not (same a b)) _ _ _ refl tt)))
-
-pub dyadic-listed : (op : Dyadic) (a b : Value) → Listed (dyadic op a b)
-unfolding dyadic
-dyadic-listed op a b =
-    goes-listed (conform (a .shape) (size a) (b .shape) (size b)) _ (conform-listed (a .shape) (size a) (b .shape) (size b)) (λ shape.
-    goes-listed (pairwise (λ x y. answered (dyadicOf op x y)) (a .ravel) (b .ravel)) _
-    (pairwise-listed (λ x y. answered (dyadicOf op x y)) (dyadic-answers op) (a .ravel) (b .ravel)) (λ ravel. tt))
 
 -- ---- readings of a number
 

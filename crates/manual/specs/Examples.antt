@@ -11,6 +11,7 @@ use Rattle.operator.specs.declared.Monadic.the-variants as M
 use Rattle.operator.specs.declared.Dyadic.the-variants as D
 use Rattle.operator.specs.declared.Operator.the-variants as O
 use Rattle.scalar.specs.Value.{units}
+use Rattle.scalar.specs.Order.{side, isBelow, isEqual}
 use Rattle.scalar.specs.Results.{integer, float, rounded, result}
 use Rattle.scalar.specs.Reading.{wholeUnits, wholeOf, truthUnits, truthOf}
 use Rattle.scalar.specs.Operators as S
@@ -145,6 +146,10 @@ pub record Making : Type 0 where
   pub orTwo : plan (number 2 ∷ number 1 ∷ []) (I.Scalar (O.Dyadic D.LogicalSum)) ≡ trap 8 5
   pub andCharacter : plan (number 2 ∷ number 0x01000041 ∷ []) (I.Scalar (O.Dyadic D.LogicalProduct)) ≡ trap 7 0
   pub orCharacter : plan (number 0x01000041 ∷ number 1 ∷ []) (I.Scalar (O.Dyadic D.LogicalSum)) ≡ trap 7 0
+  -- LESS and EQUAL by the exact values: debits against credits, of which the difference of each pair would trap; a character
+  pub debitsBelow : plan (value (2 ∷ []) (0x807f_ffff ∷ 0xffff_ffff ∷ []) ∷ value (2 ∷ []) (8388607 ∷ 0x7fff_ffff ∷ []) ∷ []) (I.Scalar (O.Dyadic D.Less)) ≡ gives (replaces 2 (made (2 ∷ []) (1 ∷ 1 ∷ [])) ∷ jumps 9 ∷ [])
+  pub debitsUnequal : plan (value (2 ∷ []) (0x807f_ffff ∷ 0xffff_ffff ∷ []) ∷ value (2 ∷ []) (8388607 ∷ 0x7fff_ffff ∷ []) ∷ []) (I.Scalar (O.Dyadic D.Equal)) ≡ gives (replaces 2 (made (2 ∷ []) (0 ∷ 0 ∷ [])) ∷ jumps 9 ∷ [])
+  pub lessCharacter : plan (value (2 ∷ []) (0x807f_ffff ∷ 0x01000041 ∷ []) ∷ number 8388607 ∷ []) (I.Scalar (O.Dyadic D.Less)) ≡ trap 7 0
   pub shape : plan (matrix ∷ []) (I.Array R.Shape) ≡ gives (replaces 1 (made (2 ∷ []) (2 ∷ 2 ∷ [])) ∷ jumps 9 ∷ [])
   pub shapeOfScalar : plan (number 5 ∷ []) (I.Array R.Shape) ≡ gives (replaces 1 (made (0 ∷ []) []) ∷ jumps 9 ∷ [])
   pub ravel : plan (matrix ∷ []) (I.Array R.Ravel) ≡ gives (replaces 1 (made (4 ∷ []) (1 ∷ 2 ∷ 3 ∷ 4 ∷ [])) ∷ jumps 9 ∷ [])
@@ -250,7 +255,7 @@ pub making : Making
 unfolding planOf seenOf scalars.monadic scalars.dyadic scalars.shape scalars.ravel scalars.reshape scalars.catenate scalars.indexGenerator
     scalars.index values.each values.monadic values.dyadic values.conform values.pairwise values.catenate values.upFrom
     values.indexGenerator values.cycle values.reshape values.ravelPlace S.identity S.negative S.floor S.magnitudeOf S.notOf S.sumSign S.sumSize
-    S.plus S.minus S.sum S.difference S.logicalProduct S.logicalSum units integer float rounded result wholeUnits wholeOf truthUnits truthOf
+    S.plus S.minus S.sum S.difference S.logicalProduct S.logicalSum side isBelow isEqual S.less S.equal units integer float rounded result wholeUnits wholeOf truthUnits truthOf
     size
 making = record {
   negative = refl;
@@ -273,6 +278,9 @@ making = record {
   orTwo = refl;
   andCharacter = refl;
   orCharacter = refl;
+  debitsBelow = refl;
+  debitsUnequal = refl;
+  lessCharacter = refl;
   shape = refl;
   shapeOfScalar = refl;
   ravel = refl;

@@ -9,5 +9,6 @@ pub mod Memory
 pub mod Control
 pub mod Instructions
 pub mod Traps
+pub mod Comparisons
 pub mod Cases
 pub mod Examples
