@@ -2,8 +2,9 @@
 -- Assumes nothing.
 use Prim.Native.Nat.{ℕ, _+_, _/_, _%_, _^_, _<_, _≤_, max}
 use mathlib.Core.Path.{_≡_}
-use mathlib.Core.Bool.{Bool, true, cond, _||_}
+use mathlib.Core.Bool.{Bool, true, cond}
 use mathlib.Core.List.{List, [], _∷_}
+use lib.Bits.{bitAnd, bitOr}
 use lib.Dec.{eqb}
 use lib.ListN.{length}
 use Rattle.scalar.specs.declared.Answer.{Answer}
@@ -32,9 +33,12 @@ Relied f says a b words = says ≡ true → gives words ≡ pairwise (λ x y. an
 abbrev pub Plain : ℕ → Type 0
 Plain w = w / 2 ^ 23 % 2 ^ 8 ≡ 0
 
--- From the bits that any of some words has, and those that all have: they are integers' words, or floats', if they are scalars'.
-abbrev pub oneKind : ℕ → ℕ → Bool
-oneKind any every = eqb (any / 2 ^ 23 % 2 ^ 8) 0 || eqb (every / 2 ^ 30 % 2) 1
+-- The bits that are in every word seen, if they should be floats, or in any, if integers: with two words more, and whether they are.
+abbrev pub seenWith : Bool → ℕ → ℕ → ℕ → ℕ
+seenWith floats seen x y = cond floats (bitAnd (bitAnd seen x) y) (bitOr (bitOr seen x) y)
+
+abbrev pub oneKind : Bool → ℕ → Bool
+oneKind floats seen = cond floats (eqb (seen / 2 ^ 30 % 2) 1) (eqb (seen / 2 ^ 23 % 2 ^ 8) 0)
 
 -- o is 2 ^ 24 plus the number of sign s and magnitude n.
 pub record Offset (s n o : ℕ) : Type 0 where

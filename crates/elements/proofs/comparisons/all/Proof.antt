@@ -9,6 +9,7 @@ all-spec =
     (λ c κs. search needs)
     (λ c κs. search needs)
     (λ c κs. search needs)
+    (λ c t. cc)
     (λ c κs. search needs)
     (λ c κs. search needs)
     (λ c t. cc)

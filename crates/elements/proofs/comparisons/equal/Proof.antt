@@ -13,18 +13,22 @@ use Rattle.elements.proofs.comparisons.equal.Statement.{statement}
 use Rattle.elements.proofs.comparisons.equal.Tie as tie
 
 abbrev Inv-loop : tie.InvT-loop
-Inv-loop a b n out₀ any₀ every₀ i₀ out any every i = Fast equal (oneKind any every ≡ true) a b n out₀ out i
+Inv-loop floats a b n out₀ seen₀ i₀ out seen i = Fast equal (oneKind floats seen ≡ true) a b n out₀ out i
 
 abbrev μ-loop : tie.MeasureT-loop
-μ-loop a b n out₀ any₀ every₀ i₀ out any every i = n - i
+μ-loop floats a b n out₀ seen₀ i₀ out seen i = n - i
 
 loop-again : tie.Need-loop-again Inv-loop μ-loop
 loop-again c =
-    let y = c .before in
+    let t = c .before in
+    let y = t .before in
     let x = y .before in
     let l = x .before in
-    goes-on (l .before .loop .inv) (l .loop-test .taken) (x .pick .ensures) (y .pick2 .ensures)
-    (λ z. let p = with-both (l .before .loop .any) (l .before .loop .every) (x .pick .result) (y .pick2 .result) z in (p .0, fast-equal (p .1) ∙ ap (λ (t : Bool). Word (bit t)) (sym (c .is-level .ensures))))
+    let h = l .before in
+    let floats = h .before .before .before .before .before .args .floats in
+    goes-on (h .loop .inv) (l .loop-test .taken) (x .pick .ensures) (y .pick2 .ensures) (λ z.
+    let p = with-both floats (h .loop .seen) (x .pick .result) (y .pick2 .result) (ap (oneKind floats) (sym (c .seen-with .ensures)) ∙ z) in
+    (p .0, fast-equal (p .1) ∙ ap (λ (b : Bool). Word (bit b)) (sym (t .is-level .ensures))))
 
 pub equal-spec : {M : Type 1} → statement M
 equal-spec =
@@ -32,13 +36,15 @@ equal-spec =
     (tie.spec
     Inv-loop
     μ-loop
-    (λ c. begins (c .before .before .before .pre .0) (omega arith))
+    (λ c κs. search needs)
+    (λ c. begins (c .before .before .before .before .pre .0) (omega arith))
     (λ c κs. first-there (c .before .loop .inv) (c .loop-test .taken))
     (λ c κs. second-there (c .before .before .loop .inv) (c .before .loop-test .taken))
     (λ c κs. search needs)
     (λ c. search needs)
     (λ c. omega arith)
     (λ c. omega arith)
+    (λ c κs. search needs)
     (λ c. omega arith)
     (λ c. omega arith)
     loop-again
