@@ -6,7 +6,6 @@ use native.Mathlib.Omega.{arith}
 use mathlib.Core.Path.{_≡_, refl, sym, ap, _∙_}
 use mathlib.Core.Bool.{Bool, true, false}
 use mathlib.Core.List.{List, [], _∷_, _++_, append-assoc, append-nil, map}
-use lib.Dec.{eqb}
 use borrow.Author.Tests.{eq-eqb, ne-eqb, eqb-false}
 use lib.ListN.{length, getD, take, drop, set, length-set, length-replicate, getD-replicate}
 use lib.Seq.{take-suc-set, drop-cons}
@@ -193,50 +192,3 @@ operands {a} {b} {n} p e = record { count = e; first = record { fits = λ h. fir
     second : (length b ≡ 1 → ⊥) → (t : Bool) → isSingle a ≡ t → length b ≡ n
     second h true t = sym (e ∙ rw t)
     second h false t = sym (e ∙ rw t (p .fits (eqb-false (length a) 1 t) h))
-
--- ---- as many words as elements
-
-collected : (rs : List (OrTrap ℕ)) (ws : List ℕ) → collect rs ≡ gives ws → length ws ≡ length rs
-collected [] ws e = let z : ws ≡ [] = cc in ap length z
-collected ((trap class number) ∷ rs) ws e = let z : _≡_ {A = ℕ} 0 1 = cc in absurd (omega arith)
-collected ((gives w) ∷ rs) ws e = go (collect rs) refl (λ vs f. collected rs vs f)
-  where
-    go : (r : OrTrap (List ℕ)) → collect rs ≡ r → ((vs : List ℕ) → collect rs ≡ gives vs → length vs ≡ length rs) → length ws ≡ suc (length rs)
-    go (gives vs) f ih = let g : gives (w ∷ vs) ≡ gives ws = rw f at e in let z : (w ∷ vs) ≡ ws = cc in sym (ap length z) ∙ ap suc (ih vs f)
-    go (trap class number) f ih = let g : trap class number ≡ gives ws = rw f at e in let z : _≡_ {A = ℕ} 0 1 = cc in absurd (omega arith)
-
-pub each-gives : (f : ℕ → OrTrap ℕ) (a ws : List ℕ) → each f a ≡ gives ws → length ws ≡ length a
-unfolding each
-each-gives f a ws e = collected (map f a) ws e ∙ length-each f a
-
-pub pairwise-gives : (f : ℕ → ℕ → OrTrap ℕ) {a b : List ℕ} → Paired a b → (ws : List ℕ) → pairwise f a b ≡ gives ws → length ws ≡ extent a b
-pairwise-gives f {a} {b} p ws e =
-    let o : Operands a b (extent a b) = operands p refl in
-    collected (zip f (spread (extent a b) a) (spread (extent a b) b)) ws (pairs-are f o ∙ e) ∙ length-pairs f o
-
--- ---- each word is its element's result
-
-collected-at : (rs : List (OrTrap ℕ)) (ws : List ℕ) → collect rs ≡ gives ws → (i : ℕ) → i < length rs → getD rs i (trap 0 0) ≡ gives (getD ws i 0)
-collected-at [] ws e i h = absurd (not-suc-le-zero h)
-collected-at ((trap class number) ∷ rs) ws e i h = let z : _≡_ {A = ℕ} 0 1 = cc in absurd (omega arith)
-collected-at ((gives w) ∷ rs) ws e i h = go (collect rs) refl (λ vs f. collected-at rs vs f) i h
-  where
-    go : (r : OrTrap (List ℕ)) → collect rs ≡ r → ((vs : List ℕ) → collect rs ≡ gives vs → (j : ℕ) → j < length rs → getD rs j (trap 0 0) ≡ gives (getD vs j 0))
-        → (j : ℕ) → j < suc (length rs) → getD ((gives w) ∷ rs) j (trap 0 0) ≡ gives (getD ws j 0)
-    go (gives vs) f ih zero k = let g : gives (w ∷ vs) ≡ gives ws = rw f at e in let z : (w ∷ vs) ≡ ws = cc in ap (λ (l : List ℕ). gives (getD l 0 0)) z
-    go (gives vs) f ih (suc j) k =
-        let g : gives (w ∷ vs) ≡ gives ws = rw f at e in
-        let z : (w ∷ vs) ≡ ws = cc in
-        ih vs f j (le-of-suc-le-suc k) ∙ ap (λ (l : List ℕ). gives (getD l (suc j) 0)) z
-    go (trap class number) f ih j k = let g : trap class number ≡ gives ws = rw f at e in let z : _≡_ {A = ℕ} 0 1 = cc in absurd (omega arith)
-
-pub each-word : (f : ℕ → OrTrap ℕ) (a ws : List ℕ) → each f a ≡ gives ws → (i : ℕ) → i < length a → f (getD a i 0) ≡ gives (getD ws i 0)
-unfolding each
-each-word f a ws e i h = let at = each-at f a i h in sym (at .is) ∙ collected-at (map f a) ws e i (at .below)
-
-pub pairwise-word : (f : ℕ → ℕ → OrTrap ℕ) {a b : List ℕ} → Paired a b → (ws : List ℕ) → pairwise f a b ≡ gives ws → (i : ℕ) → i < extent a b
-    → f (getD (spread (extent a b) a) i 0) (getD (spread (extent a b) b) i 0) ≡ gives (getD ws i 0)
-pairwise-word f {a} {b} p ws e i h =
-    let o : Operands a b (extent a b) = operands p refl in
-    let at = pair-at f o h refl refl in
-    sym (at .is) ∙ collected-at (zip f (spread (extent a b) a) (spread (extent a b) b)) ws (pairs-are f o ∙ e) i (at .below)
