@@ -1,11 +1,11 @@
 -- Each effect on the words of a segment, in document 01's order: "Results are placed before operands are released, first operand
 -- first; RETURN releases its cells from the highest address down. Cells popped, free interiors and slop keep their words."
 -- Decisions 28–31 and 37 of docs/DECISIONS.md settle the rest, so that every word is determined. Assumes nothing.
-use Prim.Native.Nat.{ℕ, zero, suc, _+_, _-_, _*_, _%_, _^_}
-use mathlib.Core.Bool.{Bool, true, false, cond, _||_}
+use Prim.Native.Nat.{ℕ, _+_, _-_, _%_, _^_}
+use mathlib.Core.Bool.{Bool, false, cond, _||_}
 use mathlib.Core.List.{List, [], _∷_, _++_}
 use lib.Dec.{leb, ltb, eqb}
-use lib.ListN.{getD, set, length, replicate}
+use lib.ListN.{getD, set, replicate}
 use lib.Seq.{sets}
 use Rattle.descriptor.specs.declared.Target.{Target}
 use Rattle.descriptor.specs.Fields.{address, undefinedWord}
@@ -15,7 +15,7 @@ use Rattle.segment.specs.Blocks.{countAt, rankAt, shapeAt, elementsAt, need}
 use Rattle.storage.specs.Request.{requestAt}
 use Rattle.storage.specs.Arrays.{share, dropWord, dropWords}
 use Rattle.manual.specs.Effects.{Source, variable, operand, word, undefinedValue, reference, made, Effect, replaces, discards, swaps, stores, storesElement, enters, leaves, jumps, setsOrigin}
-use Rattle.effects.specs.Sources.{addressOf, heldAt, operandAt, sourceWord, placed}
+use Rattle.effects.specs.Sources.{addressOf, operandAt, sourceWord, placed}
 
 -- The cell of the n-th operand from the top, from 1: where n operands start.
 abbrev pub bottomOf : List ℕ → ℕ → ℕ

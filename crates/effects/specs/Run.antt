@@ -7,7 +7,7 @@ use Rattle.effects.specs.declared.Stepped.{Stepped}
 use Rattle.effects.specs.declared.Stepped.the-variants.{Finished, Traced, Trapped}
 use Rattle.effects.specs.declared.Ran.{Ran}
 use Rattle.effects.specs.declared.Ran.the-variants as R
-use Rattle.effects.specs.Step.{StepResult, stepOf}
+use Rattle.effects.specs.Step.{stepOf}
 
 pub record RunResult : Type 0 where
   pub answer : Ran

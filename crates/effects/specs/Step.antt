@@ -2,7 +2,7 @@
 -- (1,2) last; "(2,1) and (2,2) come after a finished, counted instruction; both due: (2,2). Call trace goes by FCNCTRC and the
 -- called header, return trace by FCNRTRC"; decision 16 for (2,3). Assumes nothing.
 use Prim.Native.Nat.{ℕ, _%_, _^_}
-use mathlib.Core.Bool.{Bool, true, false, cond, _&&_}
+use mathlib.Core.Bool.{Bool, cond, _&&_}
 use mathlib.Core.List.{List}
 use lib.Dec.{eqb}
 use Rattle.procedure.specs.declared.header.Header.{Header}

@@ -1,22 +1,19 @@
 -- What the words that no array has are seen as.
-use Prim.Native.Nat.{ℕ, _/_, _^_, _<_}
-use mathlib.Core.Path.{_≡_, refl, sym, _∙_, ap}
+use Prim.Native.Nat.{ℕ, _/_, _^_}
+use mathlib.Core.Path.{_≡_, refl}
 use mathlib.Core.Bool.{true, false}
 use mathlib.Core.List.{List, [], _∷_}
-use mathlib.Core.Logic.{⊎-elim}
 use native.Mathlib.Omega.{arith}
 use borrow.Author.Tests.{ne-eqb}
 use Rattle.descriptor.specs.declared.Target.{Target}
 use Rattle.descriptor.specs.declared.Target.the-variants.{Local, Global}
 use Rattle.descriptor.specs.declared.Kind.{Kind}
 use Rattle.descriptor.specs.declared.Kind.the-variants as K
-use Rattle.descriptor.specs.Fields.{isArray, address}
-use Rattle.descriptor.specs.Kinds.{segment, kindOf, scalarKind, isScalar}
+use Rattle.descriptor.specs.Fields.{isArray}
+use Rattle.descriptor.specs.Kinds.{kindOf, scalarKind, isScalar}
 use Rattle.descriptor.specs.Inverse.{targetWord, TargetFits}
 use Rattle.descriptor.proofs.Inverse.{inverse}
-use Rattle.descriptor.proofs.Truth.{decide}
 use Rattle.segment.specs.Cells.{indirect, value, cell, cellOfKind}
-use Rattle.storage_theorems.proofs.Cells.{array-of}
 use Rattle.effects.specs.Sources.{referenceWord}
 
 -- a scalar's word

@@ -1,5 +1,5 @@
 -- What a sound segment has: the bounds of its parts, few cells, and soundness after a write outside array storage.
-use Prim.Native.Nat.{ℕ, suc, _+_, _-_, _/_, _%_, _^_, _<_, _≤_}
+use Prim.Native.Nat.{ℕ, _+_, _-_, _/_, _%_, _^_, _<_, _≤_}
 use mathlib.Core.Path.{_≡_, ap}
 use mathlib.Core.List.{List, _++_}
 use mathlib.Core.Logic.{_≢_, _⊎_, inl, ⊎-elim}
@@ -8,7 +8,7 @@ use lib.ListN.{getD, set, length, length-set, length-append}
 use lib.Seq.{getD-set-other}
 use Rattle.segment.specs.State.{sbase, ltop, lbase, blockptr}
 use Rattle.storage.specs.Owned.{CellsKept}
-use Rattle.segment.specs.Machine.{cellsOfFrames, depth, Machine}
+use Rattle.segment.specs.Machine.{cellsOfFrames, Machine}
 use Rattle.segment.specs.View.{words, owners, view}
 use Rattle.segment.specs.Cells.{Cell}
 use Rattle.segment.proofs.Runs.{downward-length, part-length}
@@ -16,7 +16,7 @@ use Rattle.storage_theorems.proofs.Walks.{over-le}
 use Rattle.storage_theorems.specs.Elsewhere.{Elsewhere}
 use Rattle.effects.specs.Sound.{Sound}
 use Rattle.effects_theorems.specs.Theorems.{StateKept}
-use Rattle.frame_theorems.proofs.Frames.{frames-length, depth-is}
+use Rattle.frame_theorems.proofs.Frames.{frames-length}
 
 pub record Bounds (s : List ℕ) : Type 0 where
   pub low : 8 ≤ blockptr s
@@ -46,12 +46,6 @@ owners-few s g =
       frames-length s,
       bounds g,
     )
-
--- LTOP, told from the cells
-pub depth-words : (s : List ℕ) → Sound s → depth (words s) ≡ ltop s + 1
-unfolding words
-depth-words s g =
-    omega (arith, depth-is (g .chain) (suc (lbase s)) (omega arith), downward-length s (sbase s + lbase s + 2) (ltop s - (lbase s + 1)), g .above)
 
 -- a store outside array storage and the state words
 pub set-elsewhere : (s : List ℕ) (i w : ℕ) → 8 ≤ blockptr s → 8 ≤ i → (i < blockptr s) ⊎ (sbase s ≤ i) → Elsewhere s (set s i w)

@@ -179,10 +179,6 @@ module _ (s : List ℕ) (g : Sound s) (v : ℕ) where
   pub trap-sound : Sound (set s 3 v)
   trap-sound = state-sound s g 3 v (omega arith) (omega arith)
 
-  pub trap-words : words (set s 3 v) ≡ words s
-  unfolding words
-  trap-words = state-words s g 3 v (omega arith) (omega arith) ∙ ap (λ (f : ℕ). withFlags f (words s)) same-flags
-
   pub trap-view : view (set s 3 v) ≡ view s
   unfolding view words
   trap-view = state-view s g 3 v (omega arith) (omega arith) ∙ ap (λ (f : ℕ). withFlags f (view s)) same-flags

@@ -1,12 +1,12 @@
 -- The GENSCALAR family by the ways through it: a result of scalars, or one with the shape of an array.
 use Prim.Native.Nat.{ℕ, _≤_}
 use native.Mathlib.Omega.{arith}
-use mathlib.Core.Path.{_≡_, refl, sym, ap, _∙_}
+use mathlib.Core.Path.{_≡_, refl, sym, _∙_}
 use mathlib.Core.Bool.{Bool, true, false, cond, _&&_}
 use mathlib.Core.List.{List, [], _∷_}
 use lib.Dec.{eqb, ltb}
 use lib.ListN.{length}
-use borrow.Author.Tests.{eqb-true, le-ltb, lt-ltb, eq-eqb, ne-eqb}
+use borrow.Author.Tests.{eqb-true, le-ltb, lt-ltb, ne-eqb}
 use Rattle.operator.specs.declared.Monadic.{Monadic}
 use Rattle.operator.specs.declared.Dyadic.{Dyadic}
 use Rattle.scalar.specs.declared.Answer.{Answer}

@@ -1,7 +1,7 @@
 -- INDEX by the ways through it.
 use Prim.Native.Nat.{ℕ, _+_, _≤_}
 use native.Mathlib.Omega.{arith}
-use mathlib.Core.Path.{_≡_, refl, sym, ap, _∙_}
+use mathlib.Core.Path.{_≡_, sym, _∙_}
 use mathlib.Core.Bool.{false, not, _||_}
 use mathlib.Core.List.{List, [], _∷_}
 use lib.Dec.{eqb}
@@ -11,7 +11,7 @@ use Rattle.segment.specs.State.{flags, iorg}
 use Rattle.manual.specs.OrTrap.{gives, trap, andThen, stopIf}
 use Rattle.manual.specs.Effects.{word, replaces, jumps, Plan}
 use Rattle.manual.specs.Values.{Value, rank, ravelPlace}
-use Rattle.manual.specs.Scalars.{valueOf, isForeign, isScalarCell, anyCell, operands, scalarWords, subscripted, index}
+use Rattle.manual.specs.Scalars.{isForeign, isScalarCell, anyCell, operands, scalarWords, index}
 use Rattle.effects.specs.Seen.{seen}
 use Rattle.operands.specs.declared.reading.Value.{Value as Operand}
 use Rattle.operands.specs.Operands.{held}

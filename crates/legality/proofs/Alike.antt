@@ -146,7 +146,3 @@ like-legal {regular} {alternate} {m} {n} g e h =
       globals = λ i b. direct-on (e .globals) i (g .globals i (omega (arith, e .globals .size)));
       temporaries = λ i b. allowed-on regular alternate m n (e .globals .size) (m .frames) (n .frames) (e .frames) d (getD (n .temporaries) i undefined) (h i b);
     }
-
-pub like-names : (regular alternate : List ℕ) {m n : Machine Cell} → Like m n → (t : Target) → MayName regular alternate m (m .frames) t
-    → MayName regular alternate n (n .frames) t
-like-names regular alternate {m} {n} e t h = names-on regular alternate m n (e .globals .size) (m .frames) (n .frames) (e .frames) t h

@@ -1,7 +1,7 @@
 -- BRANCH, GO, GO_TRUE, GO_FALSE, RETURN, CALL, BREAKPOINT and ATTENTION, as the manual has them with document 01's "Meanings
 -- fixed here" and decisions 20, 21 and 32. Assumes nothing.
 use Prim.Native.Nat.{ℕ, _+_, _-_, _*_, _^_}
-use mathlib.Core.Bool.{Bool, true, false, cond, not, _&&_, _||_}
+use mathlib.Core.Bool.{Bool, cond, not, _&&_, _||_}
 use mathlib.Core.List.{List, [], _∷_, _++_}
 use lib.Dec.{ltb, leb, eqb}
 use Rattle.scalar.specs.declared.Whole.{Whole}
@@ -11,7 +11,7 @@ use Rattle.procedure.specs.declared.header.Header.{Header}
 use Rattle.procedure.specs.declared.header.Line.{Line}
 use Rattle.procedure.specs.declared.header.Line.the-variants as L
 use Rattle.procedure.specs.Headers.{codeStart, codeEnd}
-use Rattle.manual.specs.OrTrap.{OrTrap, gives, trap, andThen, stopIf}
+use Rattle.manual.specs.OrTrap.{gives, trap, andThen, stopIf}
 use Rattle.manual.specs.Values as values
 use Rattle.manual.specs.Effects.{Effect, discards, enters, leaves, jumps, Plan}
 use Rattle.manual.specs.Seen.{Seen, variablesOf}

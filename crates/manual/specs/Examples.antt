@@ -1,8 +1,8 @@
 -- An example of every instruction, by computation from the definitions: what a planner would expect on a small machine.
 -- Assumes nothing.
-use Prim.Native.Nat.{ℕ, zero, suc, _+_, _-_, _*_, _^_}
+use Prim.Native.Nat.{ℕ, _-_}
 use mathlib.Core.Path.{_≡_, refl}
-use mathlib.Core.Bool.{Bool, true, false}
+use mathlib.Core.Bool.{true, false}
 use mathlib.Core.List.{List, [], _∷_}
 use lib.Ieee.{size}
 use Rattle.descriptor.specs.declared.Target.the-variants.{Local, Global}
@@ -16,7 +16,6 @@ use Rattle.scalar.specs.Results.{integer, float, rounded, result}
 use Rattle.scalar.specs.Reading.{wholeUnits, wholeOf, truthUnits, truthOf}
 use Rattle.scalar.specs.Operators as S
 use Rattle.procedure.specs.declared.header.Header.{Header}
-use Rattle.procedure.specs.declared.header.Block.{Block}
 use Rattle.procedure.specs.Bytes.{halfAt, wordAt}
 use Rattle.procedure.specs.Headers.{headerAt, codeOf, lineOf}
 use Rattle.procedure.specs.Directory.{hasFunction}
@@ -29,12 +28,12 @@ use Rattle.instruction.specs.declared.Jump.the-variants as J
 use Rattle.instruction.specs.declared.Instruction.{Instruction}
 use Rattle.instruction.specs.declared.Instruction.the-variants as I
 use Rattle.instruction.specs.Reading.{codeAddress}
-use Rattle.segment.specs.Cells.{Cell, undefined, indirect, value, invalid}
+use Rattle.segment.specs.Cells.{Cell, undefined, indirect, value}
 use Rattle.segment.specs.Machine.{Frame, Machine}
-use Rattle.manual.specs.OrTrap.{OrTrap, gives, trap}
+use Rattle.manual.specs.OrTrap.{gives, trap}
 use Rattle.manual.specs.Values as values
-use Rattle.manual.specs.Effects.{Source, variable, operand, word, undefinedValue, reference, made, Effect, replaces, discards, swaps, stores, storesElement, enters, leaves, jumps, setsOrigin, Plan, performAll}
-use Rattle.manual.specs.Seen.{Seen, seenOf}
+use Rattle.manual.specs.Effects.{variable, operand, word, undefinedValue, reference, made, replaces, discards, swaps, stores, storesElement, enters, leaves, jumps, setsOrigin, Plan, performAll}
+use Rattle.manual.specs.Seen.{seenOf}
 use Rattle.manual.specs.Loads as loads
 use Rattle.manual.specs.Scalars as scalars
 use Rattle.manual.specs.Memory as memory

@@ -1,7 +1,7 @@
 -- The plan of every instruction: the manual's table of contents. A plan is told by what is seen and by the code alone.
 -- A reader must believe: each instruction has its section's meaning. Assumes nothing.
-use Prim.Native.Nat.{ℕ, zero, suc, _+_, _*_, _%_, _^_}
-use mathlib.Core.Bool.{Bool, true, false, cond, not}
+use Prim.Native.Nat.{ℕ, zero, suc, _+_, _%_, _^_}
+use mathlib.Core.Bool.{Bool, true, false, not}
 use mathlib.Core.List.{List, [], _∷_}
 use Rattle.descriptor.specs.Fields.{integerWord}
 use Rattle.descriptor.specs.Kinds.{bit}
@@ -29,7 +29,7 @@ use Rattle.instruction.specs.declared.Instruction.the-variants as I
 use Rattle.instruction.specs.declared.Decoded.{Decoded}
 use Rattle.instruction.specs.declared.Decoded.the-variants as D
 use Rattle.instruction.specs.Decoding.{instructionAt}
-use Rattle.manual.specs.OrTrap.{OrTrap, gives, trap, andThen, stopIf}
+use Rattle.manual.specs.OrTrap.{OrTrap, trap, stopIf}
 use Rattle.manual.specs.Effects.{Plan}
 use Rattle.manual.specs.Seen.{Seen, Variable, variablesOf}
 use Rattle.manual.specs.Loads as loads

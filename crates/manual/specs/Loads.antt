@@ -7,8 +7,8 @@ use lib.Dec.{ltb}
 use lib.ListN.{length}
 use Rattle.descriptor.specs.Kinds.{isScalar}
 use Rattle.segment.specs.Cells.{Cell, undefined, indirect, value, invalid}
-use Rattle.manual.specs.OrTrap.{OrTrap, gives, trap, andThen, stopIf}
-use Rattle.manual.specs.Effects.{Source, variable, word, undefinedValue, reference, made, Effect, replaces, jumps, Plan}
+use Rattle.manual.specs.OrTrap.{OrTrap, gives, andThen, stopIf}
+use Rattle.manual.specs.Effects.{Source, variable, word, undefinedValue, reference, made, replaces, jumps, Plan}
 use Rattle.manual.specs.Seen.{Seen, Variable}
 use Rattle.manual.specs.Values.{any}
 

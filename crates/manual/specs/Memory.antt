@@ -1,14 +1,13 @@
 -- The MEMREF operations that write: ASSIGN, ASSIGN_NORESULT and ASSIGN_INDEXED, and the operations on the stack alone. Order of
 -- traps by decision 17: the variable's address and indirection, (3,4), (3,5), the manual's list, (1,2). Assumes nothing.
 use Prim.Native.Nat.{ℕ, _+_}
-use mathlib.Core.Bool.{Bool, true, false, cond, not, _||_}
+use mathlib.Core.Bool.{Bool, true, false, not, _||_}
 use mathlib.Core.List.{List, [], _∷_}
 use lib.Dec.{ltb, eqb}
-use lib.ListN.{length}
 use Rattle.segment.specs.Cells.{Cell, undefined, indirect, value as holds, invalid}
-use Rattle.manual.specs.OrTrap.{OrTrap, gives, trap, andThen, stopIf}
+use Rattle.manual.specs.OrTrap.{OrTrap, gives, andThen, stopIf}
 use Rattle.manual.specs.Values as values
-use Rattle.manual.specs.Effects.{Source, operand, Effect, discards, swaps, stores, storesElement, jumps, Plan}
+use Rattle.manual.specs.Effects.{operand, Effect, discards, swaps, stores, storesElement, jumps, Plan}
 use Rattle.manual.specs.Seen.{Seen, Variable}
 use Rattle.manual.specs.Scalars.{valueOf, operands, isScalarCell, anyCell, cellWord, subscripted}
 

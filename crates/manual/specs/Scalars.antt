@@ -13,7 +13,7 @@ use Rattle.segment.specs.Cells.{Cell, undefined, indirect, value as holds, inva
 use Rattle.manual.specs.OrTrap.{OrTrap, gives, trap, andThen, stopIf}
 use Rattle.manual.specs.Values as values
 use Rattle.manual.specs.Values.{Value}
-use Rattle.manual.specs.Effects.{Source, word, made, Effect, replaces, jumps, setsOrigin, Plan}
+use Rattle.manual.specs.Effects.{Source, word, made, replaces, jumps, setsOrigin, Plan}
 use Rattle.manual.specs.Seen.{Seen}
 
 -- "Where an operand is not of the kind wanted, the instruction stops there with (3,5). Kind means scalar or array."

@@ -2,7 +2,7 @@
 -- stack, the index origin and the current function. A plan is told by these alone, so that sharing is invisible to it.
 -- A reader must believe: an address leads to its variable as here. Assumes nothing.
 use Prim.Native.Nat.{ℕ, _+_, _-_}
-use mathlib.Core.Bool.{Bool, true, false, cond, _&&_, _||_}
+use mathlib.Core.Bool.{Bool, true, false, cond, _||_}
 use mathlib.Core.List.{List, [], _∷_}
 use lib.Dec.{ltb, leb}
 use lib.ListN.{getD, length}
@@ -13,8 +13,8 @@ use Rattle.procedure.specs.declared.header.Header.{Header}
 use Rattle.segment.specs.State.{iorg}
 use Rattle.segment.specs.Cells.{Cell, undefined, indirect, value, invalid}
 use Rattle.segment.specs.Machine.{Frame, Machine, depthOfFrames, depth}
-use Rattle.manual.specs.OrTrap.{OrTrap, gives, trap, andThen, stopIf}
-use Rattle.manual.specs.Effects.{look, currentCells, older}
+use Rattle.manual.specs.OrTrap.{OrTrap, gives, trap, stopIf}
+use Rattle.manual.specs.Effects.{look, currentCells}
 
 -- A variable that an address leads to, and what it holds.
 pub record Variable : Type 0 where

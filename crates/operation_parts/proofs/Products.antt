@@ -4,12 +4,12 @@ use native.Mathlib.Nat.{mul-zero, zero-mul, mul-mod-right, div-eq-of-eq-mul-righ
 use native.Mathlib.Numerals.{add-one}
 use native.Mathlib.Omega.{arith}
 use mathlib.Core.Path.{_≡_, refl, sym, ap, _∙_}
-use mathlib.Core.Bool.{Bool, true, false, _||_}
+use mathlib.Core.Bool.{Bool, true, false}
 use mathlib.Core.List.{List, [], _∷_}
 use lib.ListN.{length, getD, drop}
 use lib.Seq.{drop-cons, drop-length}
 use lib.Dec.{eqb}
-use borrow.Author.Tests.{eqb-false, eq-eqb, ne-eqb}
+use borrow.Author.Tests.{eqb-false, ne-eqb}
 use Rattle.descriptor.proofs.Truth.{neither, same-test}
 use Rattle.segment.specs.Blocks.{product}
 use Rattle.acceptance_storage.proofs.Tests.{by-eq, never}

@@ -18,7 +18,7 @@ use Rattle.segment.specs.Blocks.{rankAt, countAt, product, shapeAt, elementsAt,
 use Rattle.segment.specs.Lent.{Words}
 use Rattle.segment.proofs.Words.{set-below, words-part, words-sets, Short, short-set, short-ltop, short-lbase, short-iorg, short-pctr}
 use Rattle.storage.specs.Request.{requestAt}
-use Rattle.storage.specs.Arrays.{placeAt, dropWords}
+use Rattle.storage.specs.Arrays.{placeAt}
 use Rattle.manual.specs.Effects.{Source, variable, operand, word, undefinedValue, reference, made, Effect, replaces, discards, swaps, stores, storesElement, enters, leaves, jumps, setsOrigin}
 use Rattle.manual.proofs.Tests.{none-holds}
 use Rattle.effects.specs.Sources.{addressOf, heldAt, operandAt, sourceWord, placed}

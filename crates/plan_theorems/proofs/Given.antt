@@ -1,6 +1,6 @@
 -- What a result has, if one is given: a statement about a plan goes down the manual's lists of traps.
 use Prim.Native.Nat.{ℕ}
-use mathlib.Core.Path.{_≡_, sym, subst}
+use mathlib.Core.Path.{_≡_, subst}
 use mathlib.Core.Bool.{Bool, true, false, cond}
 use Rattle.manual.specs.OrTrap.{OrTrap, gives, trap, andThen, stopIf}
 use Rattle.manual.specs.Cases.{OfPlan}
@@ -19,10 +19,6 @@ pub chained : {A B : Type 0} (P : A → Type 0) (Q : B → Type 0) (x : OrTrap A
     → Given Q (andThen x next)
 chained P Q (gives a) next h k = k a h
 chained P Q (trap class number) next h k = tt
-
--- where nothing need be known of the result
-pub any-given : {A B : Type 0} (Q : B → Type 0) (x : OrTrap A) (next : A → OrTrap B) → ((a : A) → Given Q (next a)) → Given Q (andThen x next)
-any-given Q x next k = goes Q AnyTrap x next (λ class number e. tt) (λ a e. k a)
 
 pub both : {A : Type 0} (P : A → Type 0) (b : Bool) (x y : OrTrap A) → (b ≡ true → Given P x) → (b ≡ false → Given P y) → Given P (cond b x y)
 both P b x y h k = either P AnyTrap b x y h k

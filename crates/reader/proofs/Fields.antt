@@ -1,6 +1,6 @@
 -- A field of a struct that stands at the head of the context, behind a reference in a local: read into a place, and stored from one.
 -- Assumes `Given`.
-use Prim.Native.Nat.{ℕ, zero, _+_}
+use Prim.Native.Nat.{ℕ, zero}
 use mathlib.Core.Path.{_≡_, sym, subst}
 use mathlib.Core.Option.{some}
 use mathlib.Core.List.{List, [], _∷_}

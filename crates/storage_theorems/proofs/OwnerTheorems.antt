@@ -1,6 +1,6 @@
 -- The theorems of specs/Theorems.
 use native.Mathlib.Omega.{arith}
-use Rattle.storage.specs.Arrays.{place, share, dropWord, dropWords}
+use Rattle.storage.specs.Arrays.{place, share}
 use Rattle.storage_theorems.specs.OwnerTheorems.{OwnersTheorems}
 use Rattle.storage_theorems.proofs.Owners.{reown}
 use Rattle.storage_theorems.proofs.Steps.{drops-own}

@@ -1,4 +1,4 @@
-use mathlib.Core.Path.{refl, _∙_}
+use mathlib.Core.Path.{refl}
 use native.Mathlib.Omega.{arith}
 use Rattle.effects_code.proofs.FrameWords.{laid}
 use borrow.Author.Needs.{needs}

@@ -1,4 +1,4 @@
-use mathlib.Core.Path.{sym, _∙_}
+use mathlib.Core.Path.{sym}
 use native.Mathlib.Omega.{arith}
 use Rattle.storage.proofs.Requests.{given-split, given-whole, give-split, give-whole}
 use borrow.Author.Needs.{needs}

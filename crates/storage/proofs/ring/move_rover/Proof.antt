@@ -1,4 +1,3 @@
-use native.Mathlib.Omega.{arith}
 use mathlib.Core.Path.{sym, _∙_}
 use Rattle.storage.proofs.Releases.{moveRover-on, moveRover-off}
 use borrow.Author.Needs.{needs}
