@@ -217,11 +217,15 @@ const TRAPS: [(u8, u8, &str); 31] = [
     (
         8,
         1,
-        "The result of two integers is above 8,388,607 in magnitude: SUM, DIFFERENCE, PRODUCT, and LESS and EQUAL by their \
-         difference.",
+        "The result of two integers is above 8,388,607 in magnitude: SUM, DIFFERENCE, PRODUCT. LESS and EQUAL never give it, \
+         however far apart the numbers are.",
     ),
-    (8, 2, "A float result, not zero, is below 2^−128 in magnitude; LESS and EQUAL by their difference too."),
-    (8, 3, "A float result is 2^128 or more in magnitude after rounding; LESS and EQUAL by their difference too."),
+    (
+        8,
+        2,
+        "A float result, not zero, is below 2^−128 in magnitude. LESS and EQUAL never give it, however near the numbers are.",
+    ),
+    (8, 3, "A float result is 2^128 or more in magnitude after rounding. LESS and EQUAL never give it."),
     (8, 4, "QUOTIENT with zero as its second operand."),
     (
         8,
