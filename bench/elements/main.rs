@@ -77,6 +77,15 @@ fn main() {
                 || _ = black_box(plain::dyadic(op, black_box(a), black_box(b), black_box(&mut other))),
             );
         }
+        let [a, b] = &floats;
+        proved_dyadic(LESS, a, b, &mut out);
+        assert!(plain::less_by_words(a, b, &mut other) && out == other);
+        row(
+            "float LESS, by words",
+            n,
+            || _ = black_box(proved_dyadic(LESS, black_box(a), black_box(b), black_box(&mut out))),
+            || _ = black_box(plain::less_by_words(black_box(a), black_box(b), black_box(&mut other))),
+        );
         let from = &integers[0];
         row(
             "copy",

@@ -1,6 +1,5 @@
-//! Operators over elements as one writes them in Rust for speed: integers, and comparisons of floats, by loops without branches,
-//! of which the compiler makes vector code, and all else in doubles, element by element, up to the first trap. A bench need not
-//! use all of them.
+//! Operators over elements as one writes them in Rust for speed: integers by a loop without branches, of which the compiler
+//! makes vector code, and all else in doubles, element by element, up to the first trap. A bench need not use all of them.
 #![allow(dead_code)]
 
 pub const SUM: u32 = 8;
@@ -142,42 +141,32 @@ fn pairs(a: &[u32], b: &[u32], out: &mut [u32], mut put: impl FnMut(u32, u32, &m
 }
 
 /// All pairs, if all are integers and so are the results.
-fn integers(a: &[u32], b: &[u32], out: &mut [u32], whole: impl Fn(i32, i32) -> i32) -> bool {
+fn integers(a: &[u32], b: &[u32], out: &mut [u32], result: impl Fn(i32, i32) -> u32) -> bool {
     let mut seen = a.first().unwrap_or(&0) | b.first().unwrap_or(&0);
     if seen & NO_INTEGER != 0 {
         return false;
     }
     pairs(a, b, out, |x, y, to| {
-        let w = word(whole(signed(x), signed(y)));
+        let w = result(signed(x), signed(y));
         seen |= x | y | w;
         *to = w;
     });
     seen & NO_INTEGER == 0
 }
 
-/// Where a word stands among integers' words, or among floats'.
-fn place(w: u32) -> i32 {
-    let sign = w as i32 >> 31;
-    ((w & 0x7fff_ffff) as i32 ^ sign) - sign
-}
-
-fn one_kind(any: u32, every: u32) -> bool {
-    any & NO_INTEGER == 0 || every & 0x4000_0000 != 0
-}
-
-/// All pairs, if all are integers or all are floats.
-fn compared(a: &[u32], b: &[u32], out: &mut [u32], test: impl Fn(i32, i32) -> bool) -> bool {
-    let (x, y) = (a.first().unwrap_or(&0), b.first().unwrap_or(&0));
-    let (mut any, mut every) = (x | y, x & y);
-    if !one_kind(any, every) {
-        return false;
-    }
+/// LESS of floats by their words, as the engine does it, if all are floats: for who would rather compare with that.
+#[inline(never)]
+pub fn less_by_words(a: &[u32], b: &[u32], out: &mut [u32]) -> bool {
+    let place = |w: u32| {
+        let sign = w as i32 >> 31;
+        ((w & 0x7fff_ffff) as i32 ^ sign) - sign
+    };
+    let mut every = !0;
     pairs(a, b, out, |x, y, to| {
-        any |= x | y;
         every &= x & y;
-        *to = test(place(x), place(y)) as u32;
+        *to = (place(x) < place(y)) as u32;
     });
-    one_kind(any, every)
+    every & 0x4000_0000 != 0
 }
 
 fn each(a: &[u32], b: &[u32], out: &mut [u32], f: impl Fn(u32, u32) -> Answer) -> u32 {
@@ -194,10 +183,10 @@ fn each(a: &[u32], b: &[u32], out: &mut [u32], f: impl Fn(u32, u32) -> Answer) -
 #[inline(never)]
 pub fn dyadic(op: u32, a: &[u32], b: &[u32], out: &mut [u32]) -> u32 {
     let served = match op {
-        SUM => integers(a, b, out, |x, y| x + y),
-        DIFFERENCE => integers(a, b, out, |x, y| x - y),
-        LESS => compared(a, b, out, |x, y| x < y),
-        EQUAL => compared(a, b, out, |x, y| x == y),
+        SUM => integers(a, b, out, |x, y| word(x + y)),
+        DIFFERENCE => integers(a, b, out, |x, y| word(x - y)),
+        LESS => integers(a, b, out, |x, y| (x < y) as u32),
+        EQUAL => integers(a, b, out, |x, y| (x == y) as u32),
         _ => false,
     };
     if served {
