@@ -1,7 +1,7 @@
 #!/usr/bin/env python3
 """Writes the file stdin of the program engine_cases: calls of lay out, run, load and look.
 
-FORM, below, says what the lines mean. Every answer that is written here comes from document 01 and the manual, by hand; only
+FORM, below, says what the lines mean. Every answer that is written here comes from the documents and the manual, by hand; only
 the calls of the mixed list at the end have none. If there is a file stdout, the script says where it differs from these
 answers, where a refused call changed a word, and where a run in parts leaves other words than the whole run.
 """
@@ -628,8 +628,6 @@ trial("(7,0): the second of three elements", G(8), NEGATIVE, trap="(7,0)", loads
 most, least = lit(i(8388607)), lit(i(-8388607))
 trial("(8,1): a product of 2 to the 23", lit(i(4096)), lit(i(2048)), PRODUCT, trap="(8,1)")
 trial("(8,1): a difference", most, least, DIFFERENCE, trap="(8,1)")
-trial("(8,1): LESS, by its difference", most, least, LESS, trap="(8,1)")
-trial("(8,1): EQUAL too", least, most, EQUAL, trap="(8,1)")
 trial("(8,2): half of 2 to the -128", lit(f(0.5)), lit(0x40000000), PRODUCT, trap="(8,2)")
 trial("(8,2): a quotient", lit(f(2.0)), lit(0x40000000), QUOTIENT, trap="(8,2)")
 trial("(8,3): twice the greatest float", lit(0x7FFFFFFF), lit(0x7FFFFFFF), SUM, trap="(8,3)")
@@ -757,6 +755,15 @@ for o, result in ((AND, (0, 0, 0, 1)), (OR, (0, 1, 1, 1))):
     look(10, listed(*result))
 trial("EQUAL of characters and numbers", G(9), G(8), EQUAL, store(G(10)), loads=[(8, [3], [c("A"), c("A"), 1]), (9, [3], [c("A"), 65, f(1.0)])])
 look(10, listed(1, 0, 1))
+# debits and credits, integers and the greatest floats, and the two least floats: by paper 4 of document 02 their exact values
+debits, credits = (8, [3], [i(-8388607), 0xFFFFFFFF, 0x40000000]), (9, [3], [i(8388607), 0x7FFFFFFF, 0x40000001])
+for first, second, o, result in ((G(8), G(9), LESS, (1, 1, 1)), (G(9), G(8), LESS, (0, 0, 0)), (G(8), G(9), EQUAL, (0, 0, 0)), (G(8), G(8), EQUAL, (1, 1, 1))):
+    trial(f"{o.name} of numbers of which DIFFERENCE traps", second, first, o, store(G(10)), loads=[debits, credits])
+    look(10, listed(*result))
+trial("LESS and EQUAL of an integer and a float: 8,388,607, and -1 with the float below it", G(9), G(8), LESS, store(G(10)), G(9), G(8), EQUAL, store(G(11)),
+      loads=[(8, [2], [i(8388607), 0xE0000001]), (9, [2], [f(8388607.0), i(-1)])])
+look(10, listed(0, 1))
+look(11, listed(1, 0))
 trial("a scalar and a list", const(1), G(8), SUM, store(G(10)), loads=[three])
 look(10, listed(8, i(-1), f(1.5)))
 trial("a table of one element and a list of one: the greater rank gives the shape", G(9), G(8), SUM, store(G(10)),
