@@ -154,7 +154,7 @@ fn integers(a: &[u32], b: &[u32], out: &mut [u32], result: impl Fn(i32, i32) -> 
     seen & NO_INTEGER == 0
 }
 
-/// LESS of floats by their words, as the engine does it, if all are floats: for who would rather compare with that.
+/// LESS of floats by their words, as the engine does it, if all are floats: for those who would rather compare with that.
 #[inline(never)]
 pub fn less_by_words(a: &[u32], b: &[u32], out: &mut [u32]) -> bool {
     let place = |w: u32| {

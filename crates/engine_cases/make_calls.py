@@ -757,9 +757,11 @@ trial("EQUAL of characters and numbers", G(9), G(8), EQUAL, store(G(10)), loads=
 look(10, listed(1, 0, 1))
 # debits and credits, integers and the greatest floats, and the two least floats: by paper 4 of document 02 their exact values
 debits, credits = (8, [3], [i(-8388607), 0xFFFFFFFF, 0x40000000]), (9, [3], [i(8388607), 0x7FFFFFFF, 0x40000001])
-for first, second, o, result in ((G(8), G(9), LESS, (1, 1, 1)), (G(9), G(8), LESS, (0, 0, 0)), (G(8), G(9), EQUAL, (0, 0, 0)), (G(8), G(8), EQUAL, (1, 1, 1))):
+for first, second, o, result in ((G(8), G(9), LESS, (1, 1, 1)), (G(9), G(8), LESS, (0, 0, 0)), (G(8), G(9), EQUAL, (0, 0, 0))):
     trial(f"{o.name} of numbers of which DIFFERENCE traps", second, first, o, store(G(10)), loads=[debits, credits])
     look(10, listed(*result))
+trial("EQUAL of debits with themselves", G(8), G(8), EQUAL, store(G(10)), loads=[debits])
+look(10, listed(1, 1, 1))
 trial("LESS and EQUAL of an integer and a float: 8,388,607, and -1 with the float below it", G(9), G(8), LESS, store(G(10)), G(9), G(8), EQUAL, store(G(11)),
       loads=[(8, [2], [i(8388607), 0xE0000001]), (9, [2], [f(8388607.0), i(-1)])])
 look(10, listed(0, 1))

@@ -25,7 +25,7 @@ bit-back false = refl
 
 -- ---- from the kind to the word and back
 
-float-fields : (s e f : ℕ) → s ≤ 1 → e < 2 ^ 8 → f < 2 ^ 22 → (floatWord s e f / 2 ^ 30 % 2 ≡ 1) × (sign (floatWord s e f) ≡ s) × (exponent (floatWord s e f) ≡ e) × (fraction (floatWord s e f) ≡ f)
+pub float-fields : (s e f : ℕ) → s ≤ 1 → e < 2 ^ 8 → f < 2 ^ 22 → (floatWord s e f / 2 ^ 30 % 2 ≡ 1) × (sign (floatWord s e f) ≡ s) × (exponent (floatWord s e f) ≡ e) × (fraction (floatWord s e f) ≡ f)
 float-fields s e f hs he hf = (omega arith, omega arith, omega arith, omega arith)
 
 float-back : (t : Bool) (e f : ℕ) → e < 2 ^ 8 → f < 2 ^ 22 → kindOf (floatWord (bit t) e f) ≡ K.Scalar (Float t e f)

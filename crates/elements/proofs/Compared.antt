@@ -1,8 +1,8 @@
 -- The words that the fast loops store for LESS and EQUAL are right among integers and among floats.
 use Prim.Native.Nat.{ℕ, _/_, _%_, _^_}
 use native.Mathlib.Omega.{arith}
-use mathlib.Core.Path.{_≡_, sym, ap, ap₂, _∙_}
-use mathlib.Core.Bool.{Bool, true, false, _||_}
+use mathlib.Core.Path.{_≡_, sym, ap, _∙_}
+use mathlib.Core.Bool.{Bool, true, false}
 use mathlib.Core.Logic.{inr}
 use lib.Bits.{bitAnd, bitOr}
 use lib.Dec.{ltb, eqb}
@@ -11,23 +11,21 @@ use Rattle.descriptor.specs.Fields.{isCharacter}
 use Rattle.descriptor.specs.Kinds.{bit}
 use Rattle.scalar.specs.declared.Answer.the-variants.{Word}
 use Rattle.scalar.specs.Operators.{less, equal}
-use Rattle.scalar.specs.Order.{isBelow}
 use Rattle.scalar.specs.Parts.{wordPlace}
-use Rattle.scalar.proofs.Operands.{character-bits, numbers-plain}
-use Rattle.scalar.proofs.Equality.{equal-numbers}
+use Rattle.scalar.proofs.Operands.{character-bits, small-plain}
+use Rattle.scalar.proofs.Equality.{less-numbers, equal-numbers}
 use Rattle.scalar.proofs.Ordering.{Alike, below-by, equal-by, integers-alike, floats-alike}
 use Rattle.elements.specs.Parts.{Plain, oneKind, seenWith}
 use Rattle.elements.proofs.Seen.{plain-operands, float-both}
-use Rattle.elements.proofs.Integral.{no-character}
 
--- Two integers, or two floats.
+-- Two numbers whose words lie as their values do: two integers are so, and two floats.
 pub record Comparable (x y : ℕ) : Type 0 where
   pub alike : Alike x y
   pub first : isCharacter x ≡ false
   pub second : isCharacter y ≡ false
 
 integers : (x y : ℕ) → Plain x → Plain y → Comparable x y
-integers x y p q = record { alike = integers-alike x y p q; first = no-character x p; second = no-character y q }
+integers x y p q = record { alike = integers-alike x y p q; first = small-plain x p; second = small-plain y q }
 
 floats : (x y : ℕ) → x / 2 ^ 30 % 2 ≡ 1 → y / 2 ^ 30 % 2 ≡ 1 → Comparable x y
 floats x y p q = record { alike = floats-alike x y (inr p) (inr q); first = number x p; second = number y q }
@@ -47,8 +45,7 @@ with-both false seen x y h =
 
 module _ {x y : ℕ} (k : Comparable x y) where
   pub fast-less : less x y ≡ Word (bit (ltb (wordPlace x) (wordPlace y)))
-  unfolding less
-  fast-less = numbers-plain x y (Word (bit (isBelow x y))) (ap₂ _||_ (k .first) (k .second)) ∙ ap (λ (t : Bool). Word (bit t)) (sym (below-by x y (k .alike)))
+  fast-less = sym (ap (λ (t : Bool). Word (bit t)) (below-by x y (k .alike)) ∙ less-numbers x y (k .first) (k .second))
 
   pub fast-equal : equal x y ≡ Word (bit (eqb (wordPlace x) (wordPlace y)))
   fast-equal = sym (ap (λ (t : Bool). Word (bit t)) (equal-by x y (k .alike)) ∙ equal-numbers x y (k .first) (k .second))

@@ -3,15 +3,15 @@ use Prim.Native.Nat.{ℕ, _+_, _-_, _*_, _/_, _%_, _^_, _≤_, _<_, min}
 use native.Mathlib.Nat.{mod-eq-of-lt}
 use native.Mathlib.Omega.{arith}
 use mathlib.Core.Path.{_≡_, refl, sym, ap, ap₂, _∙_}
-use mathlib.Core.Bool.{false, _||_}
+use mathlib.Core.Bool.{_||_}
 use borrow.Author.Tests.{eq-eqb, ne-eqb, lt-ltb}
-use Rattle.descriptor.specs.Fields.{sign, magnitude, isCharacter}
+use Rattle.descriptor.specs.Fields.{sign, magnitude}
 use Rattle.scalar.specs.Value.{units, oneFloat}
 use Rattle.scalar.specs.declared.Answer.{Answer}
 use Rattle.scalar.specs.declared.Answer.the-variants.{Word}
 use Rattle.scalar.specs.Results.{integer}
 use Rattle.scalar.specs.Operators.{sumSign, sumSize, plus, minus, times, sum, difference, product, productSign, numbers}
-use Rattle.scalar.proofs.Operands.{character-bits, numbers-plain}
+use Rattle.scalar.proofs.Operands.{numbers-plain, small-plain}
 use Rattle.scalar.proofs.Addition.{like, less, more, cases, either, plus-integers, sum-integers, minus-integers}
 use Rattle.scalar.proofs.Multiplication.{product-integer}
 use Rattle.elements.specs.Parts.{Plain, Offset, Back}
@@ -102,12 +102,9 @@ module _ (n m o q r : ℕ) (hn : n < 2 ^ 23) (hm : m < 2 ^ 23) (b : Back (o + q)
 no-float : (x : ℕ) → Plain x → x / 2 ^ 30 % 2 ≡ 0
 no-float x p = omega arith
 
-pub no-character : (x : ℕ) → Plain x → isCharacter x ≡ false
-no-character x p = sym (character-bits x) ∙ ne-eqb (x / 2 ^ 24 % 2 ^ 7) 1 (λ e. omega arith)
-
 -- two plain words are numbers
 plain-numbers : (x y : ℕ) (answer : Answer) → Plain x → Plain y → numbers x y answer ≡ answer
-plain-numbers x y answer p q = numbers-plain x y answer (ap₂ _||_ (no-character x p) (no-character y q))
+plain-numbers x y answer p q = numbers-plain x y answer (ap₂ _||_ (small-plain x p) (small-plain y q))
 
 -- ---- sums and differences
 
@@ -128,17 +125,14 @@ module _ (x y o q r : ℕ) (hx : x < 2 ^ 32) (hy : y < 2 ^ 32) (ox : Offset (x /
       ∙ plus-integers (x / 2 ^ 31) (x % 2 ^ 23) (y / 2 ^ 31) (y % 2 ^ 23)
       ∙ any-sign (x % 2 ^ 23) (y % 2 ^ 23) o q r (omega arith) (omega arith) b pr (x / 2 ^ 31) (y / 2 ^ 31) (omega arith) (omega arith) ox oy
 
-  pub fast-difference : Back (o + (2 ^ 25 - q)) r → minus x y ≡ Word r
-  unfolding Goal
+  pub fast-difference : Back (o + (2 ^ 25 - q)) r → difference x y ≡ Word r
+  unfolding difference Goal
   fast-difference b =
-      sym (minus-integers x y (no-float x px) (no-float y py))
+      plain-numbers x y (minus x y) px py
+      ∙ sym (minus-integers x y (no-float x px) (no-float y py))
       ∙ plus-integers (x / 2 ^ 31) (x % 2 ^ 23) (1 - y / 2 ^ 31) (y % 2 ^ 23)
       ∙ any-sign (x % 2 ^ 23) (y % 2 ^ 23) o (2 ^ 25 - q) r (omega arith) (omega arith) b pr (x / 2 ^ 31) (1 - y / 2 ^ 31) (omega arith) (omega arith) ox
       (negated (y / 2 ^ 31) (y % 2 ^ 23) q (omega arith) (omega arith) oy)
-
-pub difference-by : (x y d : ℕ) → Plain x → Plain y → minus x y ≡ Word d → difference x y ≡ Word d
-unfolding difference
-difference-by x y d p q e = plain-numbers x y (minus x y) p q ∙ e
 
 -- ---- products
 

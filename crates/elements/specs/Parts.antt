@@ -33,10 +33,11 @@ Relied f says a b words = says ≡ true → gives words ≡ pairwise (λ x y. an
 abbrev pub Plain : ℕ → Type 0
 Plain w = w / 2 ^ 23 % 2 ^ 8 ≡ 0
 
--- The bits that are in every word seen, if they should be floats, or in any, if integers: with two words more, and whether they are.
+-- The bits that every word so far has, where floats are expected, or that any has, where integers are: with two words more.
 abbrev pub seenWith : Bool → ℕ → ℕ → ℕ → ℕ
 seenWith floats seen x y = cond floats (bitAnd (bitAnd seen x) y) (bitOr (bitOr seen x) y)
 
+-- Whether these bits say that all were of that kind.
 abbrev pub oneKind : Bool → ℕ → Bool
 oneKind floats seen = cond floats (eqb (seen / 2 ^ 30 % 2) 1) (eqb (seen / 2 ^ 23 % 2 ^ 8) 0)
 

@@ -1,6 +1,6 @@
 // Fast loops for LESS and EQUAL, without branches. They go by the places of words, which is right among integers and among
 // floats. Which of these the operands are, their first elements say, and the bits that all words have in common or that any
-// has tell whether it was so. The compiler makes a loop for each.
+// has tell whether it was so. The compiler makes a loop for each kind.
 ghost use mathlib.Core.Path.{_≡_};
 ghost use Prim.Native.Nat.{_≤_};
 ghost use lib.ListN.{length, take};

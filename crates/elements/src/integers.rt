@@ -1,6 +1,7 @@
-// Fast loops for integers, without branches. Each stores every word and keeps which bits it has seen in operands and results:
-// where these are no bits 30-23, all were integers and the words are right. One loop for each operator, for the compiler makes
-// vector code of it, and none where the operator is a parameter.
+// Fast loops for integers, without branches. Each stores every word and keeps which bits it has seen in operands and results, for
+// PRODUCT in the products of the magnitudes: where none is above the 23 of an integer, but for the sign, all were integers and
+// the words are right. One loop for each operator, for the compiler makes vector code of it, and none where the operator is a
+// parameter.
 ghost use Prim.Native.Nat.{_≤_};
 ghost use lib.ListN.{length, take};
 ghost use Rattle.scalar.specs.Operators as S;

@@ -22,7 +22,7 @@ pub fn sum_word(x: u32, y: u32) -> u32
 }
 
 pub fn difference_word(x: u32, y: u32) -> u32
-    ensures { λ r. ⌜ (Plain x → Plain y → Plain r → S.minus x y ≡ Word r) ⌝ }
+    ensures { λ r. ⌜ (Plain x → Plain y → Plain r → S.difference x y ≡ Word r) ⌝ }
 {
     back(offset(x) + (0x200_0000 - offset(y)))
 }

@@ -1,6 +1,6 @@
 -- The theorem of specs/Comparisons, down the lists of traps that a scalar instruction of two operands goes through.
 use Prim.Native.Nat.{ℕ}
-use mathlib.Core.Path.{_≡_, refl, subst}
+use mathlib.Core.Path.{_≡_, refl}
 use mathlib.Core.Bool.{Bool, true, false, cond, _&&_, _||_}
 use mathlib.Core.List.{List}
 use lib.Dec.{ltb, eqb}
@@ -13,7 +13,7 @@ use Rattle.scalar.specs.Value.{characterCode}
 use Rattle.scalar.specs.Order.{isBelow, isEqual}
 use Rattle.scalar.specs.Results.{typeError}
 use Rattle.scalar.specs.Operators.{less, equal, dyadicOf}
-use Rattle.manual.specs.OrTrap.{OrTrap, trap}
+use Rattle.manual.specs.OrTrap.{OrTrap}
 use Rattle.manual.specs.Values as values
 use Rattle.manual.specs.Values.{answered}
 use Rattle.manual.specs.Scalars.{valueOf, dyadic}
@@ -21,7 +21,7 @@ use Rattle.manual.specs.Seen.{Seen}
 use Rattle.manual.specs.Instructions.{planOf}
 use Rattle.manual.specs.Traps.{Line, among}
 use Rattle.manual.specs.Comparisons.{equalTraps, lessTraps, ComparisonTraps}
-use Rattle.manual.proofs.Lists.{Within, stops-within, goes-within}
+use Rattle.manual.proofs.Lists.{Within, within, stops-within, goes-within}
 use Rattle.manual.proofs.Values.{value-within, dyadic-within}
 
 -- The trap is one of the lines.
@@ -30,9 +30,6 @@ Among lines class number = among class number lines ≡ true
 
 abbrev Only : List Line → {A : Type 0} → OrTrap A → Type 0
 Only lines x = Within (Among lines) x
-
-told : (lines : List Line) {A : Type 0} (x : OrTrap A) → Only lines x → (class number : ℕ) → x ≡ trap class number → among class number lines ≡ true
-told lines x h class number e = subst (λ (y : OrTrap _). Only lines y) e h
 
 -- lines that have what any operator of two operands may give
 module _ (lines : List Line) (few : Among lines 3 4) (kind : Among lines 3 5) (rank : Among lines 5 0) (lengths : Among lines 6 0) where
@@ -65,6 +62,6 @@ pub comparison-traps : ComparisonTraps
 unfolding planOf
 comparison-traps =
     record {
-      less = λ f seen next. told lessTraps (dyadic seen next D.Less) (plan-only lessTraps refl refl refl refl D.Less less-only seen next);
-      equal = λ f seen next. told equalTraps (dyadic seen next D.Equal) (plan-only equalTraps refl refl refl refl D.Equal equal-only seen next);
+      less = λ f seen next. within (Among lessTraps) (dyadic seen next D.Less) (plan-only lessTraps refl refl refl refl D.Less less-only seen next);
+      equal = λ f seen next. within (Among equalTraps) (dyadic seen next D.Equal) (plan-only equalTraps refl refl refl refl D.Equal equal-only seen next);
     }

@@ -29,18 +29,18 @@ module _ (T : ℕ → ℕ → Type 0) where
   abbrev pub Within : {A : Type 0} → OrTrap A → Type 0
   Within x = OfPlan (λ a. Unit {0}) T x
 
+  pub within : {A : Type 0} (x : OrTrap A) → Within x → (class number : ℕ) → x ≡ trap class number → T class number
+  within x h class number e = subst Within e h
+
   module _ {A : Type 0} where
     pub stops-within : (test : Bool) (class number : ℕ) (rest : OrTrap A) → T class number → Within rest → Within (stopIf test class number rest)
-    stops-within true class number rest t h = t
-    stops-within false class number rest t h = h
+    stops-within test class number rest t h = stops (λ a. Unit {0}) T test class number rest t (λ e. h)
 
     pub goes-within : {B : Type 0} (x : OrTrap B) (next : B → OrTrap A) → Within x → ((b : B) → Within (next b)) → Within (andThen x next)
-    goes-within (gives b) next t h = h b
-    goes-within (trap class number) next t h = t
+    goes-within x next t h = goes (λ a. Unit {0}) T x next (within x t) (λ b e. h b)
 
     pub chosen-within : (test : Bool) (x y : OrTrap A) → Within x → Within y → Within (cond test x y)
-    chosen-within true x y h k = h
-    chosen-within false x y h k = k
+    chosen-within test x y h k = either (λ a. Unit {0}) T test x y (λ e. h) (λ e. k)
 
 -- ---- that a trap is in the table
 
@@ -51,7 +51,7 @@ abbrev pub Listed : {A : Type 0} → OrTrap A → Type 0
 Listed x = Within InTheTable x
 
 pub in-table : {A : Type 0} (x : OrTrap A) → Listed x → InTable x
-in-table x h class number e = subst Listed e h
+in-table = within InTheTable
 
 pub of-table : {A : Type 0} (x : OrTrap A) → InTable x → Listed x
 of-table (gives a) h = tt

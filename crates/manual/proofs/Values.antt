@@ -1,4 +1,5 @@
--- The traps of the operators on values, and of subscripts, are in the table.
+-- The traps of the operators on values, and of subscripts: those of an operator on pairs are of any list that has them and those
+-- of each pair, and all are in the table.
 use Prim.Native.Nat.{ℕ, _+_, _^_}
 use mathlib.Core.Path.{refl}
 use mathlib.Core.Bool.{true, false, not, _&&_, _||_}

@@ -1,14 +1,15 @@
--- EQUAL by whether its operands are characters.
+-- LESS and EQUAL by whether their operands are characters.
 use Prim.Native.Nat.{ℕ}
 use mathlib.Core.Path.{_≡_, refl, sym, ap, ap₂}
-use mathlib.Core.Bool.{Bool, true, false, cond, _&&_}
+use mathlib.Core.Bool.{Bool, true, false, cond, _&&_, _||_}
 use lib.Dec.{eqb}
 use Rattle.descriptor.specs.Fields.{isCharacter}
 use Rattle.descriptor.specs.Kinds.{bit}
 use Rattle.scalar.specs.Value.{characterCode}
-use Rattle.scalar.specs.Order.{isEqual}
-use Rattle.scalar.specs.Operators.{equal}
+use Rattle.scalar.specs.Order.{isBelow, isEqual}
+use Rattle.scalar.specs.Operators.{less, equal}
 use Rattle.scalar.specs.declared.Answer.the-variants.{Word}
+use Rattle.scalar.proofs.Operands.{numbers-plain}
 
 module _ (a b : ℕ) where
   by : (t u : Bool) → isCharacter a ≡ t → isCharacter b ≡ u → cond t (Word (bit (isCharacter b && eqb (characterCode a) (characterCode b)))) (cond u (Word 0) (Word (bit (isEqual a b)))) ≡ equal a b
@@ -23,6 +24,10 @@ module _ (a b : ℕ) where
 
   pub equal-numbers : isCharacter a ≡ false → isCharacter b ≡ false → Word (bit (isEqual a b)) ≡ equal a b
   equal-numbers h k = by false false h k
+
+  pub less-numbers : isCharacter a ≡ false → isCharacter b ≡ false → Word (bit (isBelow a b)) ≡ less a b
+  unfolding less
+  less-numbers h k = sym (numbers-plain a b (Word (bit (isBelow a b))) (ap₂ _||_ h k))
 
   -- two characters, or a character and a number
   pub same-code : isCharacter b ≡ true → Word (bit (eqb (characterCode a) (characterCode b))) ≡ Word (bit (isCharacter b && eqb (characterCode a) (characterCode b)))

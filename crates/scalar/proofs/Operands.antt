@@ -69,7 +69,7 @@ first-plain a b h = ap (λ (t : Bool). t || isCharacter b) h
 abbrev pub Small : ℕ → Type 0
 Small w = w / 2 ^ 23 % 2 ^ 8 ≡ 0
 
-small-plain : (w : ℕ) → Small w → isCharacter w ≡ false
+pub small-plain : (w : ℕ) → Small w → isCharacter w ≡ false
 small-plain w h = sym (character-bits w) ∙ ne-eqb (w / 2 ^ 24 % 2 ^ 7) 1 (λ q. omega arith)
 
 module _ (a b : ℕ) (h : bothSmall a b ≡ true) where

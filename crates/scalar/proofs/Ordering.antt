@@ -10,7 +10,8 @@ use lib.Arith.{mod-mul}
 use lib.Dec.{ltb, eqb}
 use lib.Pow.{pow-pos, pow-mono}
 use borrow.Author.Tests.{lt-ltb, le-ltb, eq-eqb, ne-eqb}
-use Rattle.descriptor.specs.Fields.{sign}
+use Rattle.descriptor.specs.Fields.{sign, floatWord}
+use Rattle.descriptor.proofs.Inverse.{float-fields}
 use Rattle.scalar.specs.Value.{one, units}
 use Rattle.scalar.specs.Order.{credit, debit, side, isBelow, isEqual}
 use Rattle.scalar.specs.Parts.{Unpacked, Normal, bothSmall, AsFloat, FloatOrZero, signedPlace, wordPlace}
@@ -198,24 +199,19 @@ float-itself w h = record { float = inr h; size = refl; signed = λ z. refl }
 pub float-zero : {w g e : ℕ} → Unpacked w g e → g ≡ 0 → AsFloat w 0
 float-zero {w} {g} {e} u h = let n : units w ≡ 0 = u .value ∙ ap (λ (x : ℕ). x * 2 ^ e) h ∙ zero-mul (2 ^ e) in record { float = inl refl; size = zero-units ∙ sym n; signed = λ z. absurd (omega arith) }
 
-pub float-made : {w g e : ℕ} → sign w < 2 → Unpacked w g e → Normal g e → AsFloat w (sign w * 2 ^ 31 + 2 ^ 30 + e * 2 ^ 22 + (g - 2 ^ 22))
-float-made {w} {g} {e} q u n = by (sign w) (sign w * 2 ^ 31 + 2 ^ 30 + e * 2 ^ 22 + (g - 2 ^ 22)) q refl refl
+pub float-made : {w g e : ℕ} → sign w < 2 → Unpacked w g e → Normal g e → AsFloat w (floatWord (sign w) e (g - 2 ^ 22))
+float-made {w} {g} {e} q u n =
+    let long = n .long in
+    let short = n .short in
+    let h = float-fields (sign w) e (g - 2 ^ 22) (omega arith) (n .small) (omega arith) in
+    record {
+      float = inr (h .0);
+      size = float-units (floatWord (sign w) e (g - 2 ^ 22)) (h .0) ∙ ap₂ (λ (x y : ℕ). (2 ^ 22 + x) * 2 ^ y) (h .3) (h .2) ∙ whole long ∙ sym (u .value);
+      signed = λ z. h .1;
+    }
   where
-    by : (s r : ℕ) → s < 2 → s ≡ sign w → r ≡ s * 2 ^ 31 + 2 ^ 30 + e * 2 ^ 22 + (g - 2 ^ 22) → AsFloat w r
-    by s r p f k =
-        let l = n .long in
-        let h = n .short in
-        let i = n .small in
-        let v : r / 2 ^ 30 ≡ s * 2 + 1 = omega arith in
-        let t : r / 2 ^ 22 ≡ s * 2 ^ 9 + 2 ^ 8 + e = omega arith in
-        let b : r / 2 ^ 30 % 2 ≡ 1 = omega arith in
-        let c : 2 ^ 22 + r % 2 ^ 22 ≡ g = omega arith in
-        let d : r / 2 ^ 22 % 2 ^ 8 ≡ e = omega arith in
-        record {
-          float = inr b;
-          size = float-units r b ∙ ap₂ (λ (x y : ℕ). x * 2 ^ y) c d ∙ sym (u .value);
-          signed = λ z. omega arith;
-        }
+    whole : 2 ^ 22 ≤ g → (2 ^ 22 + (g - 2 ^ 22)) * 2 ^ e ≡ g * 2 ^ e
+    whole l = let k : 2 ^ 22 + (g - 2 ^ 22) ≡ g = omega arith in ap (λ (x : ℕ). x * 2 ^ e) k
 
 -- the float has the same credit and the same debit
 none : (c : Bool) → cond {A = ℕ} c 0 0 ≡ 0

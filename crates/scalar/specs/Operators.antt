@@ -1,6 +1,6 @@
 -- The sixteen operators of the GENSCALAR family on scalars, in the manual's order and words. Operand a is the first.
 -- A reader must believe: each is the manual's, with document 01's zero and the order of decision 17 (each line of a trap
--- list is judged over both operands before the next), but for LESS and EQUAL, which are paper 4's. Assumes nothing.
+-- list is judged over both operands before the next), but for LESS and EQUAL of numbers, which are paper 4's. Assumes nothing.
 use Prim.Native.Nat.{ℕ, _+_, _-_, _*_, _/_, _%_, _^_}
 use mathlib.Core.Bool.{Bool, true, false, cond, not, _&&_, _||_}
 use lib.Dec.{ltb, eqb}

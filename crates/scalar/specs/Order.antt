@@ -1,5 +1,5 @@
 -- The order of two numbers by their exact values, as paper 4 of document 02 has it: "LESS and EQUAL compare the exact values
--- of two numbers". A number is a credit less a debit, both in units of 2 ^ -150, and one of them is 0.
+-- of two numbers". A number is a credit less a debit, both in units of 2 ^ -150, and one of them, at least, is 0.
 -- A reader must believe: c - d is below c' - d' where c + d' is below c' + d, and equal where they are equal; so nothing is
 -- subtracted, nor rounded. Assumes nothing.
 use Prim.Native.Nat.{ℕ, _+_}

@@ -29,6 +29,7 @@ bothSmall a b = eqb (a / 2 ^ 23 % 2 ^ 8) 0 && eqb (b / 2 ^ 23 % 2 ^ 8) 0
 abbrev pub oneCharacter : ℕ → ℕ → Bool
 oneCharacter a b = isCharacter a || isCharacter b
 
+-- A float, or integer 0.
 abbrev pub FloatOrZero : ℕ → Type 0
 FloatOrZero w = (w ≡ 0) ⊎ (w / 2 ^ 30 % 2 ≡ 1)
 

@@ -17,19 +17,19 @@ pub fn less(a: u32, b: u32) -> Answer
     ensures { λ r. ⌜ r ≡ S.less a b ⌝ }
 {
     if words::both_small(a, b) {
-        return truth(is_below(a, b));
+        return one_or_zero(is_below(a, b));
     }
     if words::one_character(a, b) {
         return Answer::Trap(7, 0);
     }
-    truth(is_below(as_float(a), as_float(b)))
+    one_or_zero(is_below(as_float(a), as_float(b)))
 }
 
 pub fn equal(a: u32, b: u32) -> Answer
     ensures { λ r. ⌜ r ≡ S.equal a b ⌝ }
 {
     if words::both_small(a, b) {
-        return truth(is_level(a, b));
+        return one_or_zero(is_level(a, b));
     }
     if reading::is_character(a) {
         return same_character(a, b);
@@ -37,7 +37,7 @@ pub fn equal(a: u32, b: u32) -> Answer
     if reading::is_character(b) {
         return Answer::Word(0);
     }
-    truth(is_level(as_float(a), as_float(b)))
+    one_or_zero(is_level(as_float(a), as_float(b)))
 }
 
 // A character and any scalar.
@@ -45,12 +45,13 @@ fn same_character(a: u32, b: u32) -> Answer
     ensures { λ r. ⌜ r ≡ Answer.Word (bit (isCharacter b && eqb (characterCode a) (characterCode b))) ⌝ }
 {
     if reading::is_character(b) {
-        return truth(a % 0x100 == b % 0x100);
+        return one_or_zero(a % 0x100 == b % 0x100);
     }
     Answer::Word(0)
 }
 
-fn truth(t: bool) -> Answer
+// 1 for true, else 0.
+fn one_or_zero(t: bool) -> Answer
     ensures { λ r. ⌜ r ≡ Answer.Word (bit t) ⌝ }
 {
     if t { Answer::Word(1) } else { Answer::Word(0) }

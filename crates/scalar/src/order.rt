@@ -8,6 +8,7 @@ use crate::words;
 use std::num::wrapping_add_u32;
 use std::num::wrapping_sub_u32;
 
+// Of two integers, or of two floats: the first lies below the second; both are the same number.
 pub fn is_below(x: u32, y: u32) -> bool
     ensures { λ r. ⌜ r ≡ ltb (wordPlace x) (wordPlace y) ⌝ }
 {
@@ -27,6 +28,7 @@ fn place(w: u32) -> u32
     wrapping_add_u32(0x8000_0000, signed(w))
 }
 
+// The word without its sign, or its negative, modulo 2^32.
 fn signed(w: u32) -> u32
     ensures { λ r. ⌜ (2 ^ 31 + r) % 2 ^ 32 ≡ wordPlace w ⌝ }
 {

@@ -2,8 +2,8 @@
 -- is 0 only where that is.
 use Prim.Native.Nat.{ℕ, _+_, _-_, _*_, _/_, _%_, _^_, _≤_, _<_}
 use mathlib.Core.Path.{_≡_, refl, sym, ap, ap₂, _∙_, subst}
-use mathlib.Core.Bool.{Bool, true, false, cond, _||_}
-use mathlib.Core.Logic.{⊎-elim}
+use mathlib.Core.Bool.{Bool, true, false, cond, _&&_, _||_}
+use mathlib.Core.Logic.{⊎-elim, _≢_}
 use native.Mathlib.Nat.{eq-zero-or-pos, zero-mul, mul-pos, le-of-lt}
 use native.Mathlib.Decide.{ℕ-discrete}
 use native.Mathlib.Omega.{arith}
@@ -13,7 +13,7 @@ use lib.Pow.{pow-pos}
 use Rattle.descriptor.specs.Fields.{sign, magnitude, isCharacter, integerWord}
 use Rattle.descriptor.specs.Kinds.{bit}
 use Rattle.descriptor.proofs.Truth.{neither}
-use Rattle.scalar.specs.Value.{one, units, oneFloat}
+use Rattle.scalar.specs.Value.{one, units, oneFloat, characterCode}
 use Rattle.scalar.specs.Results.{integer, rounded, typeError}
 use Rattle.scalar.specs.Order.{side, isBelow, isEqual}
 use Rattle.scalar.specs.Operators.{sumSign, sumSize, plus, minus, difference, less, equal}
@@ -22,7 +22,7 @@ use Rattle.scalar.specs.declared.Answer.the-variants.{Word}
 use Rattle.scalar.proofs.Operands.{numbers-plain, numbers-character, first-float, second-float}
 use Rattle.scalar.proofs.Rounding.{rounded-none}
 use Rattle.scalar.proofs.Addition.{like, less as lower, more, cases, sign-lt, scaled, plus-float, plus-integers, minus-integers, either}
-use Rattle.scalar.proofs.Equality.{equal-numbers}
+use Rattle.scalar.proofs.Equality.{less-numbers, equal-numbers, equal-first, equal-second}
 use Rattle.scalar.proofs.Ordering.{Follows, follows-ltb, follows-eqb, placed}
 use Rattle.scalar.proofs.Units.{units-integer}
 use Rattle.scalar_theorems.specs.Line.{middle, linePlace}
@@ -35,21 +35,35 @@ itself : {p q : ℕ} → Follows p q p q
 itself = record { up = λ l. l; same = λ e. e; down = λ l. l }
 
 module _ (a b : ℕ) (p : isCharacter a ≡ false) (q : isCharacter b ≡ false) where
-  less-numbers : Word (bit (isBelow a b)) ≡ less a b
-  unfolding less
-  less-numbers = sym (numbers-plain a b (Word (bit (isBelow a b))) (ap₂ _||_ p q))
-
   on-line : Follows (linePlace a) (linePlace b) (side a b) (side b a)
   unfolding linePlace side
   on-line = placed middle (sign a) (sign b) (le-of-lt (below-middle a)) (le-of-lt (below-middle b)) itself itself itself
 
   less-line : less a b ≡ Word (bit (ltb (linePlace a) (linePlace b)))
   unfolding isBelow
-  less-line = sym (ap (λ (t : Bool). Word (bit t)) (follows-ltb on-line) ∙ less-numbers)
+  less-line = sym (ap (λ (t : Bool). Word (bit t)) (follows-ltb on-line) ∙ less-numbers a b p q)
 
   equal-line : equal a b ≡ Word (bit (eqb (linePlace a) (linePlace b)))
   unfolding isEqual
   equal-line = sym (ap (λ (t : Bool). Word (bit t)) (follows-eqb on-line) ∙ equal-numbers a b p q)
+
+-- ---- characters
+
+less-of-character : (a b : ℕ) → (isCharacter a || isCharacter b) ≡ true → less a b ≡ typeError
+unfolding less
+less-of-character a b h = numbers-character a b (Word (bit (isBelow a b))) h
+
+equal-of-characters : (a b : ℕ) → isCharacter a ≡ true → isCharacter b ≡ true → equal a b ≡ Word (bit (eqb (characterCode a) (characterCode b)))
+equal-of-characters a b h k = sym (equal-first a b h) ∙ ap (λ (t : Bool). Word (bit (t && eqb (characterCode a) (characterCode b)))) k
+
+equal-of-kinds : (a b : ℕ) → isCharacter a ≢ isCharacter b → equal a b ≡ Word 0
+equal-of-kinds a b h = go (isCharacter a) (isCharacter b) refl refl
+  where
+    go : (t u : Bool) → isCharacter a ≡ t → isCharacter b ≡ u → equal a b ≡ Word 0
+    go true true p q = absurd (h (p ∙ sym q))
+    go true false p q = sym (equal-first a b p) ∙ ap (λ (t : Bool). Word (bit (t && eqb (characterCode a) (characterCode b)))) q
+    go false true p q = sym (equal-second a b p q)
+    go false false p q = absurd (h (p ∙ sym q))
 
 -- ---- the order of two sides, by the sign g and the magnitude d of the difference
 
@@ -252,4 +266,13 @@ module _ (a b w : ℕ) (fa : a < 2 ^ 32) (fb : b < 2 ^ 32) (h : difference a b �
   equal-by = sym (equal-numbers a b first-number second-number) ∙ ap Word (agrees .1)
 
 pub compares : Compares
-compares = record { less-exact = less-line; equal-exact = equal-line; less-difference = less-by; equal-difference = equal-by }
+compares =
+    record {
+      less-exact = less-line;
+      equal-exact = equal-line;
+      less-difference = less-by;
+      equal-difference = equal-by;
+      less-character = less-of-character;
+      equal-characters = equal-of-characters;
+      equal-kinds = equal-of-kinds;
+    }

@@ -4,7 +4,7 @@ use Prim.Native.Nat.{ℕ, _^_, _<_}
 use mathlib.Core.List.{List}
 use lib.ListN.{getD}
 
--- The words of a segment have 32 bits, as their type says in code. LESS gives a sign, and a longer word's need be no scalar.
+-- The words of a segment have 32 bits, as their type says in code. The sign of a longer one is no bit, and a result with it no scalar.
 abbrev pub Words : List ℕ → Type 0
 Words s = (i : ℕ) → getD s i 0 < 2 ^ 32
 

@@ -7,7 +7,6 @@ use Rattle.scalar.specs.Operators.{difference}
 use Rattle.elements.specs.Parts.{Plain}
 use Rattle.elements.proofs.Fast.{Fast, begins, first-there, second-there, goes-on, ends}
 use Rattle.elements.proofs.Seen.{plain-result}
-use Rattle.elements.proofs.Integral.{difference-by}
 use Rattle.elements.proofs.integers.difference.Statement.{statement}
 use Rattle.elements.proofs.integers.difference.Tie as tie
 
@@ -23,7 +22,7 @@ loop-again c =
     let x = y .before in
     let l = x .before in
     goes-on (l .before .loop .inv) (l .loop-test .taken) (x .pick .ensures) (y .pick2 .ensures)
-    (λ z. let p = plain-result _ _ _ _ z in (p .0, difference-by _ _ _ (p .1) (p .2) (c .difference-word .ensures (p .1) (p .2) (p .3))))
+    (λ z. let p = plain-result _ _ _ _ z in (p .0, c .difference-word .ensures (p .1) (p .2) (p .3)))
 
 pub difference-spec : {M : Type 1} → statement M
 difference-spec =

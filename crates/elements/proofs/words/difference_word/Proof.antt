@@ -2,7 +2,6 @@ use Prim.Native.Nat.{_-_}
 use native.Mathlib.Omega.{arith}
 use borrow.Author.Needs.{needs}
 use Rattle.elements.proofs.Integral.{fast-difference}
-use borrow.Author.Needs.{needs}
 use Rattle.elements.proofs.words.difference_word.Statement.{statement}
 use Rattle.elements.proofs.words.difference_word.Tie as tie
 

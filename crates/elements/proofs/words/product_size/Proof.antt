@@ -3,7 +3,6 @@ use Prim.Native.Nat.{_-_}
 use mathlib.Core.Path.{refl}
 use native.Mathlib.Omega.{arith}
 use borrow.Author.Needs.{needs}
-use borrow.Author.Needs.{needs}
 use Rattle.elements.proofs.words.product_size.Statement.{statement}
 use Rattle.elements.proofs.words.product_size.Tie as tie
 

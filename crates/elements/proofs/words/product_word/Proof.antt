@@ -2,7 +2,6 @@ use Prim.Native.Nat.{_-_}
 use mathlib.Core.Path.{refl}
 use borrow.Author.Needs.{needs}
 use Rattle.elements.proofs.Integral.{fast-product}
-use borrow.Author.Needs.{needs}
 use Rattle.elements.proofs.words.product_word.Statement.{statement}
 use Rattle.elements.proofs.words.product_word.Tie as tie
 

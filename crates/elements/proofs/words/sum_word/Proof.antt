@@ -2,7 +2,6 @@ use Prim.Native.Nat.{_-_}
 use native.Mathlib.Omega.{arith}
 use borrow.Author.Needs.{needs}
 use Rattle.elements.proofs.Integral.{fast-sum}
-use borrow.Author.Needs.{needs}
 use Rattle.elements.proofs.words.sum_word.Statement.{statement}
 use Rattle.elements.proofs.words.sum_word.Tie as tie
 

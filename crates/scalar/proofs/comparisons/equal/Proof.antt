@@ -15,14 +15,14 @@ both-small-requires c κs = search needs
 is-level-requires : tie.Need-is-level-requires
 is-level-requires c κs = search needs
 
-truth-requires : tie.Need-truth-requires
-truth-requires c κs = search needs
+one-or-zero-requires : tie.Need-one-or-zero-requires
+one-or-zero-requires c κs = search needs
 
 returns : tie.Need-returns
 returns c =
     let small = sym (c .before .before .before .both-small .ensures) ∙ c .before .before .if1 .taken in
     let s = c .before .before .before .before in
-    c .truth .ensures
+    c .one-or-zero .ensures
     ∙ ap (λ (t : Bool). Word (bit t)) (c .before .is-level .ensures ∙ equal-small (s .args .a) (s .args .b) small)
     ∙ equal-numbers (s .args .a) (s .args .b) (small-first-plain (s .args .a) (s .args .b) small) (small-second-plain (s .args .a) (s .args .b) small)
 
@@ -50,8 +50,8 @@ as-float-requires-2 c κs = search needs
 is-level-requires-2 : tie.Need-is-level-requires-2
 is-level-requires-2 c κs = search needs
 
-truth-requires-2 : tie.Need-truth-requires-2
-truth-requires-2 c κs = search needs
+one-or-zero-requires-2 : tie.Need-one-or-zero-requires-2
+one-or-zero-requires-2 c κs = search needs
 
 returns-4 : tie.Need-returns-4
 returns-4 c =
@@ -60,7 +60,7 @@ returns-4 c =
     let rest = first .before in
     let other = rest .before .before in
     let s = other .before .before .before .before in
-    c .truth2 .ensures
+    c .one-or-zero2 .ensures
     ∙ ap (λ (t : Bool). Word (bit t)) (c .before .is-level2 .ensures ∙ equal-floats (first .as-float .ensures) (second .as-float2 .ensures))
     ∙ equal-numbers (s .args .a) (s .args .b) (sym (other .before .is-character .ensures) ∙ other .if2 .left) (sym (rest .before .is-character2 .ensures) ∙ rest .if3 .left)
 
@@ -70,7 +70,7 @@ equal-spec =
     (tie.spec
     both-small-requires
     is-level-requires
-    truth-requires
+    one-or-zero-requires
     returns
     is-character-requires
     same-character-requires
@@ -80,5 +80,5 @@ equal-spec =
     as-float-requires
     as-float-requires-2
     is-level-requires-2
-    truth-requires-2
+    one-or-zero-requires-2
     returns-4)
