@@ -26,6 +26,7 @@ pub fn dyadic(op: Dyadic, a: &[u32], b: &[u32], out: &mut [u32]) -> Finished
     exact(op, a, b, n, out)
 }
 
+// Results of all pairs and true, or false where no fast loop served: its words are then written over.
 fn fast(op: Dyadic, a: &[u32], b: &[u32], n: usize, out: &mut [u32]) -> bool
     requires { ⌜ Operands (now a) (now b) n × (n ≤ length (now out)) ⌝ }
     ensures { λ r. ⌜ Relied (S.dyadicOf op) r (now (a .entry)) (now (b .entry)) (take n (now (out .exit))) ⌝ }

@@ -1,14 +1,13 @@
 use Prim.Native.Nat.{_-_}
-use mathlib.Core.Path.{_≡_, sym, ap, _∙_}
-use mathlib.Core.Bool.{Bool, true}
+use mathlib.Core.Path.{_≡_, sym, _∙_}
+use mathlib.Core.Bool.{true}
 use native.Mathlib.Omega.{arith}
+use lib.Dec.{ltb}
 use borrow.Author.Needs.{needs}
-use Rattle.descriptor.specs.Kinds.{bit}
-use Rattle.scalar.specs.declared.Answer.the-variants.{Word}
 use Rattle.scalar.specs.Operators.{less}
 use Rattle.elements.specs.Parts.{oneKind}
 use Rattle.elements.proofs.Fast.{Fast, begins, first-there, second-there, goes-on, ends}
-use Rattle.elements.proofs.Compared.{with-both, fast-less}
+use Rattle.elements.proofs.Compared.{fast-less, compared}
 use Rattle.elements.proofs.comparisons.less.Statement.{statement}
 use Rattle.elements.proofs.comparisons.less.Tie as tie
 
@@ -26,9 +25,8 @@ loop-again c =
     let l = x .before in
     let h = l .before in
     let floats = h .before .before .before .before .before .args .floats in
-    goes-on (h .loop .inv) (l .loop-test .taken) (x .pick .ensures) (y .pick2 .ensures) (λ z.
-    let p = with-both floats (h .loop .seen) (x .pick .result) (y .pick2 .result) (ap (oneKind floats) (sym (c .seen-with .ensures)) ∙ z) in
-    (p .0, fast-less (p .1) ∙ ap (λ (b : Bool). Word (bit b)) (sym (t .is-below .ensures))))
+    goes-on (h .loop .inv) (l .loop-test .taken) (x .pick .ensures) (y .pick2 .ensures)
+    (compared ltb fast-less floats (h .loop .seen) (x .pick .result) (y .pick2 .result) (c .seen-with .ensures) (t .is-below .ensures))
 
 pub less-spec : {M : Type 1} → statement M
 less-spec =
