@@ -79,7 +79,7 @@ pub fn judge(seg: &[u32], regular: &[u8], alternate: &[u8]) -> Judgement
 }
 
 // Tests 13 to 18. The tables are no longer than a segment of its size may need, so that a short one pays for no long table.
-fn judge_data(seg: &[u32], regular: &[u8], alternate: &[u8]) -> Judgement
+pub fn judge_data(seg: &[u32], regular: &[u8], alternate: &[u8]) -> Judgement
     requires { ⌜ length (now seg) ≤ 16384 ⌝ }
     ensures { λ r. ⌜ judgementNumber r ≡ dataRefusal (now (seg .entry)) (now (regular .entry)) (now (alternate .entry)) ⌝ }
 {

@@ -14,6 +14,7 @@ use Rattle.segment.specs.Lent.{Words, Lent}
 use Rattle.storage_theorems.proofs.HeapTheorems.{heap-theorems}
 use Rattle.acceptance_storage.proofs.Tests.{by-eq}
 use Rattle.storage_sheet.specs.Sheet.{sheetOf}
+use Rattle.manual.specs.Program.{Program}
 use Rattle.manual.specs.OrTrap.{gives, trap}
 use Rattle.manual.specs.Effects.{Effect}
 use Rattle.manual.specs.Traps.{listed}
@@ -28,7 +29,7 @@ use Rattle.operations.specs.Look.{looked}
 use Rattle.operations.specs.Sheet.{sheeted}
 use Rattle.operations.specs.Run.{ran as ranOf}
 use Rattle.operations.specs.Answers as operations
-use Rattle.audit.specs.Calls.{Procedures, Call, layOut, run, load, look, sheet, Answer, refused, done, ran, trapped, scalar, array, summed, answerOf, runAnswer, lookAnswer, sheetAnswer, firstFailed, tests, Passes, globalValue, LentProcedures, LentCall}
+use Rattle.audit.specs.Calls.{Procedures, proceduresOf, Call, layOut, run, load, look, sheet, Answer, refused, done, ran, trapped, scalar, array, summed, answerOf, runAnswer, lookAnswer, sheetAnswer, firstFailed, tests, Passes, globalValue, LentProcedures, LentCall}
 use Rattle.audit.specs.Steps.{StepOutcome, trapsBy, finishes, Step, traps, full, does, EffectsDone, inVain}
 use Rattle.audit.specs.Runs.{Runs}
 use Rattle.audit.specs.Did.{LaidOut, Ran, Loaded, Tells, Did, isRefused, isLaidOut, hasRun, isLoaded, hasTold, hasSummed, Event}
@@ -50,7 +51,7 @@ use Rattle.audit.proofs.Replay.{replay-theorems}
 told-unrefused : (s : List ℕ) (a : Answer) (c : Cell) → Tells s a c → refusalOf a ≡ 0
 told-unrefused s a c h = ⊎-elim (λ k. ap refusalOf (k .1)) (λ k. ap refusalOf (k .1)) h
 
-run-unrefused : {p : Procedures} {budget : ℕ} {s t : List ℕ} {a : Answer} → Runs p budget 0 s a t → refusalOf a ≡ 0
+run-unrefused : {p : Program} {budget : ℕ} {s t : List ℕ} {a : Answer} → Runs p budget 0 s a t → refusalOf a ≡ 0
 run-unrefused r = ⊎-elim (λ k. ap refusalOf k) (λ k. ap refusalOf (k .1)) (run-answers r)
 
 -- ---- demand 1
@@ -87,8 +88,8 @@ ends : (s : List ℕ) → Words s → (c : Call) → LentCall c → Made s c
 ends s words (layOut p l) lent =
     (answerOf (operations.doneOrRefused (layOutRefusal s (p .regular) (p .alternate) l)), laidOut s (p .regular) (p .alternate) l, lay-out-did s p l, lay-out-words s p l words)
 ends s words (run p budget) lent = (
-  runAnswer (ranOf s (p .regular) (p .alternate) budget .answer),
-  ranOf s (p .regular) (p .alternate) budget .words,
+  runAnswer (ranOf s p budget .answer),
+  ranOf s p budget .words,
   run-did s p budget words lent,
   run-words s p budget words lent,
 )
@@ -101,12 +102,13 @@ ends s words (load p g lengths ravel) lent = (
 ends s words (look p g) lent = (lookAnswer (looked s (p .regular) (p .alternate) g), s, look-did s p g, words)
 ends s words (sheet p) lent = (sheetAnswer (sheeted s (p .regular) (p .alternate)), s, sheet-did s p, words)
 
-instruction : (s : List ℕ) (p : Procedures) → Words s → LentProcedures p → Passes s p → (o : StepOutcome) × (t : List ℕ) × Step p s o t × Passes t p
+instruction : (s : List ℕ) (p : Program) → Words s → LentProcedures (proceduresOf p) → Passes s (proceduresOf p)
+    → (o : StepOutcome) × (t : List ℕ) × Step p s o t × Passes t (proceduresOf p)
 instruction s p words bytes k =
     let lent : Lent s (p .regular) (p .alternate) = record { words = words; regularBytes = bytes .0; otherBytes = bytes .1 } in
-    let h = accepted-of s p k in
-    let r = stepOf (p .regular) (p .alternate) s in
-    (outcomeFrom (r .answer), r .words, step-done s p lent h .0, passes-of (r .words) p (step-accepted s p lent h))
+    let h = accepted-of s (proceduresOf p) k in
+    let r = stepOf p s in
+    (outcomeFrom (r .answer), r .words, step-done s p lent h .0, passes-of (r .words) (proceduresOf p) (step-accepted s p lent h))
 
 abbrev Low : StepOutcome → Type 0
 Low (trapsBy class n) = class ≡ 2 → n ≡ 4
@@ -116,9 +118,9 @@ breakpoint-alone : (number : ℕ) → listed 2 number ≡ true → number ≡ 4
 unfolding listed
 breakpoint-alone number h = by-eq number 4 (λ e. e) (λ d. never (sym h ∙ rw (ne-eqb number 4 d)))
 
-low : {p : Procedures} {s t : List ℕ} {o : StepOutcome} → Step p s o t → Low o
+low : {p : Program} {s t : List ℕ} {o : StepOutcome} → Step p s o t → Low o
 low {p = p} {s = s} (traps {class = class} {number = n} e) = λ c.
-    breakpoint-alone n (rw c at (plan-listed (p .regular) (p .alternate) (length s - sbase s) (view s) class n e))
+    breakpoint-alone n (rw c at (plan-listed p (length s - sbase s) (view s) class n e))
 low (full e v) = λ c. absurd (omega (arith, c))
 low {p = p} {s = s} {t = t} (does {es = es} e v k) =
     subst (λ (n : ℕ). n ≤ 3) (sym (k .due))
@@ -138,14 +140,14 @@ demand-1 = record {
 
 -- ---- demand 2
 
-trap-told : {s t : List ℕ} {p : Procedures} {o : StepOutcome} → Step p s o t → (class number : ℕ)
-    → planned s (p .regular) (p .alternate) ≡ trap class number → (o ≡ trapsBy class number) × (listed class number ≡ true)
-trap-told {s = s} {p = p} (traps e) class number q = (cc, plan-listed (p .regular) (p .alternate) (length s - sbase s) (view s) class number q)
+trap-told : {s t : List ℕ} {p : Program} {o : StepOutcome} → Step p s o t → (class number : ℕ)
+    → planned s p ≡ trap class number → (o ≡ trapsBy class number) × (listed class number ≡ true)
+trap-told {s = s} {p = p} (traps e) class number q = (cc, plan-listed p (length s - sbase s) (view s) class number q)
 trap-told (full e v) class number q = let z : _≡_ {A = ℕ} 0 1 = cc in absurd (omega arith)
 trap-told (does e v k) class number q = let z : _≡_ {A = ℕ} 0 1 = cc in absurd (omega arith)
 
-done-told : {s t : List ℕ} {p : Procedures} {o : StepOutcome} → Step p s o t → (es : List Effect)
-    → planned s (p .regular) (p .alternate) ≡ gives es → inVain s es ≡ false → (d : ℕ) × (o ≡ finishes d) × EffectsDone p s es d t
+done-told : {s t : List ℕ} {p : Program} {o : StepOutcome} → Step p s o t → (es : List Effect)
+    → planned s p ≡ gives es → inVain s es ≡ false → (d : ℕ) × (o ≡ finishes d) × EffectsDone p s es d t
 done-told (traps e) es q v = let z : _≡_ {A = ℕ} 0 1 = cc in absurd (omega arith)
 done-told {s = s} (full {es = fs} e w) es q v = let same : fs ≡ es = cc in never (sym w ∙ ap (inVain s) same ∙ v)
 done-told {s = s} {t = t} {p = p} (does {es = fs} {d = d} e w k) es q v = let same : fs ≡ es = cc in (d, refl, subst (λ (l : List Effect). EffectsDone p s l d t) same k)
@@ -154,7 +156,7 @@ laid-out : {s t : List ℕ} {p : Procedures} {l : _} {a : Answer} → Did s (lay
 laid-out (isRefused d e) z = absurd (d z)
 laid-out (isLaidOut e h) z = h
 
-has-run : {s t : List ℕ} {p : Procedures} {budget : ℕ} {a : Answer} → Did s (run p budget) a t → refusalOf a ≡ 0 → Ran s p budget a t
+has-run : {s t : List ℕ} {p : Program} {budget : ℕ} {a : Answer} → Did s (run p budget) a t → refusalOf a ≡ 0 → Ran s p budget a t
 has-run (isRefused d e) z = absurd (d z)
 has-run (hasRun e h) z = h
 
@@ -171,7 +173,7 @@ has-summed : {s t : List ℕ} {p : Procedures} {a : Answer} → Did s (sheet p) 
 has-summed (isRefused d e) z = absurd (d z)
 has-summed (hasSummed e) z = (refl, refl)
 
-settled : {s t u : List ℕ} {p : Procedures} {o q : StepOutcome} → Step p s o t → Step p s q u → (o ≡ q) × (view t ≡ view u)
+settled : {s t u : List ℕ} {p : Program} {o q : StepOutcome} → Step p s o t → Step p s q u → (o ≡ q) × (view t ≡ view u)
 settled (traps e) (traps f) = (cc, cc)
 settled (traps e) (full f w) = let z : _≡_ {A = ℕ} 0 1 = cc in absurd (omega arith)
 settled (traps e) (does f w l) = let z : _≡_ {A = ℕ} 0 1 = cc in absurd (omega arith)
@@ -216,7 +218,7 @@ kept {s} g =
 good : {s t : List ℕ} {c : Call} {a : Answer} → Good s → Did s c a t → Good t
 good g (isRefused d e) = g
 good g (isLaidOut {p = p} e h) = record { beside = p; accepted = h .accepted }
-good g (hasRun {p = p} e h) = record { beside = p; accepted = h .accepted }
+good g (hasRun {p = p} e h) = record { beside = proceduresOf p; accepted = h .accepted }
 good g (isLoaded {p = p} e h) = record { beside = p; accepted = h .accepted }
 good g (hasTold e h) = g
 good g (hasSummed e) = g
@@ -272,7 +274,7 @@ happens s words (call c ∷ items) lent =
 happens s words (replay p file ∷ items) lent =
     let m = replay-theorems .ends s words p (lent .0 .0) file (lent .0 .1) in
     let rest = happens (m .1) (m .5) items (lent .1) in (
-      replayed (record { procedures = p; file = file; answer = m .0; counts = m .2; calls = m .3; after = m .1 }) ∷ rest .0,
+      replayed (record { program = p; file = file; answer = m .0; counts = m .2; calls = m .3; after = m .1 }) ∷ rest .0,
       ap (λ (l : List Item). replay p file ∷ l) (rest .1),
       (m .4, rest .2),
     )

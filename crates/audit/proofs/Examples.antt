@@ -3,8 +3,10 @@ use mathlib.Core.Path.{refl}
 use lib.Ieee.{size}
 use Rattle.descriptor.specs.Kinds.{kindOf, integerKind, undefinedKind, unsignedKind, isScalar, arrayKind}
 use Rattle.operator.specs.Table.{operatorOf}
+use Rattle.operator.specs.Lent.{tableTest, operatorUnder, named}
 use Rattle.scalar.specs.Value.{units}
-use Rattle.scalar.specs.Operators.{plus, sum, ratioOf, quotient}
+use Rattle.scalar.specs.Operators.{negative, testNumber, plus, sum, minus, difference, ratioOf, quotient, less}
+use Rattle.scalar.specs.Order.{side, isBelow}
 use Rattle.scalar.specs.Reading.{wholeUnits, wholeOf}
 use Rattle.procedure.specs.Bytes.{wordAt}
 use Rattle.procedure.specs.Headers.{headerAt, codeOf}
@@ -44,7 +46,7 @@ use Rattle.effects.specs.Run.{stepsFrom, runOf}
 use Rattle.fresh_segment.specs.LayOut.{functionTest, partsTest, layOutRefusal, freshStorage, freshFrame, freshHead, fresh, laidOut}
 use Rattle.storage_sheet.specs.Sheet.{sheetOf}
 use Rattle.operations.specs.Sheet.{sheeted}
-use Rattle.operations.specs.Run.{ran}
+use Rattle.operations.specs.Run.{runRefusal, ran}
 use Rattle.operations.specs.Load.{isGlobal, isValue, lacksRoom, loadRefusal, loaded}
 use Rattle.operations.specs.Look.{looked}
 use Rattle.operations.specs.Replay.{tallied, replayFrom, replayed}
@@ -55,8 +57,9 @@ use Rattle.effects.specs.Tally.{firstByte, talliedFrom}
 use Rattle.audit.specs.Table.{Table}
 use Rattle.audit.specs.Story.{Story}
 use Rattle.audit.specs.Imported.{Imported}
+use Rattle.audit.specs.Numbered.{Numbered}
 
-computed : Table × Story × Imported
+computed : Table × Story × Imported × Numbered
 unfolding laidOut layOutRefusal functionTest partsTest fresh freshHead freshStorage freshFrame hasFunction headerAt wordAt
     procedureRefusal segmentLengthTest contentsTest entriesTest functionsTest functionPasses headerTest refusal dataRefusal
     headTest blocksTest freeSpan blockSpan walkFrom walkTest startsFrom freeStarts arrayStarts linked roundFrom ringTest known
@@ -72,6 +75,8 @@ unfolding laidOut layOutRefusal functionTest partsTest fresh freshHead freshStor
     loaded looked arrays.share arrays.raise arrays.lower memory.assignNoResult memory.assignIndexed memory.eat loads.load
     values.ravelPlace arrayKind countTest within tallied replayFrom replayed groupsAt numberAt severalAt importedElements
     importedLengths importedLoad importedRun recordAt recordsUpTo recordsFrom countUp counted firstByte talliedFrom sheeted sheetOf
+    tableTest operatorUnder named runRefusal scalars.monadic values.each values.monadic negative testNumber minus difference
+    side isBelow less
 computed = (
   record {
     m1 = record { word0 = refl; word1 = refl; word12 = refl; word13 = refl; word33 = refl; word34 = refl };
@@ -110,6 +115,18 @@ computed = (
     refusal = refl;
     limit = refl;
   },
+  record {
+    same = refl;
+    value = record { done = refl; top = refl };
+    other = record { done = refl; top = refl };
+    short = refl;
+    long = refl;
+    large = refl;
+    repeated = refl;
+    after = refl;
+    before = refl;
+    otherwise = refl;
+  },
 )
 
 pub table : Table
@@ -120,3 +137,6 @@ story = computed .1
 
 pub imported : Imported
 imported = computed .2
+
+pub numbered : Numbered
+numbered = computed .3

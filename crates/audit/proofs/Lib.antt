@@ -14,4 +14,5 @@ pub mod Replay
 pub mod Demands
 pub mod RuledOut
 pub mod ParList
+pub mod Tables
 pub mod Examples

@@ -17,10 +17,11 @@ use Rattle.manual.specs.OrTrap.{gives}
 use Rattle.manual.specs.Effects.{Effect, NoneStoresTo, look, AddressableIn}
 use Rattle.effects_theorems.proofs.State.{trap-view}
 use Rattle.legality.proofs.Cells.{globals-length}
+use Rattle.manual.specs.Program.{Program}
 use Rattle.step_theorems.specs.Planned.{planned}
 use Rattle.step_theorems.proofs.Again.{sound-of}
 use Rattle.operations.specs.Load.{isGlobal}
-use Rattle.audit.specs.Calls.{Procedures, Passes, globalValue}
+use Rattle.audit.specs.Calls.{proceduresOf, Passes, globalValue}
 use Rattle.audit.specs.Steps.{StepOutcome, EffectsDone, Step, inVain}
 use Rattle.audit.specs.ParList.{ParList}
 use Rattle.audit.proofs.Accepts.{accepted-of}
@@ -28,8 +29,8 @@ use Rattle.audit.proofs.Runs.{vain-traps}
 use Rattle.audit.proofs.Look.{global-within}
 use Rattle.audit.proofs.Demands.{demand-2}
 
-module _ (s : List ℕ) (p : Procedures) (t : List ℕ) (h : Passes s p) (es : List Effect)
-    (e : planned s (p .regular) (p .alternate) ≡ gives es) where
+module _ (s : List ℕ) (p : Program) (t : List ℕ) (h : Passes s (proceduresOf p)) (es : List Effect)
+    (e : planned s p ≡ gives es) where
   -- the request is not served, and no cell changes; or the effects are done
   abbrev Left : Type 0
   Left = (view t ≡ view s) ⊎ (d : ℕ) × EffectsDone p s es d t
@@ -38,7 +39,7 @@ module _ (s : List ℕ) (p : Procedures) (t : List ℕ) (h : Passes s p) (es : L
   left o k = go (inVain s es) refl
     where
       go : (b : Bool) → inVain s es ≡ b → Left
-      go true v = inl (ap view (vain-traps k (es, e, v) .1) ∙ trap-view s (sound-of (accepted-of s p h)) _)
+      go true v = inl (ap view (vain-traps k (es, e, v) .1) ∙ trap-view s (sound-of (accepted-of s (proceduresOf p) h)) _)
       go false v = let d = demand-2 .does k es e v in inr (d .0, d .2)
 
   module _ (o : StepOutcome) (k : Step p s o t) where

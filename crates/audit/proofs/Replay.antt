@@ -10,6 +10,7 @@ use Rattle.imports.specs.Records.{Records, ends, malformed, entry, recordsOf}
 use Rattle.imports.proofs.Bounds.{AllOfWords, all-of-words}
 use Rattle.tally.specs.Counts.{noneCounted}
 use Rattle.acceptance_storage.proofs.Tests.{by-eq}
+use Rattle.manual.specs.Program.{Program}
 use Rattle.operations.specs.declared.Run.{Run}
 use Rattle.operations.specs.declared.Run.the-variants as R
 use Rattle.operations.specs.declared.Replayed.{Replayed}
@@ -18,7 +19,7 @@ use Rattle.operations.specs.Answers as operations
 use Rattle.operations.specs.Run.{ran as ranOf}
 use Rattle.operations.specs.Load.{loadRefusal, loaded}
 use Rattle.operations.specs.Replay.{Replay, replay, runHalt, afterRecord, tallied, replayFrom, replayed}
-use Rattle.audit.specs.Calls.{Procedures, procedures, Call, load, Answer, answerOf, runAnswer, LentProcedures}
+use Rattle.audit.specs.Calls.{Procedures, proceduresOf, Call, load, Answer, answerOf, runAnswer, LentProcedures}
 use Rattle.audit.specs.Did.{Did, isRefused, isLoaded, Event, event}
 use Rattle.audit.specs.Replays.{callCounts, recordCall, haltOf, Replays, allDone, isMalformed, continues, halts, PromisedReplay, OneByOne, recordCalls, ReplayTheorems}
 use Rattle.audit.proofs.Run.{run-counted, run-words}
@@ -42,7 +43,7 @@ run-halt (R.Refused number) = refl
 
 -- ---- the replay
 
-module _ (p : Procedures) (bytes : LentProcedures p) where
+module _ (p : Program) (bytes : LentProcedures (proceduresOf p)) where
   abbrev regular : List ℕ
   regular = p .regular
 
@@ -66,41 +67,41 @@ module _ (p : Procedures) (bytes : LentProcedures p) where
     record-made : Made (entry place r rest) s counts (afterRecord place number t after more)
     record-made = by-eq number 0 (λ z. rw (eq-eqb number 0 z) (goes-on z)) (λ d. rw (ne-eqb number 0 d) (stops d))
 
-  replay-made : (records : Records) → AllOfWords records → (s : List ℕ) → Words s → (counts : List ℕ) → Made records s counts (replayFrom regular alternate records s counts)
+  replay-made : (records : Records) → AllOfWords records → (s : List ℕ) → Words s → (counts : List ℕ) → Made records s counts (replayFrom p records s counts)
   unfolding replayFrom
   replay-made ends h s words counts = ([], allDone, words)
   replay-made (malformed place) h s words counts = ([], isMalformed, words)
   replay-made (entry place (file.load g lengths ravel) rest) h s words counts =
       let number = loadRefusal s regular alternate g lengths ravel in
       let t = loaded s regular alternate g lengths ravel in
-      let left : Words t = load-words s p g lengths ravel words (h .0 .1) in
-      let did = load-did s p g lengths ravel in
+      let left : Words t = load-words s (proceduresOf p) g lengths ravel words (h .0 .1) in
+      let did = load-did s (proceduresOf p) g lengths ravel in
       record-made place (file.load g lengths ravel) rest s counts t counts (answerOf (operations.doneOrRefused number)) did left
-      (load-counts did counts) number (load-halt number) (replayFrom regular alternate rest t counts) (replay-made rest (h .1) t left counts)
+      (load-counts did counts) number (load-halt number) (replayFrom p rest t counts) (replay-made rest (h .1) t left counts)
   replay-made (entry place (file.run budget) rest) h s words counts =
-      let e = ranOf s regular alternate budget in
-      let after = tallied s regular alternate budget counts in
+      let e = ranOf s p budget in
+      let after = tallied s p budget counts in
       let left : Words (e .words) = run-words s p budget words bytes in
       let did = run-counted s p budget words bytes in
       record-made place (file.run budget) rest s counts (e .words) after (runAnswer (e .answer)) (did .0) left
-      (did .1 counts) (runHalt (e .answer)) (run-halt (e .answer)) (replayFrom regular alternate rest (e .words) after) (replay-made rest (h .1) (e .words) left after)
+      (did .1 counts) (runHalt (e .answer)) (run-halt (e .answer)) (replayFrom p rest (e .words) after) (replay-made rest (h .1) (e .words) left after)
 
-  replay-did : (s : List ℕ) → Words s → (bytes : List ℕ) → Made (recordsOf bytes) s noneCounted (replayed s regular alternate bytes)
+  replay-did : (s : List ℕ) → Words s → (bytes : List ℕ) → Made (recordsOf bytes) s noneCounted (replayed s p bytes)
   unfolding replayed
   replay-did s words bytes = replay-made (recordsOf bytes) (all-of-words bytes) s words noneCounted
 
 -- ---- what `replay` promises
 
-pub promised-replay : (s regular alternate bytes : List ℕ) (answer : Replayed) (t counts : List ℕ) → replay answer t counts ≡ replayed s regular alternate bytes
-    → PromisedReplay s (procedures regular alternate) bytes answer t counts
+pub promised-replay : (s : List ℕ) (p : Program) (bytes : List ℕ) (answer : Replayed) (t counts : List ℕ) → replay answer t counts ≡ replayed s p bytes
+    → PromisedReplay s p bytes answer t counts
 unfolding PromisedReplay
-promised-replay s regular alternate bytes answer t counts e words lent file =
-    let made = subst (Made (procedures regular alternate) lent (recordsOf bytes) s noneCounted) (sym e) (replay-did (procedures regular alternate) lent s words bytes) in
+promised-replay s p bytes answer t counts e words lent file =
+    let made = subst (Made p lent (recordsOf bytes) s noneCounted) (sym e) (replay-did p lent s words bytes) in
     (made .0, made .1)
 
 -- ---- what follows
 
-one-by-one : {p : Procedures} {records : Records} {s t counts after : List ℕ} {answer : Replayed} {events : List Event}
+one-by-one : {p : Program} {records : Records} {s t counts after : List ℕ} {answer : Replayed} {events : List Event}
     → Replays p records s counts answer t after events → OneByOne s events t
 one-by-one allDone = refl
 one-by-one isMalformed = refl
@@ -110,14 +111,14 @@ one-by-one (halts did d) = (did, refl)
 abbrev callsMade : List Event → List Call
 callsMade events = map (λ (e : Event). e .call) events
 
-in-order : {p : Procedures} {records : Records} {s t counts after : List ℕ} {answer : Replayed} {events : List Event}
+in-order : {p : Program} {records : Records} {s t counts after : List ℕ} {answer : Replayed} {events : List Event}
     → Replays p records s counts answer t after events → (later : List Call) × (recordCalls p records ≡ callsMade events ++ later)
 in-order allDone = ([], refl)
 in-order isMalformed = ([], refl)
 in-order {p = p} (continues {r = r} did z rest) = let more = in-order rest in (more .0, ap (λ (calls : List Call). recordCall p r ∷ calls) (more .1))
 in-order {p = p} (halts {rest = rest} did d) = (recordCalls p rest, refl)
 
-all-made : {p : Procedures} {records : Records} {s t counts after : List ℕ} {events : List Event}
+all-made : {p : Program} {records : Records} {s t counts after : List ℕ} {events : List Event}
     → Replays p records s counts Done t after events → recordCalls p records ≡ callsMade events
 all-made allDone = refl
 all-made {p = p} (continues {r = r} did z rest) = ap (λ (calls : List Call). recordCall p r ∷ calls) (all-made rest)
@@ -129,7 +130,7 @@ replay-theorems = record {
   all = all-made;
   sum = replay-sum;
   ends = λ s words p lent bytes file.
-      let r = replayed s (p .regular) (p .alternate) bytes in
+      let r = replayed s p bytes in
       let made = replay-did p lent s words bytes in
       (r .answer, r .words, r .counts, made .0, made .1, made .2);
 }

@@ -12,6 +12,7 @@ use Rattle.segment.specs.State.{flags, fcnctrc, fcnrtrc, stepFlag}
 use Rattle.segment.specs.Cells.{Cell}
 use Rattle.segment.specs.View.{view}
 use Rattle.acceptance.specs.Refusal.{lengthTest}
+use Rattle.manual.specs.Program.{Program}
 use Rattle.manual.specs.OrTrap.{gives}
 use Rattle.manual.specs.Effects.{Effect, performAll}
 use Rattle.effects.specs.Carried.{outcomeOf}
@@ -80,15 +81,15 @@ not-due es f called left n other low =
     unless true d far e = far e
     unless false d far e = other e
 
-other-step : {p : Procedures} {s t : List ℕ} {n : ℕ} → stepFlag (flags s) ≢ n → n ≤ 1 → Step p s (finishes n) t → ⊥
+other-step : {p : Program} {s t : List ℕ} {n : ℕ} → stepFlag (flags s) ≢ n → n ≤ 1 → Step p s (finishes n) t → ⊥
 other-step {p = p} {s = s} {t = t} {n = n} other low (does {es = es} e v k) =
     not-due es (flags s) (headerIn (p .regular) (p .alternate) (view t)) (headerIn (p .regular) (p .alternate) (view s)) n other low (sym (k .due))
 
-trap-made-up : {p : Procedures} {s t : List ℕ} {es : List Effect} {class number : ℕ} → planned s (p .regular) (p .alternate) ≡ gives es
+trap-made-up : {p : Program} {s t : List ℕ} {es : List Effect} {class number : ℕ} → planned s p ≡ gives es
     → inVain s es ≡ false → Step p s (trapsBy class number) t → ⊥
 trap-made-up {es = es} e v step = other-case (demands .second .does step es e v)
   where
-    other-case : {class number : ℕ} {p : Procedures} {s t : List ℕ} → (d : ℕ) × (trapsBy class number ≡ finishes d) × EffectsDone p s es d t → ⊥
+    other-case : {class number : ℕ} {p : Program} {s t : List ℕ} → (d : ℕ) × (trapsBy class number ≡ finishes d) × EffectsDone p s es d t → ⊥
     other-case (d, same, k) = let z : _≡_ {A = ℕ} 0 1 = cc in omega arith
 
 -- ---- looks
@@ -101,7 +102,7 @@ one-look {s = s} {g = g} {h = h} {a = a} d e z = same-told s a (globalValue s g)
 
 -- ---- runs
 
-two-done : {p : Procedures} {s t : List ℕ} {steps n : ℕ} → Runs p 2 steps s (ran n) t → TwoDone p s t
+two-done : {p : Program} {s t : List ℕ} {steps n : ℕ} → Runs p 2 steps s (ran n) t → TwoDone p s t
 two-done (goesOn a (does {es = es} e v k) (goesOn {s = between} b (does {es = fs} f w l) over)) =
     record { first = es; between = between; second = fs; firstPlan = e; secondPlan = f; seen = l .seen ∙ ap (performAll fs) (k .seen) }
 

@@ -18,6 +18,7 @@ use Rattle.segment.specs.View.{view}
 use Rattle.segment.specs.Lent.{Words, Lent}
 use Rattle.segment.proofs.Words.{words-set}
 use Rattle.acceptance.specs.Structure.{Accepted}
+use Rattle.manual.specs.Program.{Program}
 use Rattle.manual.specs.OrTrap.{gives, trap}
 use Rattle.manual.specs.Effects.{NoneStoresTo, Effect, Plan, look, AddressableIn}
 use Rattle.manual.specs.Instructions.{Running, headerOf}
@@ -41,7 +42,6 @@ use Rattle.step_theorems.proofs.Current.{current-function, step-is, header-seen
 use Rattle.step_theorems.proofs.Planned.{Known, plan-known, plan-listed}
 use Rattle.step_theorems.proofs.Again.{sound-of, view-flags, trap-accepted, effects-accepted}
 use Rattle.step_theorems.proofs.Settled.{settled-effects, finished-by, finished-keeps}
-use Rattle.audit.specs.Calls.{Procedures}
 use Rattle.audit.specs.Steps.{StepOutcome, trapsBy, finishes, inVain, dueAfter, EffectsDone, Step, traps, full, does}
 use Rattle.audit.proofs.Full.{vain-full}
 
@@ -95,7 +95,7 @@ Some S.Finished = Unit {0}
 Some (S.Traced class number) = number ≢ 0
 Some (S.Trapped class number) = Unit {0}
 
-module _ (s : List ℕ) (p : Procedures) (lent : Lent s (p .regular) (p .alternate)) (h : Accepted s (p .regular) (p .alternate)) where
+module _ (s : List ℕ) (p : Program) (lent : Lent s (p .regular) (p .alternate)) (h : Accepted s (p .regular) (p .alternate)) where
   abbrev regular : List ℕ
   regular = p .regular
 
@@ -103,26 +103,26 @@ module _ (s : List ℕ) (p : Procedures) (lent : Lent s (p .regular) (p .alterna
   alternate = p .alternate
 
   abbrev f : Running
-  f = current-function s regular alternate
+  f = current-function s p
 
   abbrev sound : Sound s
   sound = sound-of h
 
   abbrev plan : Plan
-  plan = planned s regular alternate
+  plan = planned s p
 
   abbrev StepOf : StepResult → Type 0
   StepOf r = Step p s (outcomeFrom (r .answer)) (r .words) × Some (r .answer)
 
   known : (es : List Effect) → plan ≡ gives es → Known s regular alternate es
-  known = plan-known s regular alternate lent h
+  known = plan-known s p lent h
 
   -- ---- a step, by its plan
 
-  step-of : (q : Plan) → plan ≡ q → stepOf regular alternate s ≡ settle regular alternate (headerOf f .rtntrace) (carry s q)
-  step-of q e = step-is s regular alternate h sound ∙ ap (λ (q : Plan). settle regular alternate (headerOf f .rtntrace) (carry s q)) e
+  step-of : (q : Plan) → plan ≡ q → stepOf p s ≡ settle regular alternate (headerOf f .rtntrace) (carry s q)
+  step-of q e = step-is s p h sound ∙ ap (λ (q : Plan). settle regular alternate (headerOf f .rtntrace) (carry s q)) e
 
-  trap-step : (class number : ℕ) → plan ≡ trap class number → stepOf regular alternate s ≡ stepping.trapped s class number
+  trap-step : (class number : ℕ) → plan ≡ trap class number → stepOf p s ≡ stepping.trapped s class number
   trap-step class number e = step-of (trap class number) e
 
   trap-small : (class number : ℕ) → class < 2 ^ 8 → number < 2 ^ 8 → stepping.trapped s class number ≡ stepping.stepResult (S.Trapped class number) (set s 3 (trapOf class number))
@@ -139,7 +139,7 @@ module _ (s : List ℕ) (p : Procedures) (lent : Lent s (p .regular) (p .alterna
     abbrev d : ℕ
     d = due regular alternate (headerOf f .rtntrace) (outcomeOf es) (performs s es)
 
-    full-step : firstFull s es ≡ true → stepOf regular alternate s ≡ stepping.trapped s 1 2
+    full-step : firstFull s es ≡ true → stepOf p s ≡ stepping.trapped s 1 2
     full-step q = step-of (gives es) e ∙ rw q
 
     -- the request, by the words and by the free blocks
@@ -150,7 +150,7 @@ module _ (s : List ℕ) (p : Procedures) (lent : Lent s (p .regular) (p .alterna
       served : inVain s es ≡ false
       served = sym vain ∙ q
 
-      done-step : stepOf regular alternate s ≡ finished d t
+      done-step : stepOf p s ≡ finished d t
       done-step = step-of (gives es) e ∙ rw q (settled-effects regular alternate (headerOf f .rtntrace) t es)
 
       performed : PerformedAll s es
@@ -178,7 +178,7 @@ module _ (s : List ℕ) (p : Procedures) (lent : Lent s (p .regular) (p .alterna
       is-due =
           due-told regular alternate (headerOf f) (outcomeOf es) t
           ∙ same-due (flags t) (flags s) same-flags (outcomeOf es) (currentHeader regular alternate t) (headerOf f)
-          ∙ ap (dueAfter (outcomeOf es) (flags s) (currentHeader regular alternate t)) (sym (header-running s regular alternate))
+          ∙ ap (dueAfter (outcomeOf es) (flags s) (currentHeader regular alternate t)) (sym (header-running s p))
 
       small : d ≤ 3
       small = subst (λ (n : ℕ). n ≤ 3) (sym (due-told regular alternate (headerOf f) (outcomeOf es) t)) (due-small (outcomeOf es) (flags t) (currentHeader regular alternate t) (headerOf f))
@@ -218,43 +218,43 @@ module _ (s : List ℕ) (p : Procedures) (lent : Lent s (p .regular) (p .alterna
 
   -- ---- the step
 
-  pub step-done : StepOf (stepOf regular alternate s)
+  pub step-done : StepOf (stepOf p s)
   step-done = go plan refl
     where
-      gone : (es : List Effect) → plan ≡ gives es → (b : Bool) → firstFull s es ≡ b → StepOf (stepOf regular alternate s)
+      gone : (es : List Effect) → plan ≡ gives es → (b : Bool) → firstFull s es ≡ b → StepOf (stepOf p s)
       gone es e true q = subst StepOf (sym (full-step es e q ∙ trap-small 1 2 (omega arith) (omega arith))) (full e (sym (vain es e) ∙ q), tt)
       gone es e false q = subst StepOf (sym (done-step es e q)) (done-is es e q)
 
-      go : (q : Plan) → plan ≡ q → StepOf (stepOf regular alternate s)
+      go : (q : Plan) → plan ≡ q → StepOf (stepOf p s)
       go (gives es) e = gone es e (firstFull s es) refl
       go (trap class number) e =
-          let l = plan-listed regular alternate (length s - sbase s) (view s) class number e in
+          let l = plan-listed p (length s - sbase s) (view s) class number e in
           subst StepOf (sym (trap-step class number e ∙ trap-small class number (traps-listed .class class number l) (traps-listed .number class number l))) (traps e, tt)
 
   -- what holds of the segment, is kept by the effects of its plan, and goes by no trap
   step-keeps : (P : List ℕ → Type 0) → ((t : List ℕ) → P t → (v : ℕ) → v < 2 ^ 16 → P (set t 3 v)) → P s
-      → ((es : List Effect) → plan ≡ gives es → firstFull s es ≡ false → P (performs s es)) → P (stepOf regular alternate s .words)
+      → ((es : List Effect) → plan ≡ gives es → firstFull s es ≡ false → P (performs s es)) → P (stepOf p s .words)
   unfolding setTrap
   step-keeps P trapping start effects = go plan refl
     where
-      stopped : (class number : ℕ) → stepOf regular alternate s ≡ stepping.trapped s class number → P (stepOf regular alternate s .words)
+      stopped : (class number : ℕ) → stepOf p s ≡ stepping.trapped s class number → P (stepOf p s .words)
       stopped class number q = rw q (trapping s start _ (omega arith))
 
-      gone : (es : List Effect) → plan ≡ gives es → (b : Bool) → firstFull s es ≡ b → P (stepOf regular alternate s .words)
+      gone : (es : List Effect) → plan ≡ gives es → (b : Bool) → firstFull s es ≡ b → P (stepOf p s .words)
       gone es e true q = stopped 1 2 (full-step es e q)
       gone es e false q =
           rw (done-step es e q)
           (finished-keeps (d es e) (t es e) (small es e q) P (trapping (t es e) (effects es e q)) (effects es e q))
 
-      go : (q : Plan) → plan ≡ q → P (stepOf regular alternate s .words)
+      go : (q : Plan) → plan ≡ q → P (stepOf p s .words)
       go (gives es) e = gone es e (firstFull s es) refl
       go (trap class number) e = stopped class number (trap-step class number e)
 
   -- what is left is accepted again, and of 32-bit words
-  pub step-accepted : Accepted (stepOf regular alternate s .words) regular alternate
+  pub step-accepted : Accepted (stepOf p s .words) regular alternate
   step-accepted = step-keeps (λ t. Accepted t regular alternate) (λ t k v l. trap-accepted t regular alternate k v l) h done-accepted
 
-  pub step-words : Words (stepOf regular alternate s .words)
+  pub step-words : Words (stepOf p s .words)
   step-words =
       step-keeps Words (λ t k v l. words-set t k 3 v (omega arith)) (lent .words) (λ es e q.
       let k = known es e in

@@ -28,6 +28,7 @@ use Rattle.tally.specs.Counts.{countLimit, noneCounted, countUp, counted}
 use Rattle.acceptance_storage.proofs.Tests.{both}
 use Rattle.acceptance.specs.Frames.{known}
 use Rattle.acceptance.specs.Structure.{Accepted}
+use Rattle.manual.specs.Program.{Program}
 use Rattle.manual.specs.OrTrap.{gives}
 use Rattle.manual.specs.Effects.{Effect}
 use Rattle.manual.specs.Seen.{Seen}
@@ -39,7 +40,7 @@ use Rattle.legality.proofs.Runs.{function-known}
 use Rattle.step_theorems.proofs.Current.{current-function, plan-is}
 use Rattle.step_theorems.proofs.Again.{sound-of}
 use Rattle.operations.specs.declared.Replayed.{Replayed}
-use Rattle.audit.specs.Calls.{Procedures, Answer, Passes}
+use Rattle.audit.specs.Calls.{proceduresOf, Answer, Passes}
 use Rattle.audit.specs.Steps.{finishes, Step, does}
 use Rattle.audit.specs.Runs.{Runs, over, goesOn, traced, stops}
 use Rattle.audit.specs.Did.{Did, isRefused, hasRun, isLoaded, Event}
@@ -83,21 +84,21 @@ planned-counts f seen place es e = go (instructionAt (codeIn f) place) refl e
     go (D.Instruction i next) q e = decoded-counts (codeIn f) i next place q
     go (D.Trap class number) q e = let z : _≡_ {A = ℕ} 0 1 = cc in absurd (omega arith)
 
-module _ (s regular alternate : List ℕ) (h : Accepted s regular alternate) where
-  function-there : hasFunction (selected (selectorOf s) regular alternate) (currentFunction s) ≡ true
+module _ (s : List ℕ) (p : Program) (h : Accepted s (p .regular) (p .alternate)) where
+  function-there : hasFunction (selected (selectorOf s) (p .regular) (p .alternate)) (currentFunction s) ≡ true
   unfolding known
-  function-there = both (ltb (codeWordAt s (lbase s)) (2 ^ 28)) (hasFunction (selected (selectorOf s) regular alternate) (currentFunction s)) (function-known s regular alternate (h .older) (lbase s) (h .chain)) .1
+  function-there = both (ltb (codeWordAt s (lbase s)) (2 ^ 28)) (hasFunction (selected (selectorOf s) (p .regular) (p .alternate)) (currentFunction s)) (function-known s (p .regular) (p .alternate) (h .older) (lbase s) (h .chain)) .1
 
-  first-is : firstByte regular alternate s ≡ byteAt (codeIn (current-function s regular alternate)) (pctr (codeWordAt s (lbase s)))
+  first-is : firstByte (p .regular) (p .alternate) s ≡ byteAt (codeIn (current-function s p)) (pctr (codeWordAt s (lbase s)))
   unfolding firstByte functionOf
   first-is = rw function-there
 
-step-counts : {p : Procedures} {s t : List ℕ} {d : ℕ} → Passes s p → Step p s (finishes d) t → Counts (firstByte (p .regular) (p .alternate) s)
+step-counts : {p : Program} {s t : List ℕ} {d : ℕ} → Passes s (proceduresOf p) → Step p s (finishes d) t → Counts (firstByte (p .regular) (p .alternate) s)
 step-counts {p = p} {s = s} passes (does {es = es} e v k) =
-    let h = accepted-of s p passes in
-    let f = current-function s (p .regular) (p .alternate) in
-    let plan = sym (plan-is s (p .regular) (p .alternate) h (sound-of h)) ∙ e in
-    subst Counts (sym (first-is s (p .regular) (p .alternate) h)) (planned-counts f (seen s) (pctr (codeWordAt s (lbase s))) es plan)
+    let h = accepted-of s (proceduresOf p) passes in
+    let f = current-function s p in
+    let plan = sym (plan-is s p h (sound-of h)) ∙ e in
+    subst Counts (sym (first-is s p h)) (planned-counts f (seen s) (pctr (codeWordAt s (lbase s))) es plan)
 
 -- ---- counts and their sum
 
@@ -153,7 +154,7 @@ record RunCounts (steps : ℕ) (answer : Answer) (before after : List ℕ) : Typ
   told : finishedOf answer ≡ steps + finished
   more : More before finished after
 
-run-counts : {p : Procedures} {budget steps : ℕ} {s t : List ℕ} {answer : Answer} (r : Runs p budget steps s answer t) (counts : List ℕ) → length counts ≡ 8
+run-counts : {p : Program} {budget steps : ℕ} {s t : List ℕ} {answer : Answer} (r : Runs p budget steps s answer t) (counts : List ℕ) → length counts ≡ 8
     → RunCounts steps answer counts (countsAfter r counts)
 run-counts (over {steps = steps}) counts long = record { finished = 0; told = omega arith; more = no-more counts long }
 run-counts {p = p} (goesOn {steps = steps} {s = s} passes step rest) counts long =
@@ -164,7 +165,7 @@ run-counts {p = p} (traced {steps = steps} {s = s} passes some step) counts long
     record { finished = 1; told = omega arith; more = counted-more counts long (firstByte (p .regular) (p .alternate) s) (step-counts passes step) }
 run-counts (stops {steps = steps} passes step) counts long = record { finished = 0; told = omega arith; more = no-more counts long }
 
-call-counts : (p : Procedures) (r : file.Record) {s t : List ℕ} {a : Answer} (did : Did s (recordCall p r) a t) (counts : List ℕ) → length counts ≡ 8
+call-counts : (p : Program) (r : file.Record) {s t : List ℕ} {a : Answer} (did : Did s (recordCall p r) a t) (counts : List ℕ) → length counts ≡ 8
     → More counts (finishedOf a) (callCounts did counts)
 call-counts p (file.load g lengths ravel) (isRefused some number) counts long = no-more counts long
 call-counts p (file.load g lengths ravel) (isLoaded passed did) counts long = no-more counts long
@@ -174,7 +175,7 @@ call-counts p (file.run budget) {a = a} (hasRun passed did) counts long =
     let told : r .finished ≡ finishedOf a = omega (arith, r .told) in
     subst (λ (n : ℕ). More counts n (countsAfter (did .steps) counts)) told (r .more)
 
-replay-counts : {p : Procedures} {records : Records} {s t counts after : List ℕ} {answer : Replayed} {events : List Event}
+replay-counts : {p : Program} {records : Records} {s t counts after : List ℕ} {answer : Replayed} {events : List Event}
     → Replays p records s counts answer t after events → length counts ≡ 8 → More counts (finishedIn events) after
 replay-counts (allDone {counts = counts}) long = no-more counts long
 replay-counts (isMalformed {counts = counts}) long = no-more counts long
@@ -185,6 +186,6 @@ replay-counts {p = p} (halts {r = r} {counts = counts} did d) long =
     let first = call-counts p r did counts long in
     more-later first (no-more (callCounts did counts) (first .long))
 
-pub replay-sum : {p : Procedures} {records : Records} {s t after : List ℕ} {answer : Replayed} {events : List Event}
+pub replay-sum : {p : Program} {records : Records} {s t after : List ℕ} {answer : Replayed} {events : List Event}
     → Replays p records s noneCounted answer t after events → AllBelow countLimit after → (length after ≡ 8) × (total after ≡ finishedIn events)
 replay-sum replays below = let more = replay-counts replays refl in (more .long, omega (arith, more .sum below))

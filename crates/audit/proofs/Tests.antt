@@ -7,10 +7,13 @@ use mathlib.Core.List.{List, [], _∷_, _++_}
 use native.Mathlib.Omega.{arith}
 use lib.Dec.{eqb}
 use borrow.Author.Tests.{ne-eqb}
+use Rattle.operator.specs.Lent.{tableTest}
 use Rattle.procedure.specs.Refusal.{segmentLengthTest, contentsTest, procedureRefusal}
 use Rattle.acceptance.specs.Refusal.{lengthTest, dataRefusal, refusal}
+use Rattle.manual.specs.Program.{Program}
 use Rattle.fresh_segment.specs.LayOut.{Layout, functionTest, partsTest, layOutRefusal}
-use Rattle.audit.specs.Calls.{Procedures, layOut, Test, firstFailed, segmentTests, tests}
+use Rattle.operations.specs.Run.{runRefusal}
+use Rattle.audit.specs.Calls.{Procedures, proceduresOf, layOut, run, Test, firstFailed, segmentTests, tests}
 
 -- ---- tests one after the other
 
@@ -81,3 +84,8 @@ module _ (s : List ℕ) (p : Procedures) where
     where
       numbered : Numbered (segmentTests s p)
       numbered = ((λ z. omega arith), ((λ z. omega arith), ((λ z. omega arith), ((λ z. omega arith), ((λ z. omega arith), ((λ z. omega arith), ((λ z. omega arith), ((λ z. omega arith), ((λ z. omega arith), tt)))))))))
+
+-- a run's: 26 stands between them
+pub run-told : (s : List ℕ) (p : Program) (budget : ℕ) → firstFailed (tests s (run p budget)) ≡ runRefusal s p
+unfolding runRefusal dataRefusal
+run-told s p budget = sym (lent-told s (proceduresOf p) (cond (tableTest (p .table)) (dataRefusal s (p .regular) (p .alternate)) 26))

@@ -1,5 +1,6 @@
 -- A call of one of the four operations or of the sheet, what it answers, and the table of document 01: "Tests go in table order, save
--- that 20 comes before 19; lay out omits 13–18." A reader must believe: each test is the sentence of its number. Assumes nothing.
+-- that 20 comes before 19; lay out omits 13–18"; 26 of document 02, paper 5, is "tested after 12". A reader must believe: each test is
+-- the sentence of its number. Assumes nothing.
 use Prim.Native.Nat.{ℕ}
 use mathlib.Core.Path.{_≡_}
 use mathlib.Core.Bool.{Bool, cond, not, _&&_, _||_}
@@ -8,6 +9,7 @@ use lib.Dec.{eqb}
 use lib.ListN.{length}
 use Rattle.descriptor.specs.declared.Target.the-variants.{Global}
 use Rattle.descriptor.specs.Kinds.{segment}
+use Rattle.operator.specs.Lent.{tableTest}
 use Rattle.procedure.specs.Refusal.{segmentLengthTest, contentsTest}
 use Rattle.segment.specs.Blocks.{need}
 use Rattle.segment.specs.Cells.{Cell, undefined}
@@ -23,6 +25,7 @@ use Rattle.acceptance.specs.Counts.{countsTest}
 use Rattle.acceptance.specs.Refusal.{lengthTest}
 use Rattle.storage_sheet.specs.declared.Sheet.{Sheet}
 use Rattle.manual.specs.Effects as manual
+use Rattle.manual.specs.Program.{Program}
 use Rattle.manual.specs.Loads.{isUndefined}
 use Rattle.fresh_segment.specs.LayOut.{Layout, functionTest, partsTest}
 use Rattle.operations.specs.declared.Answer as operations
@@ -42,10 +45,13 @@ pub record Procedures : Type 0 where
 abbrev pub procedures : List ℕ → List ℕ → Procedures
 procedures regular alternate = record { regular = regular; alternate = alternate }
 
+abbrev pub proceduresOf : Program → Procedures
+proceduresOf p = procedures (p .regular) (p .alternate)
+
 pub data Call : Type 0 where
   layOut : Procedures → Layout → Call
-  -- with a budget
-  run : Procedures → ℕ → Call
+  -- under a table of operators, with a budget
+  run : Program → ℕ → Call
   -- into a global, by lengths and elements
   load : Procedures → ℕ → List ℕ → List ℕ → Call
   look : Procedures → ℕ → Call
@@ -102,16 +108,18 @@ lentTests s p =
     ∷ test 12 (contentsTest (p .regular) && contentsTest (p .alternate))
     ∷ []
 
-abbrev pub segmentTests : List ℕ → Procedures → List Test
-segmentTests s p =
-    lentTests s p
-    ++ (test 13 (headTest s)
+abbrev pub dataTests : List ℕ → Procedures → List Test
+dataTests s p =
+    test 13 (headTest s)
     ∷ test 14 (blocksTest s)
     ∷ test 15 (ringTest s)
     ∷ test 16 (framesTest s (p .regular) (p .alternate))
     ∷ test 17 (cellsTest s (p .regular) (p .alternate))
     ∷ test 18 (countsTest s)
-    ∷ [])
+    ∷ []
+
+abbrev pub segmentTests : List ℕ → Procedures → List Test
+segmentTests s p = lentTests s p ++ dataTests s p
 
 -- Tests 10–18 pass: the segment is accepted. specs/Accepts says the same as a structure.
 abbrev pub Passes : List ℕ → Procedures → Type 0
@@ -128,7 +136,7 @@ hasRoom s lengths ravel = eqb (length lengths) 0 || longEnough s (need lengths r
 abbrev pub tests : List ℕ → Call → List Test
 tests s (layOut p l) =
     lentTests s p ++ (test 20 (functionTest (p .regular) (p .alternate) l) ∷ test 19 (partsTest s (p .regular) (p .alternate) l) ∷ [])
-tests s (run p budget) = segmentTests s p
+tests s (run p budget) = lentTests s (proceduresOf p) ++ (test 26 (tableTest (p .table)) ∷ dataTests s (proceduresOf p))
 tests s (load p g lengths ravel) =
     segmentTests s p ++ (test 21 (isGlobal s g) ∷ test 23 (isValue lengths ravel) ∷ test 24 (hasRoom s lengths ravel) ∷ [])
 tests s (look p g) = segmentTests s p ++ (test 21 (isGlobal s g) ∷ test 22 (not (isUndefined (globalValue s g))) ∷ [])
@@ -141,7 +149,7 @@ LentProcedures p = Bytes (p .regular) × Bytes (p .alternate)
 
 abbrev pub LentCall : Call → Type 0
 LentCall (layOut p l) = LentProcedures p
-LentCall (run p budget) = LentProcedures p
+LentCall (run p budget) = LentProcedures (proceduresOf p)
 LentCall (load p g lengths ravel) = LentProcedures p × Words lengths × Words ravel
 LentCall (look p g) = LentProcedures p
 LentCall (sheet p) = LentProcedures p

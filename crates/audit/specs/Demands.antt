@@ -9,12 +9,13 @@ use Rattle.segment.specs.State as state
 use Rattle.segment.specs.View.{view}
 use Rattle.segment.specs.Lent.{Words}
 use Rattle.storage_sheet.specs.Sheet.{sheetOf}
+use Rattle.manual.specs.Program.{Program}
 use Rattle.manual.specs.OrTrap.{gives, trap}
 use Rattle.manual.specs.Effects.{Effect}
 use Rattle.manual.specs.Traps.{listed}
 use Rattle.fresh_segment.specs.LayOut.{Layout}
 use Rattle.step_theorems.specs.Planned.{planned}
-use Rattle.audit.specs.Calls.{Procedures, Call, layOut, run, load, look, sheet, Answer, summed, firstFailed, tests, Passes, globalValue, LentProcedures, LentCall}
+use Rattle.audit.specs.Calls.{Procedures, proceduresOf, Call, layOut, run, load, look, sheet, Answer, summed, firstFailed, tests, Passes, globalValue, LentProcedures, LentCall}
 use Rattle.audit.specs.Steps.{StepOutcome, trapsBy, finishes, Step, EffectsDone, inVain}
 use Rattle.audit.specs.Did.{LaidOut, Ran, Loaded, Tells, Did, Event}
 use Rattle.audit.specs.Lists.{refusalOf, Answers, Kept, FullExactly, Item, Happening, itemOf, Happened, callsIn, AllLent}
@@ -27,27 +28,27 @@ pub record Demand1 : Type 0 where
   pub ends : (s : List ℕ) → Words s → (c : Call) → LentCall c → (a : Answer) × (t : List ℕ) × Did s c a t × Words t
   pub answers : {s t : List ℕ} {c : Call} {a : Answer} → Did s c a t → refusalOf a ≡ 0 → Answers c a
   -- "and each instruction finishes, or traps by class and number"
-  pub instruction : (s : List ℕ) (p : Procedures) → Words s → LentProcedures p → Passes s p
-      → (o : StepOutcome) × (t : List ℕ) × Step p s o t × Passes t p
+  pub instruction : (s : List ℕ) (p : Program) → Words s → LentProcedures (proceduresOf p) → Passes s (proceduresOf p)
+      → (o : StepOutcome) × (t : List ℕ) × Step p s o t × Passes t (proceduresOf p)
   -- "with everything but the trap word unchanged (step and trace traps alone come after a finished instruction)."
-  pub trapped : {s t : List ℕ} {p : Procedures} {class number : ℕ} → Step p s (trapsBy class number) t → t ≡ set s 3 (state.trapOf class number)
-  pub after : {s t : List ℕ} {p : Procedures} {d : ℕ} → Step p s (finishes d) t → d ≤ 3
-  pub alone : {s t : List ℕ} {p : Procedures} {number : ℕ} → Step p s (trapsBy 2 number) t → number ≡ 4
+  pub trapped : {s t : List ℕ} {p : Program} {class number : ℕ} → Step p s (trapsBy class number) t → t ≡ set s 3 (state.trapOf class number)
+  pub after : {s t : List ℕ} {p : Program} {d : ℕ} → Step p s (finishes d) t → d ≤ 3
+  pub alone : {s t : List ℕ} {p : Program} {number : ℕ} → Step p s (trapsBy 2 number) t → number ≡ 4
 
 pub record Demand2 : Type 0 where
   -- "Every step does what the manual, as fixed in document 01, gives: values, frames, next PCTR, trap."
-  pub trap : {s t : List ℕ} {p : Procedures} {o : StepOutcome} → Step p s o t → (class number : ℕ)
-      → planned s (p .regular) (p .alternate) ≡ trap class number → (o ≡ trapsBy class number) × (listed class number ≡ true)
-  pub full : {s t : List ℕ} {p : Procedures} {o : StepOutcome} → Step p s o t → (es : List Effect)
-      → planned s (p .regular) (p .alternate) ≡ gives es → inVain s es ≡ true → o ≡ trapsBy 1 2
+  pub trap : {s t : List ℕ} {p : Program} {o : StepOutcome} → Step p s o t → (class number : ℕ)
+      → planned s p ≡ trap class number → (o ≡ trapsBy class number) × (listed class number ≡ true)
+  pub full : {s t : List ℕ} {p : Program} {o : StepOutcome} → Step p s o t → (es : List Effect)
+      → planned s p ≡ gives es → inVain s es ≡ true → o ≡ trapsBy 1 2
   -- "A value that the instruction does not take, write or drop stays the same though it shares storage": `EffectsDone.others`.
-  pub does : {s t : List ℕ} {p : Procedures} {o : StepOutcome} → Step p s o t → (es : List Effect)
-      → planned s (p .regular) (p .alternate) ≡ gives es → inVain s es ≡ false → (d : ℕ) × (o ≡ finishes d) × EffectsDone p s es d t
+  pub does : {s t : List ℕ} {p : Program} {o : StepOutcome} → Step p s o t → (es : List Effect)
+      → planned s p ≡ gives es → inVain s es ≡ false → (d : ℕ) × (o ≡ finishes d) × EffectsDone p s es d t
   -- and nothing else: the words before it settle the outcome and all that is seen after it
-  pub settled : {s t u : List ℕ} {p : Procedures} {o q : StepOutcome} → Step p s o t → Step p s q u → (o ≡ q) × (view t ≡ view u)
+  pub settled : {s t u : List ℕ} {p : Program} {o q : StepOutcome} → Step p s o t → Step p s q u → (o ≡ q) × (view t ≡ view u)
   -- and each call
   pub layOut : {s t : List ℕ} {p : Procedures} {l : Layout} {a : Answer} → Did s (layOut p l) a t → refusalOf a ≡ 0 → LaidOut s p l t
-  pub run : {s t : List ℕ} {p : Procedures} {budget : ℕ} {a : Answer} → Did s (run p budget) a t → refusalOf a ≡ 0 → Ran s p budget a t
+  pub run : {s t : List ℕ} {p : Program} {budget : ℕ} {a : Answer} → Did s (run p budget) a t → refusalOf a ≡ 0 → Ran s p budget a t
   pub load : {s t lengths ravel : List ℕ} {p : Procedures} {g : ℕ} {a : Answer} → Did s (load p g lengths ravel) a t → refusalOf a ≡ 0
       → Loaded s p g lengths ravel t
   pub look : {s t : List ℕ} {p : Procedures} {g : ℕ} {a : Answer} → Did s (look p g) a t → refusalOf a ≡ 0 → Tells s a (globalValue s g) × (t ≡ s)

@@ -16,10 +16,11 @@ use Rattle.segment.specs.View.{view}
 use Rattle.segment.specs.Lent.{Words}
 use Rattle.storage_sheet.specs.Sheet.{sheetOf}
 use Rattle.manual.specs.Control.{frameWord}
+use Rattle.manual.specs.Program.{Program}
 use Rattle.manual.specs.Effects as manual
 use Rattle.fresh_segment.specs.LayOut.{Layout, localsOf}
 use Rattle.fresh_segment.specs.FreshWords.{FreshWords}
-use Rattle.audit.specs.Calls.{Procedures, Call, layOut, run, load, look, sheet, Answer, refused, done, ran, scalar, array, summed, firstFailed, tests, Passes, globalValue, LentCall}
+use Rattle.audit.specs.Calls.{Procedures, proceduresOf, Call, layOut, run, load, look, sheet, Answer, refused, done, ran, scalar, array, summed, firstFailed, tests, Passes, globalValue, LentCall}
 use Rattle.audit.specs.Runs.{Runs, SomeRequestInVain, ReportsFull}
 
 -- The fresh segment: every word of it is said.
@@ -28,12 +29,12 @@ pub record LaidOut (s : List ℕ) (p : Procedures) (l : Layout) (t : List ℕ) :
   pub accepted : Passes t p
 
 -- "A run sets word 3 to zero first"; then its steps.
-pub record Ran (s : List ℕ) (p : Procedures) (budget : ℕ) (answer : Answer) (t : List ℕ) : Type 0 where
+pub record Ran (s : List ℕ) (p : Program) (budget : ℕ) (answer : Answer) (t : List ℕ) : Type 0 where
   pub steps : Runs p budget 0 (set s 3 0) answer t
   pub all : (n : ℕ) → answer ≡ ran n → (n ≡ budget) × (trapWord t ≡ 0)
   -- (1,2) is reported exactly where an instruction comes to a request for which no free block is long enough
   pub full : ReportsFull answer t ↔ SomeRequestInVain steps
-  pub accepted : Passes t p
+  pub accepted : Passes t (proceduresOf p)
 
 -- The global has the value, and every other variable the one it had, though it shares storage.
 pub record Loaded (s : List ℕ) (p : Procedures) (g : ℕ) (lengths ravel : List ℕ) (t : List ℕ) : Type 0 where
@@ -56,7 +57,7 @@ pub data Did (s : List ℕ) : Call → Answer → List ℕ → Type 0 where
   -- by the first test of the table that fails, and no word changes
   isRefused : {c : Call} {number : ℕ} → number ≢ 0 → firstFailed (tests s c) ≡ number → Did s c (refused number) s
   isLaidOut : {p : Procedures} {l : Layout} {t : List ℕ} → firstFailed (tests s (layOut p l)) ≡ 0 → LaidOut s p l t → Did s (layOut p l) done t
-  hasRun : {p : Procedures} {budget : ℕ} {answer : Answer} {t : List ℕ} → firstFailed (tests s (run p budget)) ≡ 0 → Ran s p budget answer t
+  hasRun : {p : Program} {budget : ℕ} {answer : Answer} {t : List ℕ} → firstFailed (tests s (run p budget)) ≡ 0 → Ran s p budget answer t
       → Did s (run p budget) answer t
   isLoaded : {p : Procedures} {g : ℕ} {lengths ravel t : List ℕ} → firstFailed (tests s (load p g lengths ravel)) ≡ 0
       → Loaded s p g lengths ravel t → Did s (load p g lengths ravel) done t

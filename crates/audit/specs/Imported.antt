@@ -3,6 +3,7 @@ use Prim.Native.Nat.{ℕ}
 use mathlib.Core.Path.{_≡_}
 use mathlib.Core.List.{List, [], _∷_}
 use lib.ListN.{getD}
+use Rattle.manual.specs.Program.{underManual}
 use Rattle.tally.specs.Counts.{countLimit, counted}
 use Rattle.operations.specs.declared.Replayed.the-variants.{Done, Halted, Malformed}
 use Rattle.operations.specs.Replay.{Replay, replayed}
@@ -13,7 +14,7 @@ abbrev pub addingCode : List ℕ
 addingCode = 0x40 ∷ 0x05 ∷ 0x40 ∷ 0x01 ∷ 0x68 ∷ 0x68 ∷ []
 
 abbrev pub afterFile : List ℕ → Replay
-afterFile file = replayed (laid addingCode) (coded addingCode) (coded addingCode) file
+afterFile file = replayed (laid addingCode) (underManual (coded addingCode) (coded addingCode)) file
 
 pub record Imported : Type 0 where
   -- nothing: every record was done

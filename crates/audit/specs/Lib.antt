@@ -9,6 +9,8 @@ pub mod Demands
 pub mod Accepts
 pub mod RuledOut
 pub mod ParList
+pub mod Tables
 pub mod Table
 pub mod Story
 pub mod Imported
+pub mod Numbered

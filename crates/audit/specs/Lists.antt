@@ -18,9 +18,10 @@ use Rattle.storage_theorems.specs.Tiling.{Tiling}
 use Rattle.imports.specs.Records.{recordsOf}
 use Rattle.tally.specs.Counts.{noneCounted}
 use Rattle.storage_sheet.specs.declared.Sheet.{Sheet}
+use Rattle.manual.specs.Program.{Program}
 use Rattle.operations.specs.declared.Replayed.{Replayed}
 use Rattle.operations.specs.Load.{isGlobal, isValue}
-use Rattle.audit.specs.Calls.{Procedures, Call, layOut, run, load, look, sheet, Answer, refused, done, ran, trapped, scalar, array, summed, Passes, LentProcedures, LentCall}
+use Rattle.audit.specs.Calls.{Procedures, proceduresOf, Call, layOut, run, load, look, sheet, Answer, refused, done, ran, trapped, scalar, array, summed, Passes, LentProcedures, LentCall}
 use Rattle.audit.specs.Runs.{Runs, SomeRequestInVain, ReportsFull}
 use Rattle.audit.specs.Did.{Did, Event}
 use Rattle.audit.specs.Replays.{Replays}
@@ -71,7 +72,7 @@ pub record LoadInVain (s : List ℕ) (p : Procedures) (g : ℕ) (lengths ravel :
 
 -- Full is (1,2) of a run, 24 of a load.
 pub record FullExactly (s : List ℕ) (c : Call) (a : Answer) (t : List ℕ) : Type 0 where
-  pub run : (p : Procedures) (budget : ℕ) → c ≡ run p budget → refusalOf a ≡ 0
+  pub run : (p : Program) (budget : ℕ) → c ≡ run p budget → refusalOf a ≡ 0
       → (steps : Runs p budget 0 (set s 3 0) a t) × (ReportsFull a t ↔ SomeRequestInVain steps)
   pub load : (p : Procedures) (g : ℕ) (lengths ravel : List ℕ) → c ≡ load p g lengths ravel → (a ≡ refused 24) ↔ LoadInVain s p g lengths ravel
 
@@ -80,11 +81,11 @@ pub record FullExactly (s : List ℕ) (c : Call) (a : Answer) (t : List ℕ) : T
 -- What may stand in a list: a call, or the replay of a file.
 pub data Item : Type 0 where
   call : Call → Item
-  replay : Procedures → List ℕ → Item
+  replay : Program → List ℕ → Item
 
 -- A replay, what it answered, its counts, the calls that it made, and the segment after it.
 pub record ReplayEvent : Type 0 where
-  pub procedures : Procedures
+  pub program : Program
   pub file : List ℕ
   pub answer : Replayed
   pub counts : List ℕ
@@ -97,13 +98,13 @@ pub data Happening : Type 0 where
 
 abbrev pub itemOf : Happening → Item
 itemOf (called e) = call (e .call)
-itemOf (replayed e) = replay (e .procedures) (e .file)
+itemOf (replayed e) = replay (e .program) (e .file)
 
 abbrev pub Happened : List ℕ → List Happening → Type 0
 Happened s [] = Unit {0}
 Happened s (called e ∷ list) = Did s (e .call) (e .answer) (e .after) × Happened (e .after) list
 Happened s (replayed e ∷ list) =
-    Replays (e .procedures) (recordsOf (e .file)) s noneCounted (e .answer) (e .after) (e .counts) (e .calls) × Happened (e .after) list
+    Replays (e .program) (recordsOf (e .file)) s noneCounted (e .answer) (e .after) (e .counts) (e .calls) × Happened (e .after) list
 
 -- The calls of a list, in order: a replay is those that it makes.
 abbrev pub callsIn : List Happening → List Event
@@ -114,7 +115,7 @@ callsIn (replayed e ∷ list) = e .calls ++ callsIn list
 -- What each brings.
 abbrev pub LentItem : Item → Type 0
 LentItem (call c) = LentCall c
-LentItem (replay p bytes) = LentProcedures p × Bytes bytes
+LentItem (replay p bytes) = LentProcedures (proceduresOf p) × Bytes bytes
 
 abbrev pub AllLent : List Item → Type 0
 AllLent [] = Unit {0}

@@ -15,12 +15,12 @@ use Rattle.segment.specs.View.{view}
 use Rattle.acceptance_storage.specs.Room.{longEnough}
 use Rattle.manual.specs.OrTrap.{gives, trap}
 use Rattle.manual.specs.Effects.{Effect, NoneStoresTo, look, AddressableIn, performAll}
+use Rattle.manual.specs.Program.{Program}
 use Rattle.effects.specs.Perform.{wanted}
 use Rattle.effects.specs.declared.Outcome.{Outcome as Turn}
 use Rattle.effects.specs.declared.Outcome.the-variants as T
 use Rattle.effects.specs.Carried.{outcomeOf}
 use Rattle.step_theorems.specs.Planned.{planned, headerIn}
-use Rattle.audit.specs.Calls.{Procedures}
 
 -- It traps by class and number; or it finishes, with the number of the class 2 trap that is due after it, 0 for none.
 pub data StepOutcome : Type 0 where
@@ -51,7 +51,7 @@ dueAfter (T.Trapped class number) f called left = 0
 -- ---- the step
 
 -- The effects are done, and `d` is due.
-pub record EffectsDone (p : Procedures) (s : List ℕ) (es : List Effect) (d : ℕ) (t : List ℕ) : Type 0 where
+pub record EffectsDone (p : Program) (s : List ℕ) (es : List Effect) (d : ℕ) (t : List ℕ) : Type 0 where
   -- values, frames and the next PCTR
   pub seen : view t ≡ performAll es (view s)
   -- a variable that no effect stores to is seen as before, though it shares storage
@@ -65,11 +65,11 @@ pub record EffectsDone (p : Procedures) (s : List ℕ) (es : List Effect) (d : �
   -- flags but IORG
   pub flags : flags t / 2 ≡ flags s / 2
 
-pub data Step (p : Procedures) (s : List ℕ) : StepOutcome → List ℕ → Type 0 where
+pub data Step (p : Program) (s : List ℕ) : StepOutcome → List ℕ → Type 0 where
   -- a trap of the manual's lists: word 3 is the trap, and nothing else changes
-  traps : {class number : ℕ} → planned s (p .regular) (p .alternate) ≡ trap class number
+  traps : {class number : ℕ} → planned s p ≡ trap class number
       → Step p s (trapsBy class number) (set s 3 (trapOf class number))
   -- (1,2): every other trap has passed, and a block is asked for in vain
-  full : {es : List Effect} → planned s (p .regular) (p .alternate) ≡ gives es → inVain s es ≡ true → Step p s (trapsBy 1 2) (set s 3 (trapOf 1 2))
-  does : {es : List Effect} {d : ℕ} {t : List ℕ} → planned s (p .regular) (p .alternate) ≡ gives es → inVain s es ≡ false → EffectsDone p s es d t
+  full : {es : List Effect} → planned s p ≡ gives es → inVain s es ≡ true → Step p s (trapsBy 1 2) (set s 3 (trapOf 1 2))
+  does : {es : List Effect} {d : ℕ} {t : List ℕ} → planned s p ≡ gives es → inVain s es ≡ false → EffectsDone p s es d t
       → Step p s (finishes d) t

@@ -6,6 +6,7 @@ use mathlib.Core.List.{List, [], _∷_}
 use Rattle.descriptor.specs.Kinds.{segment}
 use Rattle.segment.specs.Blocks.{countAt}
 use Rattle.segment.specs.Parts.{shapePart, elementsPart}
+use Rattle.manual.specs.Program.{Program, underManual}
 use Rattle.storage_sheet.specs.Sheet.{sheetWith}
 use Rattle.operations.specs.declared.Sheeted.the-variants.{Summed}
 use Rattle.operations.specs.declared.Run.the-variants.{Done}
@@ -19,14 +20,17 @@ use Rattle.audit.specs.Table.{coded, laid, sheetBeside}
 abbrev pub storyCode : List ℕ
 storyCode = 0xD0 ∷ 0x08 ∷ 0x91 ∷ 0xD0 ∷ 0x09 ∷ 0x40 ∷ 0x00 ∷ 0x40 ∷ 0x02 ∷ 0x81 ∷ 0xD0 ∷ 0x09 ∷ 0xA1 ∷ []
 
+abbrev pub storyProgram : Program
+storyProgram = underManual (coded storyCode) (coded storyCode)
+
 abbrev pub withList : List ℕ
 withList = loaded (laid storyCode) (coded storyCode) (coded storyCode) 8 (3 ∷ []) (10 ∷ 20 ∷ 30 ∷ [])
 
 abbrev pub withCopy : Ended
-withCopy = ran withList (coded storyCode) (coded storyCode) 2
+withCopy = ran withList storyProgram 2
 
 abbrev pub written : Ended
-written = ran (withCopy .words) (coded storyCode) (coded storyCode) 4
+written = ran (withCopy .words) storyProgram 4
 
 -- A look at a global tells a vector of three.
 pub record TellsVector (s : List ℕ) (g block a b c : ℕ) : Type 0 where

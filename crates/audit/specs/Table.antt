@@ -6,6 +6,7 @@ use mathlib.Core.List.{List, [], _∷_, _++_}
 use lib.ListN.{getD, length, replicate, set}
 use Rattle.segment.specs.State.{sbase, ltop, rover, trapWord}
 use Rattle.scalar.specs.Value.{units}
+use Rattle.manual.specs.Program.{underManual}
 use Rattle.fresh_segment.specs.LayOut.{layout, laidOut}
 use Rattle.storage_sheet.specs.Sheet.{sheetWith}
 use Rattle.operations.specs.declared.Sheeted.{Sheeted}
@@ -28,7 +29,7 @@ laid code =
 
 -- A run of so many instructions after it.
 abbrev pub ranAfter : ℕ → List ℕ → Ended
-ranAfter budget code = ran (laid code) (coded code) (coded code) budget
+ranAfter budget code = ran (laid code) (underManual (coded code) (coded code)) budget
 
 -- The sheet of a segment beside this code.
 abbrev pub sheetBeside : List ℕ → List ℕ → Sheeted

@@ -140,7 +140,7 @@ pub fn help() {
     let a = put(
         &mut out,
         0,
-        b"seg N, word I HEX, words I HEX .., reg HEXBYTES, alt HEXBYTES, file HEXBYTES, ",
+        b"seg N, word I HEX, words I HEX .., reg HEXBYTES, alt HEXBYTES, file HEXBYTES, table HEXBYTES, ",
     );
     let b = put(
         &mut out,

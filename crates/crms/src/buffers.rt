@@ -17,17 +17,22 @@ pub fn words() -> [u32; 40000] {
     [0u32; 40000]
 }
 
-// The bytes of both procedure segments and of the file of imports.
-pub fn bytes() -> [u8; 180000] {
-    [0u8; 180000]
+// The bytes of both procedure segments, of the file of imports and of a table of operators.
+pub fn bytes() -> [u8; 181000] {
+    [0u8; 181000]
 }
 
-// Where the bytes of each start: there are 40,000 for a procedure segment, and 100,000 for the file.
+// Where the bytes of each start: there are 40,000 for a procedure segment, 100,000 for the file and 1,000 for the table.
 pub const REGULAR: usize = 0;
 
 pub const ALTERNATE: usize = 40000;
 
 pub const FILE: usize = 80000;
+
+pub const TABLE: usize = 180000;
+
+// More bytes than a table can have: none is lent.
+pub const NO_TABLE: usize = 1001;
 
 // So many bytes from a start on.
 pub fn bytes_from(bytes: &[u8], start: usize, n: usize) -> &[u8] {

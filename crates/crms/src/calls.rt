@@ -45,6 +45,7 @@ pub fn lay_out(
     answered(b"layout ", answer)
 }
 
+// Under the manual's table.
 pub fn run(
     last: Last,
     line: &[u8],
@@ -58,6 +59,23 @@ pub fn run(
         return last;
     }
     let answer = engine::run::run(seg, regular, alternate, numbers[0]);
+    ended(answer, word(seg, 3))
+}
+
+pub fn run_with(
+    last: Last,
+    line: &[u8],
+    at: usize,
+    seg: &mut [u32],
+    regular: &[u8],
+    alternate: &[u8],
+    table: &[u8],
+) -> Last {
+    let mut numbers = [0u32; 1];
+    if !takes(1, line, at, &mut numbers) {
+        return last;
+    }
+    let answer = engine::run::run_with(seg, regular, alternate, table, numbers[0]);
     ended(answer, word(seg, 3))
 }
 

@@ -4,7 +4,9 @@ use crate::answers::error;
 use crate::arguments::ends;
 use crate::buffers::ALTERNATE;
 use crate::buffers::FILE;
+use crate::buffers::NO_TABLE;
 use crate::buffers::REGULAR;
+use crate::buffers::TABLE;
 use crate::buffers::bytes_from;
 use crate::buffers::least;
 use crate::calls::lay_out;
@@ -12,11 +14,13 @@ use crate::calls::load;
 use crate::calls::look;
 use crate::calls::replayed;
 use crate::calls::run;
+use crate::calls::run_with;
 use crate::calls::sheet;
 use crate::session::Session;
 use crate::sets::set_file;
 use crate::sets::set_procedure;
 use crate::sets::set_segment;
+use crate::sets::set_table;
 use crate::sets::set_words;
 use line_tool::command::Command;
 use line_tool::command::command_of;
@@ -25,6 +29,7 @@ use line_tool::fault::Fault;
 use line_tool::hash::hash_of;
 use line_tool::tokens::text;
 use line_tool::tokens::token_at;
+use operator::lent::manual_table;
 use segment::word;
 
 pub fn obey(m: Session, line: &[u8], data: &mut [u32], bytes: &mut [u8]) -> Session {
@@ -40,6 +45,7 @@ pub fn obey(m: Session, line: &[u8], data: &mut [u32], bytes: &mut [u8]) -> Sess
         Command::Reg => m.with_regular(set_procedure(m.regular, REGULAR, line, at, bytes)),
         Command::Alt => m.with_alternate(set_procedure(m.alternate, ALTERNATE, line, at, bytes)),
         Command::File => m.with_file(set_file(m.file, line, at, bytes)),
+        Command::Table => m.with_table(set_table(m.table, line, at, bytes)),
         Command::Replay => replay(m, line, at, data, bytes),
         _ => m.with_last(use_segments(m, command, line, at, data, bytes)),
     }
@@ -50,6 +56,14 @@ fn replay(m: Session, line: &[u8], at: usize, data: &mut [u32], bytes: &[u8]) ->
     if !ends(line, at) {
         return m;
     }
+    if m.table == NO_TABLE {
+        let manual = manual_table();
+        return replay_under(m, &manual, data, bytes);
+    }
+    replay_under(m, bytes_from(bytes, TABLE, m.table), data, bytes)
+}
+
+fn replay_under(m: Session, table: &[u8], data: &mut [u32], bytes: &[u8]) -> Session {
     let n = least(m.words, data.len());
     let seg = &mut data[0..n];
     let mut counts = [0u32; 8];
@@ -57,6 +71,7 @@ fn replay(m: Session, line: &[u8], at: usize, data: &mut [u32], bytes: &[u8]) ->
         seg,
         bytes_from(bytes, REGULAR, m.regular),
         bytes_from(bytes, ALTERNATE, m.alternate),
+        table,
         bytes_from(bytes, FILE, m.file),
         &mut counts,
     );
@@ -79,7 +94,13 @@ fn use_segments(
     let last = m.last;
     match command {
         Command::Layout => lay_out(last, line, at, seg, regular, alternate),
-        Command::Run => run(last, line, at, seg, regular, alternate),
+        Command::Run => {
+            if m.table == NO_TABLE {
+                return run(last, line, at, seg, regular, alternate);
+            }
+            let table = bytes_from(bytes, TABLE, m.table);
+            run_with(last, line, at, seg, regular, alternate, table)
+        }
         Command::Load => load(last, line, at, seg, regular, alternate),
         Command::Look => look(last, line, at, seg, regular, alternate),
         Command::Sheet => sheet(last, line, at, seg, regular, alternate),

@@ -1,4 +1,5 @@
 // What the tool holds besides its buffers: how much of each is in use, what was answered last, and what the last replay counted.
+use crate::buffers::NO_TABLE;
 use line_tool::explain::Last;
 
 pub struct Session {
@@ -9,6 +10,8 @@ pub struct Session {
     pub regular: usize,
     pub alternate: usize,
     pub file: usize,
+    // NO_TABLE where no table of operators is lent.
+    pub table: usize,
     pub last: Last,
     pub counts: [u32; 8],
 }
@@ -22,6 +25,7 @@ impl Session {
             regular: 0,
             alternate: 0,
             file: 0,
+            table: NO_TABLE,
             last: Last::Nothing,
             counts: [0u32; 8],
         }
@@ -53,6 +57,11 @@ impl Session {
         self
     }
 
+    pub fn with_table(mut self, n: usize) -> Session {
+        self.table = n;
+        self
+    }
+
     pub fn with_last(self, last: Last) -> Session {
         let counts = self.counts;
         self.with_replayed(last, counts)
@@ -66,6 +75,7 @@ impl Session {
             regular: self.regular,
             alternate: self.alternate,
             file: self.file,
+            table: self.table,
             last,
             counts,
         }

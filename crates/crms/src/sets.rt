@@ -9,12 +9,15 @@ use crate::arguments::missing;
 use crate::arguments::takes;
 use crate::buffers;
 use crate::buffers::FILE;
+use crate::buffers::NO_TABLE;
+use crate::buffers::TABLE;
 use crate::buffers::first_words;
 use crate::buffers::least;
 use elements::copies::fill;
 use line_tool::bytes::Counted;
 use line_tool::bytes::count;
 use line_tool::bytes::put_bytes;
+use line_tool::command::is;
 use line_tool::fault::Fault;
 use line_tool::list::Listed;
 use line_tool::list::numbers_at;
@@ -80,6 +83,18 @@ pub fn set_procedure(old: usize, start: usize, line: &[u8], at: usize, bytes: &m
 // How many bytes the file of imports has from now on.
 pub fn set_file(old: usize, line: &[u8], at: usize, bytes: &mut [u8]) -> usize {
     set_bytes(old, FILE, 100000, Fault::LongFile, line, at, bytes)
+}
+
+// How many bytes the table of operators has that is lent from now on, or NO_TABLE.
+pub fn set_table(old: usize, line: &[u8], at: usize, bytes: &mut [u8]) -> usize {
+    let token = token_at(line, at);
+    if is(text(line, token), b"manual") {
+        if ends(line, token.end) {
+            return NO_TABLE;
+        }
+        return old;
+    }
+    set_bytes(old, TABLE, 1000, Fault::LongTable, line, at, bytes)
 }
 
 // How many bytes there are from a place on, at most so many; the fault where the line has more.

@@ -27,6 +27,7 @@ use Rattle.acceptance_storage.proofs.Tiling.{array-counted}
 use Rattle.acceptance.specs.Refusal.{refusal}
 use Rattle.acceptance.specs.Structure.{Direct, Accepted}
 use Rattle.acceptance.proofs.Structure.{structure}
+use Rattle.manual.specs.Program.{Program}
 use Rattle.effects.specs.declared.Stepped.{Stepped}
 use Rattle.effects.specs.declared.Stepped.the-variants as stepped
 use Rattle.effects.specs.Step.{stepOf}
@@ -56,32 +57,32 @@ followed steps more (stepped.Traced class number) s next h = omega arith
 followed steps more (stepped.Trapped class number) s next h = omega arith
 
 -- no more steps than were asked for
-steps-most : (budget steps : ℕ) (regular alternate s : List ℕ) → stepsIn (stepsFrom budget steps regular alternate s) ≤ steps + budget
+steps-most : (budget steps : ℕ) (p : Program) (s : List ℕ) → stepsIn (stepsFrom budget steps p s) ≤ steps + budget
 unfolding stepsFrom
-steps-most zero steps regular alternate s = omega arith
-steps-most (suc budget) steps regular alternate s =
-    followed steps budget (stepOf regular alternate s .answer) (stepOf regular alternate s .words) _
-    (λ t. omega (arith, steps-most budget (steps + 1) regular alternate t))
+steps-most zero steps p s = omega arith
+steps-most (suc budget) steps p s =
+    followed steps budget (stepOf p s .answer) (stepOf p s .words) _
+    (λ t. omega (arith, steps-most budget (steps + 1) p t))
 
 run-apart : (answer : Run) → stepsOf answer < 2 ^ 32 → RunApart answer
 run-apart answer l = record { status = omega arith; steps = omega arith }
 
-module _ (s regular alternate : List ℕ) (budget : ℕ) where
-  ran-most : (b : Bool) → eqb (refusal s regular alternate) 0 ≡ b → stepsOf (operations.ran s regular alternate budget .answer) ≤ budget
+module _ (s : List ℕ) (p : Program) (budget : ℕ) where
+  ran-most : (b : Bool) → eqb (operations.runRefusal s p) 0 ≡ b → stepsOf (operations.ran s p budget .answer) ≤ budget
   unfolding operations.ran runOf
-  ran-most true e = rw e (omega (arith, steps-most budget 0 regular alternate (set s 3 0)))
+  ran-most true e = rw e (omega (arith, steps-most budget 0 p (set s 3 0)))
   ran-most false e = rw e (omega arith)
 
-  runs : budget < 2 ^ 32 → RunApart (operations.ran s regular alternate budget .answer)
-  runs l = run-apart _ (omega (arith, ran-most (eqb (refusal s regular alternate) 0) refl))
+  runs : budget < 2 ^ 32 → RunApart (operations.ran s p budget .answer)
+  runs l = run-apart _ (omega (arith, ran-most (eqb (operations.runRefusal s p) 0) refl))
 
 -- ---- replays
 
 replay-apart : (answer : Replayed) → replayPlace answer < 2 ^ 32 → ReplayApart answer
 replay-apart answer l = record { status = omega arith; place = omega arith }
 
-replays : (s regular alternate file : List ℕ) → length file ≤ 2 ^ 32 → ReplayApart (replayed s regular alternate file .answer)
-replays s regular alternate file l = replay-apart _ (place-inside s regular alternate file l)
+replays : (s : List ℕ) (p : Program) (file : List ℕ) → length file ≤ 2 ^ 32 → ReplayApart (replayed s p file .answer)
+replays s p file l = replay-apart _ (place-inside s p file l)
 
 -- ---- the numbers of looks
 

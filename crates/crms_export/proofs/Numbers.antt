@@ -1,4 +1,4 @@
--- A run's answer and words are its definition's, and a sheet's counts; an array's parts are short.
+-- A run's answer and words are its definition's, a replay's with its tally, and a sheet's counts; an array's parts are short.
 use Prim.Native.Nat.{ℕ, zero, suc, _+_, _-_, _≤_, _<_, _^_}
 use native.Mathlib.Omega.{arith}
 use mathlib.Core.Path.{_≡_, refl, ap, _∙_}
@@ -10,17 +10,25 @@ use lib.Seq.{sets}
 use Rattle.segment.specs.Blocks.{part, sizeAt, rankAt}
 use Rattle.segment.specs.Parts.{within, shapePart, elementsPart}
 use Rattle.storage_sheet.specs.declared.Sheet.{Sheet}
+use Rattle.manual.specs.Program.{Program}
 use Rattle.operations.specs.declared.Run.{Run}
+use Rattle.operations.specs.declared.Replayed.{Replayed}
 use Rattle.operations.specs.declared.Sheeted.{Sheeted}
 use Rattle.operations.specs.declared.Sheeted.the-variants.{Summed}
 use Rattle.operations.specs.Answers.{sheetStatus}
 use Rattle.operations.specs.Run.{Ended, ended}
-use Rattle.operations.proofs.Replays.{all-set}
-use Rattle.crms_export.specs.Numbers.{runNumber, sheetCounts}
+use Rattle.operations.specs.Replay.{replayed}
+use Rattle.operations.proofs.Replays.{all-set, tally-told}
+use Rattle.crms_export.specs.Numbers.{runNumber, replayNumber, sheetCounts}
 
 pub run-told : (number : ℕ) (answer : Run) (s : List ℕ) (e : Ended) → number ≡ runNumber answer → ended answer s ≡ e
     → (number ≡ runNumber (e .answer)) × (s ≡ e .words)
 run-told number answer s e same told = (same ∙ ap (λ (e : Ended). runNumber (e .answer)) told, ap (λ (e : Ended). e .words) told)
+
+pub replay-told : (s : List ℕ) (p : Program) (file tally : List ℕ) {number : ℕ} {answer : Replayed} {t after : List ℕ} → number ≡ replayNumber answer
+    → (answer ≡ replayed s p file .answer) × ((t ≡ replayed s p file .words) × (after ≡ sets tally 0 (replayed s p file .counts))) → length tally ≡ 8
+    → (number ≡ replayNumber (replayed s p file .answer)) × ((t ≡ replayed s p file .words) × (after ≡ replayed s p file .counts))
+replay-told s p file tally same told eight = (same ∙ ap replayNumber (told .0), (told .1 .0, tally-told s p file tally _ (told .1 .1) eight))
 
 pub part-length : (n : ℕ) (s : List ℕ) (a : ℕ) → length (part s a n) ≡ n
 part-length zero s a = refl

@@ -6,6 +6,7 @@ use mathlib.Core.Path.{_≡_}
 use mathlib.Core.List.{List, [], _∷_}
 use lib.ListN.{length}
 use Rattle.segment.specs.Blocks.{part, shapeAt, elementsAt}
+use Rattle.manual.specs.Program.{Program}
 use Rattle.operations.specs.declared.Run.{Run}
 use Rattle.operations.specs.declared.Replayed.{Replayed}
 use Rattle.operations.specs.declared.Looked.{Looked}
@@ -65,6 +66,6 @@ pub record LookApart (s : List ℕ) (g : ℕ) (answer : Looked) : Type 0 where
 
 -- Of any words, any file up to 2^32 bytes and any global. A budget has 32 bits.
 pub record Apart : Type 0 where
-  pub runs : (s regular alternate : List ℕ) (budget : ℕ) → budget < 2 ^ 32 → RunApart (ran s regular alternate budget .answer)
-  pub replays : (s regular alternate file : List ℕ) → length file ≤ 2 ^ 32 → ReplayApart (replayed s regular alternate file .answer)
+  pub runs : (s : List ℕ) (p : Program) (budget : ℕ) → budget < 2 ^ 32 → RunApart (ran s p budget .answer)
+  pub replays : (s : List ℕ) (p : Program) (file : List ℕ) → length file ≤ 2 ^ 32 → ReplayApart (replayed s p file .answer)
   pub looks : (s regular alternate : List ℕ) (g : ℕ) → LookApart s g (looked s regular alternate g)

@@ -4,6 +4,7 @@ ghost use Prim.Native.Nat.{_<_, _%_, _^_};
 ghost use lib.ListN.{length};
 ghost use Rattle.segment.specs.Parts.{shapePart, elementsPart};
 ghost use Rattle.fresh_segment.specs.LayOut as layout;
+ghost use Rattle.manual.specs.Program.{program, underManual};
 ghost use Rattle.operations.specs.Answers.{statusOf, sheetStatus};
 ghost use Rattle.operations.specs.Load as loading;
 ghost use Rattle.operations.specs.Look.{looked};
@@ -19,12 +20,14 @@ use engine::look::elements;
 use engine::look::lengths;
 use engine::look::look;
 use engine::run::run;
+use engine::run::run_with;
 use engine::sheet::sheet;
 use operations::Answer;
 use operations::Looked;
 use operations::Replayed;
 use operations::Run;
 use operations::Sheeted;
+use operator::lent::manual_table;
 use replay::replay_into;
 use segment::put_all;
 
@@ -56,10 +59,25 @@ pub extern "C" fn crms_lay_out(
 
 #[no_mangle]
 pub extern "C" fn crms_run(seg: &mut [u32], regular: &[u8], alternate: &[u8], budget: u32) -> u64
-    ensures { λ r. ⌜ r ≡ runNumber (ran (now (seg .entry)) (now (regular .entry)) (now (alternate .entry)) budget .answer) ⌝ }
-    ensures { λ _. ⌜ now (seg .exit) ≡ ran (now (seg .entry)) (now (regular .entry)) (now (alternate .entry)) budget .words ⌝ }
+    ensures { λ r. ⌜ r ≡ runNumber (ran (now (seg .entry)) (underManual (now (regular .entry)) (now (alternate .entry))) budget .answer) ⌝ }
+    ensures { λ _. ⌜ now (seg .exit) ≡ ran (now (seg .entry)) (underManual (now (regular .entry)) (now (alternate .entry))) budget .words ⌝ }
 {
     run_number(run(seg, regular, alternate, budget))
+}
+
+// A run under a table of operators that is lent.
+#[no_mangle]
+pub extern "C" fn crms_run_with(
+    seg: &mut [u32],
+    regular: &[u8],
+    alternate: &[u8],
+    table: &[u8],
+    budget: u32,
+) -> u64
+    ensures { λ r. ⌜ r ≡ runNumber (ran (now (seg .entry)) (program (now (regular .entry)) (now (alternate .entry)) (now (table .entry))) budget .answer) ⌝ }
+    ensures { λ _. ⌜ now (seg .exit) ≡ ran (now (seg .entry)) (program (now (regular .entry)) (now (alternate .entry)) (now (table .entry))) budget .words ⌝ }
+{
+    run_number(run_with(seg, regular, alternate, table, budget))
 }
 
 // The tally has eight counts, so C is told no length of it.
@@ -71,11 +89,29 @@ pub extern "C" fn crms_replay(
     file: &[u8],
     tally: &mut [u32; 8],
 ) -> u64
-    ensures { λ r. ⌜ r ≡ replayNumber (replayed (now (seg .entry)) (now (regular .entry)) (now (alternate .entry)) (now (file .entry)) .answer) ⌝ }
-    ensures { λ _. ⌜ now (seg .exit) ≡ replayed (now (seg .entry)) (now (regular .entry)) (now (alternate .entry)) (now (file .entry)) .words ⌝ }
-    ensures { λ _. ⌜ now (tally .exit) ≡ replayed (now (seg .entry)) (now (regular .entry)) (now (alternate .entry)) (now (file .entry)) .counts ⌝ }
+    ensures { λ r. ⌜ r ≡ replayNumber (replayed (now (seg .entry)) (underManual (now (regular .entry)) (now (alternate .entry))) (now (file .entry)) .answer) ⌝ }
+    ensures { λ _. ⌜ now (seg .exit) ≡ replayed (now (seg .entry)) (underManual (now (regular .entry)) (now (alternate .entry))) (now (file .entry)) .words ⌝ }
+    ensures { λ _. ⌜ now (tally .exit) ≡ replayed (now (seg .entry)) (underManual (now (regular .entry)) (now (alternate .entry))) (now (file .entry)) .counts ⌝ }
 {
-    replay_number(replay_into(seg, regular, alternate, file, tally))
+    let table = manual_table();
+    replay_number(replay_into(seg, regular, alternate, &table, file, tally))
+}
+
+// A replay whose runs are under a table of operators that is lent.
+#[no_mangle]
+pub extern "C" fn crms_replay_with(
+    seg: &mut [u32],
+    regular: &[u8],
+    alternate: &[u8],
+    table: &[u8],
+    file: &[u8],
+    tally: &mut [u32; 8],
+) -> u64
+    ensures { λ r. ⌜ r ≡ replayNumber (replayed (now (seg .entry)) (program (now (regular .entry)) (now (alternate .entry)) (now (table .entry))) (now (file .entry)) .answer) ⌝ }
+    ensures { λ _. ⌜ now (seg .exit) ≡ replayed (now (seg .entry)) (program (now (regular .entry)) (now (alternate .entry)) (now (table .entry))) (now (file .entry)) .words ⌝ }
+    ensures { λ _. ⌜ now (tally .exit) ≡ replayed (now (seg .entry)) (program (now (regular .entry)) (now (alternate .entry)) (now (table .entry))) (now (file .entry)) .counts ⌝ }
+{
+    replay_number(replay_into(seg, regular, alternate, table, file, tally))
 }
 
 #[no_mangle]

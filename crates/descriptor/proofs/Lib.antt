@@ -3,3 +3,4 @@ pub mod Truth
 pub mod Scalars
 pub mod Inverse
 pub mod Arrays
+pub mod Computed

@@ -16,6 +16,7 @@ use Rattle.segment.specs.State.{trapWord, setLtop, setLbase, setTrap}
 use Rattle.segment.specs.Stack.{setPctr}
 use Rattle.manual.specs.Memory as memory
 use Rattle.manual.specs.Control as control
+use Rattle.manual.specs.Program.{underManual}
 use Rattle.manual.specs.Instructions.{planOf, planAt}
 use Rattle.effects.specs.Perform.{enter, leaveWithout}
 use Rattle.effects.specs.Seen.{seen}
@@ -76,7 +77,7 @@ abbrev ends : Ran → ℕ → ℕ → Ended
 ends answer word3 function = record { answer = answer; word3 = word3; function = function }
 
 abbrev ran : List ℕ → List ℕ → ℕ → Ended
-ran p s budget = let o = runOf p p s budget in ends (o .answer) (trapWord (o .words)) (currentFunction (o .words))
+ran p s budget = let o = runOf (underManual p p) s budget in ends (o .answer) (trapWord (o .words)) (currentFunction (o .words))
 
 pub record Due : Type 0 where
   -- STEP alone: (2,1) after NO_OPERATION, after the call and after the return, each counted

@@ -3,6 +3,7 @@
 use Prim.Native.Nat.{ℕ, zero, suc, _+_}
 use mathlib.Core.List.{List}
 use lib.ListN.{set}
+use Rattle.manual.specs.Program.{Program}
 use Rattle.effects.specs.declared.Stepped.{Stepped}
 use Rattle.effects.specs.declared.Stepped.the-variants.{Finished, Traced, Trapped}
 use Rattle.effects.specs.declared.Ran.{Ran}
@@ -22,12 +23,12 @@ following steps Finished s more = more s
 following steps (Traced class number) s more = runResult (R.Trapped (steps + 1)) s
 following steps (Trapped class number) s more = runResult (R.Trapped steps) s
 
-unfoldable pub stepsFrom : ℕ → ℕ → List ℕ → List ℕ → List ℕ → RunResult
-stepsFrom zero steps regular alternate s = runResult (R.Done steps) s
-stepsFrom (suc budget) steps regular alternate s =
-    let r = stepOf regular alternate s in
-    following steps (r .answer) (r .words) (λ t. stepsFrom budget (steps + 1) regular alternate t)
+unfoldable pub stepsFrom : ℕ → ℕ → Program → List ℕ → RunResult
+stepsFrom zero steps p s = runResult (R.Done steps) s
+stepsFrom (suc budget) steps p s =
+    let r = stepOf p s in
+    following steps (r .answer) (r .words) (λ t. stepsFrom budget (steps + 1) p t)
 
 -- "A run sets word 3 to zero first."
-unfoldable pub runOf : List ℕ → List ℕ → List ℕ → ℕ → RunResult
-runOf regular alternate s budget = stepsFrom budget 0 regular alternate (set s 3 0)
+unfoldable pub runOf : Program → List ℕ → ℕ → RunResult
+runOf p s budget = stepsFrom budget 0 p (set s 3 0)

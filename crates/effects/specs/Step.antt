@@ -12,7 +12,8 @@ use Rattle.procedure.specs.Directory.{selected, functionOf, headerOfFunction}
 use Rattle.segment.specs.State.{lbase, flags, fcnctrc, fcnrtrc, stepFlag, setTrap}
 use Rattle.segment.specs.Stack as stack
 use Rattle.segment.specs.Stack.{codeWordAt, functionNumber, pctr}
-use Rattle.manual.specs.Instructions.{Running, headerOf, planAt}
+use Rattle.manual.specs.Program.{Program}
+use Rattle.manual.specs.Instructions.{Running, running, headerOf, planAt}
 use Rattle.effects.specs.Seen.{seen}
 use Rattle.effects.specs.declared.Outcome.{Outcome}
 use Rattle.effects.specs.declared.Outcome.the-variants as O
@@ -74,13 +75,13 @@ settle regular alternate rtntrace c = settled regular alternate rtntrace (c .out
 
 unfoldable pub stepIn : Running → List ℕ → StepResult
 stepIn f s =
-    settle (f .regular) (f .alternate) (headerOf f .rtntrace)
+    settle (f .program .regular) (f .program .alternate) (headerOf f .rtntrace)
     (carry s (planAt f (seen s) (pctr (codeWordAt s (lbase s)))))
 
 -- The function of the current frame; one outside its bounds is (3,1).
-abbrev pub stepFound : List ℕ → List ℕ → List ℕ → Bool → Function → StepResult
-stepFound regular alternate s selector (F.At block) = stepIn (record { regular = regular; alternate = alternate; selector = selector; block = block }) s
-stepFound regular alternate s selector F.Absent = trapped s 3 1
+abbrev pub stepFound : Program → List ℕ → Bool → Function → StepResult
+stepFound p s selector (F.At block) = stepIn (running p selector block) s
+stepFound p s selector F.Absent = trapped s 3 1
 
-unfoldable pub stepOf : List ℕ → List ℕ → List ℕ → StepResult
-stepOf regular alternate s = stepFound regular alternate s (selectorOf s) (functionOf (selected (selectorOf s) regular alternate) (currentFunction s))
+unfoldable pub stepOf : Program → List ℕ → StepResult
+stepOf p s = stepFound p s (selectorOf s) (functionOf (selected (selectorOf s) (p .regular) (p .alternate)) (currentFunction s))

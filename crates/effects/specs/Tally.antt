@@ -9,6 +9,7 @@ use Rattle.procedure.specs.Headers.{codeOf}
 use Rattle.procedure.specs.Directory.{selected, functionOf}
 use Rattle.segment.specs.State.{lbase}
 use Rattle.segment.specs.Stack.{codeWordAt, pctr}
+use Rattle.manual.specs.Program.{Program}
 use Rattle.tally.specs.Counts.{counted}
 use Rattle.effects.specs.declared.Stepped.{Stepped}
 use Rattle.effects.specs.declared.Stepped.the-variants.{Finished, Traced, Trapped}
@@ -31,8 +32,8 @@ tallying (Traced class number) counts more rest = more
 tallying (Trapped class number) counts more rest = counts
 
 -- The counts after at most so many instructions.
-unfoldable pub talliedFrom : ℕ → List ℕ → List ℕ → List ℕ → List ℕ → List ℕ
-talliedFrom zero counts regular alternate s = counts
-talliedFrom (suc budget) counts regular alternate s =
-    let r = stepOf regular alternate s in
-    tallying (r .answer) counts (counted (firstByte regular alternate s) counts) (λ more. talliedFrom budget more regular alternate (r .words))
+unfoldable pub talliedFrom : ℕ → List ℕ → Program → List ℕ → List ℕ
+talliedFrom zero counts p s = counts
+talliedFrom (suc budget) counts p s =
+    let r = stepOf p s in
+    tallying (r .answer) counts (counted (firstByte (p .regular) (p .alternate) s) counts) (λ more. talliedFrom budget more p (r .words))

@@ -29,6 +29,7 @@ use Rattle.manual.specs.Loads.{load, referTo, testDefined, pushUndefined, getOr
 use Rattle.manual.specs.Scalars.{operands, monadic, dyadic, shape, ravel, reshape, catenate, indexGenerator, setOrigin, index}
 use Rattle.manual.specs.Memory.{assign, assignNoResult, assignIndexed, eat, interchange, noOperation}
 use Rattle.manual.specs.Control.{lineOrLeave, lineNumber, branchTo, go, goIf, return, branch, call, breakpoint, attention}
+use Rattle.manual.specs.Program.{underTable}
 use Rattle.manual.specs.Instructions.{Running, headerOf, codeIn, resolve, planOf, planDecoded, planAt}
 use Rattle.effects.specs.Seen.{seen}
 use Rattle.effects.specs.Sound.{Sound}
@@ -102,7 +103,7 @@ module _ (s : List ℕ) (g : Sound s) (f : Running) (runs : HasFrame s (variable
       ∙ sym (plan-by f (seenOf (length s - sbase s) (view s)) i next)
 
   decoded-theorem : (d : Decoded) → planDecoded f (seen s) d ≡ planDecoded f (seenOf (length s - sbase s) (view s)) d
-  decoded-theorem (D.Instruction i next) = plan-theorem i (next .0)
+  decoded-theorem (D.Instruction i next) = plan-theorem (underTable (f .program .table) i) (next .0)
   decoded-theorem (D.Trap class number) = refl
 
   planAt-theorem : (place : ℕ) → planAt f (seen s) place ≡ planAt f (seenOf (length s - sbase s) (view s)) place

@@ -17,6 +17,7 @@ use Rattle.manual.specs.Control.{frameWord}
 use Rattle.acceptance.specs.Refusal.{lengthTest}
 use Rattle.fresh_segment.specs.LayOut.{Layout, chosen, localsOf, functionTest, baseOf, partsTest, layOutRefusal, fresh, laidOut}
 use Rattle.fresh_segment.proofs.Passed.{passed as passes}
+use Rattle.operation_parts.proofs.Lent.{segments, then-others}
 use Rattle.operations.specs.declared.Answer.{Answer}
 use Rattle.operations.specs.declared.Answer.the-variants.{Done, Refused}
 use Rattle.operations.specs.Answers.{doneOrRefused}
@@ -72,21 +73,17 @@ module _ (s regular alternate : List ℕ) (l : Layout) where
   done e = (simp e, simp e)
 
   -- tests 10, 11 and 12
-  abbrev pub segments : ℕ
-  segments = cond (lengthTest s) (procedureRefusal regular alternate) 10
+  abbrev pub lent : ℕ
+  lent = segments s regular alternate
 
-  by-segments : layOutRefusal s regular alternate l ≡ cond (eqb segments 0) (cond (functionTest regular alternate l) (cond (partsTest s regular alternate l) 0 19) 20) segments
+  by-segments : layOutRefusal s regular alternate l ≡ cond (eqb lent 0) (cond (functionTest regular alternate l) (cond (partsTest s regular alternate l) 0 19) 20) lent
   unfolding layOutRefusal
-  by-segments = by-length (lengthTest s) (procedureRefusal regular alternate) (cond (functionTest regular alternate l) (cond (partsTest s regular alternate l) 0 19) 20)
-    where
-      by-length : (b : Bool) (n rest : ℕ) → cond b (cond (eqb n 0) rest n) 10 ≡ cond (eqb (cond b n 10) 0) rest (cond b n 10)
-      by-length true n rest = refl
-      by-length false n rest = refl
+  by-segments = then-others (lengthTest s) (procedureRefusal regular alternate) (cond (functionTest regular alternate l) (cond (partsTest s regular alternate l) 0 19) 20)
 
-  pub segments-refused : (n : ℕ) → n ≡ segments → (n ≡ 0 → ⊥) → Answers (Refused n) s
+  pub segments-refused : (n : ℕ) → n ≡ lent → (n ≡ 0 → ⊥) → Answers (Refused n) s
   segments-refused n same some = refused n some (by-segments ∙ simp (← same, ne-eqb n 0 some))
 
-  module _ (passed : 0 ≡ segments) where
+  module _ (passed : 0 ≡ lent) where
     by-parts : (f : Function) → f ≡ bottom regular alternate l → layOutRefusal s regular alternate l ≡ cond (niladic f) (cond (partsTest s regular alternate l) 0 19) 20
     by-parts f same = by-segments ∙ simp (← passed, by-function regular alternate l f same)
 

@@ -13,9 +13,10 @@ use Rattle.operator.specs.declared.Dyadic.{Dyadic}
 use Rattle.operator.specs.declared.Monadic.{Monadic}
 use Rattle.operator.specs.declared.Operator.{Operator}
 use Rattle.operator.specs.declared.Operator.the-variants as O
-use Rattle.operator.specs.declared.Suboperation.{Suboperation}
 use Rattle.operator.specs.declared.Suboperation.the-variants as U
 use Rattle.operator.specs.Table.{operatorOf}
+use Rattle.operator.specs.Lent.{operatorUnder}
+use Rattle.operator.proofs.Numbers.{renames}
 use Rattle.procedure.specs.declared.header.Header.{Header}
 use Rattle.procedure.specs.Bytes.{byteAt}
 use Rattle.instruction.specs.declared.Decoded.{Decoded}
@@ -48,7 +49,7 @@ use Rattle.manual.specs.Effects.{word, Plan}
 use Rattle.manual.specs.Loads as loads
 use Rattle.manual.specs.Scalars as scalars
 use Rattle.manual.specs.Control as control
-use Rattle.manual.specs.Instructions.{Running, headerOf, resolve, memoryPlan, stackPlan, jumpPlan, planOf, planDecoded}
+use Rattle.manual.specs.Instructions.{Running, headerOf, resolve, scalarPlan, memoryPlan, stackPlan, jumpPlan, planOf, planDecoded}
 use Rattle.effects.specs.Seen.{seen}
 use Rattle.fast_path.specs.Answers.{DoneOrKept}
 use Rattle.fast_path.specs.Naming.{Names, assignment, assignEntry}
@@ -81,15 +82,17 @@ abbrev after : ℕ → Cursor
 after place = cursorAt (place + 1)
 
 module _ (s : List ℕ) (f : Running) (place : ℕ) {r : Bool} {t : List ℕ} where
-  -- GENSCALAR
-  module _ {sub : Suboperation} {o : Operator} {next : ℕ} (defined : sub ≡ U.Defined o) (behind : next ≡ (place + fixedBytes (scalarLength sub)) % 2 ^ 32) where
-    pub dyadic-by : {op : Dyadic} → o ≡ O.Dyadic op → DoneOrKept s (scalars.dyadic (seen s) next op) r t → Planned s f r t (scalarAt sub (after place))
+  -- GENSCALAR: what the table names for the manual's operator is what the number means under it.
+  module _ {table : List ℕ} (n : ℕ) {o : Operator} {next : ℕ} (lent : f .program .table ≡ table) (means : operatorUnder table n ≡ U.Defined o) (behind : next ≡ (place + fixedBytes (scalarLength (operatorOf n))) % 2 ^ 32) where
+    scalar-by : {p : Plan} → p ≡ scalarPlan (seen s) next o → DoneOrKept s p r t → Planned s f r t (scalarAt (operatorOf n) (after place))
     unfolding planOf
-    dyadic-by dyadic answer = went-as (rw (behind, defined, dyadic)) answer
+    scalar-by same answer = let m = renames table n means in went-as (rw (same, behind, m .defined, lent, m .renamed)) answer
 
-    pub monadic-by : {op : Monadic} → o ≡ O.Monadic op → DoneOrKept s (scalars.monadic (seen s) next op) r t → Planned s f r t (scalarAt sub (after place))
-    unfolding planOf
-    monadic-by monadic answer = went-as (rw (behind, defined, monadic)) answer
+    pub dyadic-by : {op : Dyadic} → o ≡ O.Dyadic op → DoneOrKept s (scalars.dyadic (seen s) next op) r t → Planned s f r t (scalarAt (operatorOf n) (after place))
+    dyadic-by dyadic answer = scalar-by (rw dyadic) answer
+
+    pub monadic-by : {op : Monadic} → o ≡ O.Monadic op → DoneOrKept s (scalars.monadic (seen s) next op) r t → Planned s f r t (scalarAt (operatorOf n) (after place))
+    monadic-by monadic answer = scalar-by (rw monadic) answer
 
   module _ (code : List ℕ) where
     -- SHORTCONST

@@ -45,6 +45,12 @@ Any f = Unit {0}
 abbrev pub WithHeader : Header → Running → Type 0
 WithHeader h f = headerOf f ≡ h
 
+abbrev pub WithTable : List ℕ → Running → Type 0
+WithTable table f = f .program .table ≡ table
+
+abbrev pub Under : Header → List ℕ → Running → Type 0
+Under h table f = WithHeader h f × WithTable table f
+
 abbrev pub WithVariables : ℕ → Running → Type 0
 WithVariables n f = variablesOf (headerOf f) ≡ n
 

@@ -10,7 +10,7 @@ ghost use Rattle.instruction.specs.Lengths.{etcLength, lengthIn};
 ghost use Rattle.instruction.specs.Decoding as decoding;
 ghost use Rattle.manual.specs.Loads as loads;
 ghost use Rattle.manual.specs.Instructions as plan;
-ghost use Rattle.fast_path.specs.Answers.{CarriesOutIf, CarriesOutIn, Any, WithHeader, WithVariables, past, nextAfter};
+ghost use Rattle.fast_path.specs.Answers.{CarriesOutIf, CarriesOutIn, Any, WithHeader, WithTable, Under, WithVariables, past, nextAfter};
 ghost use Rattle.fast_path.specs.Naming.{assignEntry};
 
 mod doing;
@@ -44,14 +44,21 @@ use naming::variable;
 use operands::variables::variables;
 use operator::Operator;
 use operator::Suboperation;
-use operator::operator_of;
+use operator::lent::operator_under;
 use procedure::header::Header;
 use segment::word;
 
 // The instruction at a place of the code of a function with that header.
-pub fn try_fast(seg: &mut [u32], h: Header, code: &[u8], place: CodeAddress) -> bool
+pub fn try_fast(
+    seg: &mut [u32],
+    h: Header,
+    table: &[u8; 16],
+    code: &[u8],
+    place: CodeAddress,
+) -> bool
     requires { ⌜ length (now seg) ≤ 16384 ⌝ }
-    ensures { λ r. ⌜ CarriesOutIn (now (seg .entry)) r (now (seg .exit)) (WithHeader h) (decoding.instructionAt (now (code .entry)) (place .0)) ⌝ }
+    ensures { λ r. ⌜ CarriesOutIn (now (seg .entry)) r (now (seg .exit)) (Under h (now (table .entry)))
+        (decoding.instructionAt (now (code .entry)) (place .0)) ⌝ }
 {
     let at = place.number() as usize;
     if at < 8 {
@@ -69,7 +76,7 @@ pub fn try_fast(seg: &mut [u32], h: Header, code: &[u8], place: CodeAddress) -> 
             after(place, Family::ShortLocal, first),
         ),
         Family::ShortConst => short_constant(seg, code, first, place),
-        Family::GenScalar => scalar_operation(seg, first, place),
+        Family::GenScalar => scalar_operation(seg, table, first, place),
         Family::MemRef => memory(seg, variables(h), code, memory_of(first % 32), place),
         Family::Etc => etc(seg, h, code, first, place),
         Family::LongLocal => load_long(seg, variables(h), code, first, Family::LongLocal, place),
@@ -136,10 +143,12 @@ fn short_constant(seg: &mut [u32], code: &[u8], first: u8, place: CodeAddress) -
     push(seg, w, after(place, Family::ShortConst, first))
 }
 
-fn scalar_operation(seg: &mut [u32], first: u8, place: CodeAddress) -> bool
-    ensures { λ r. ⌜ CarriesOutIn (now (seg .entry)) r (now (seg .exit)) Any (decoding.scalarAt (operatorOf (first % 2 ^ 5)) (past place)) ⌝ }
+// The operator is the one that the table names.
+fn scalar_operation(seg: &mut [u32], table: &[u8; 16], first: u8, place: CodeAddress) -> bool
+    ensures { λ r. ⌜ CarriesOutIn (now (seg .entry)) r (now (seg .exit)) (WithTable (now (table .entry)))
+        (decoding.scalarAt (operatorOf (first % 2 ^ 5)) (past place)) ⌝ }
 {
-    let Suboperation::Defined(operator) = operator_of(first % 32) else {
+    let Suboperation::Defined(operator) = operator_under(table, first % 32) else {
         return false;
     };
     let next = after(place, Family::GenScalar, first);

@@ -16,7 +16,7 @@ use Rattle.instruction.specs.declared.variable.FetchedAddress.the-varian
 use Rattle.instruction.specs.Reading.{fetchByte, withByte}
 use Rattle.instruction.specs.Variables.{longLocal, longGlobal, addressIn}
 use Rattle.instruction.specs.Lengths.{lengthIn, fixedBytes}
-use Rattle.instruction.proofs.Computed.{Throughout, throughout}
+use Rattle.descriptor.proofs.Computed.{Throughout, throughout}
 use Rattle.instruction.proofs.Cases.{byte-cases}
 
 -- ---- by number

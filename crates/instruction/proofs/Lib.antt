@@ -1,5 +1,4 @@
 -- Laws that the proofs of this crate share, and those that others cite.
-pub mod Computed
 pub mod Ranges
 pub mod Cases
 pub mod Lengths

@@ -7,7 +7,7 @@ use Rattle.operator.specs.Table.{lookup}
 use Rattle.instruction.specs.declared.family.Family.{Family}
 use Rattle.instruction.specs.declared.family.Family.the-variants.{ShortLocal, ShortConst, GenScalar, MemRef, Etc, LongLocal, LongGlobal, Index, Unassigned}
 use Rattle.instruction.specs.Families.{familyIn, familyOf, orderOf}
-use Rattle.instruction.proofs.Computed.{Throughout, throughout}
+use Rattle.descriptor.proofs.Computed.{Throughout, throughout}
 
 -- The family in that place of the order.
 abbrev inOrder : ℕ → Family

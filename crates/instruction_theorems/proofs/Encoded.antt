@@ -9,6 +9,7 @@ use lib.Dec.{leb}
 use borrow.Author.Tests.{leb-true, le-ltb}
 use Rattle.descriptor.specs.declared.address.CodeAddress.{CodeAddress}
 use Rattle.descriptor.specs.Kinds.{bit}
+use Rattle.operator.specs.Table.{operatorNumber}
 use Rattle.instruction.specs.declared.Address.{Address}
 use Rattle.instruction.specs.declared.Address.the-variants.{Local, Global}
 use Rattle.instruction.specs.declared.MemoryOperation.{MemoryOperation}
@@ -23,7 +24,7 @@ use Rattle.instruction.specs.Families.{familyOf}
 use Rattle.instruction.specs.Reading.{boundary, codeAddress, cursorAt, fetchWords}
 use Rattle.instruction.specs.Variables.{addressIn, addressAt}
 use Rattle.instruction.specs.Decoding.{decodedTo, loadAt, shortConstantAt, memoryAt, constantScalarAt, constantVectorAt, jumpAt, callAt, familyAt, instructionAt}
-use Rattle.instruction_theorems.specs.Encoder.{operatorNumber, memoryNumber, stackNumber, arrayNumber, controlNumber, jumpNumber, halfBytes, wordBytes, wordsBytes, localBytes, addressBytes, padding, encode, AddressFits, MemoryFits, Encodable}
+use Rattle.instruction_theorems.specs.Encoder.{memoryNumber, stackNumber, arrayNumber, controlNumber, jumpNumber, halfBytes, wordBytes, wordsBytes, localBytes, addressBytes, padding, encode, AddressFits, MemoryFits, Encodable}
 use Rattle.instruction_theorems.specs.Theorems.{Stand}
 use Rattle.instruction_theorems.proofs.Stands.{stand-length, byte-here, first-here, half-here, word-here}
 use Rattle.instruction.proofs.Ranges.{is-short-local, is-short-const, is-long-local, is-long-global}

@@ -16,7 +16,7 @@ use Rattle.instruction.specs.Variables.{addressIn, addressAt}
 use Rattle.instruction.specs.Tables.{memoryOf, etcOf}
 use Rattle.instruction.specs.Lengths.{lengthBy}
 use Rattle.instruction.specs.Decoding.{memoryAt, constantVectorAt, etcAt, familyAt, instructionAt}
-use Rattle.instruction.proofs.Computed.{every, everywhere}
+use Rattle.descriptor.proofs.Computed.{every, everywhere}
 use Rattle.instruction.proofs.Ranges.{is-short-local, is-short-const, is-gen-scalar, is-mem-ref, is-etc, is-long-local, is-long-global, is-index, is-unassigned}
 use Rattle.instruction_theorems.specs.FirstBytes.{holding, Sorted, Open, firstEnd, allBytes, TwoLengths}
 

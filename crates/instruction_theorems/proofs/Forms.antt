@@ -8,6 +8,7 @@ use native.Mathlib.Omega.{arith}
 use lib.Dec.{eqb}
 use borrow.Author.Tests.{eq-eqb, ne-eqb, le-leb}
 use Rattle.descriptor.specs.Kinds.{bit}
+use Rattle.operator.specs.Table.{operatorNumber}
 use Rattle.operator.specs.declared.Monadic.the-variants as M
 use Rattle.operator.specs.declared.Dyadic.the-variants as D
 use Rattle.operator.specs.declared.Operator.{Operator}
@@ -29,7 +30,7 @@ use Rattle.instruction.specs.declared.cursor.Cursor.{Cursor}
 use Rattle.instruction.specs.Families.{familyIn, familyOf}
 use Rattle.instruction.specs.Tables.{memoryOf, etcOf}
 use Rattle.instruction.specs.Decoding.{decodedTo, memoryAt, constantScalarAt, constantVectorAt, jumpAt, callAt, etcAt, familyAt}
-use Rattle.instruction_theorems.specs.Encoder.{operatorNumber, memoryNumber, stackNumber, arrayNumber, controlNumber, jumpNumber, MemoryFits}
+use Rattle.instruction_theorems.specs.Encoder.{memoryNumber, stackNumber, arrayNumber, controlNumber, jumpNumber, MemoryFits}
 use Rattle.instruction.proofs.Ranges.{is-mem-ref, is-index}
 
 module _ (code : List ℕ) (c : Cursor) where

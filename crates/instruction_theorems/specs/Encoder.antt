@@ -8,12 +8,7 @@ use mathlib.Core.List.{List, [], _∷_, _++_}
 use lib.ListN.{length, replicate}
 use lib.Dec.{leb}
 use Rattle.descriptor.specs.Kinds.{bit}
-use Rattle.operator.specs.declared.Monadic.{Monadic}
-use Rattle.operator.specs.declared.Monadic.the-variants as M
-use Rattle.operator.specs.declared.Dyadic.{Dyadic}
-use Rattle.operator.specs.declared.Dyadic.the-variants as D
-use Rattle.operator.specs.declared.Operator.{Operator}
-use Rattle.operator.specs.declared.Operator.the-variants as O
+use Rattle.operator.specs.Table.{operatorNumber}
 use Rattle.instruction.specs.declared.Address.{Address}
 use Rattle.instruction.specs.declared.Address.the-variants.{Local, Global}
 use Rattle.instruction.specs.declared.MemoryOperation.{MemoryOperation}
@@ -29,30 +24,6 @@ use Rattle.instruction.specs.declared.Jump.the-variants.{Go, GoTrue, GoFalse}
 use Rattle.instruction.specs.declared.Instruction.{Instruction}
 use Rattle.instruction.specs.declared.Instruction.the-variants as I
 use Rattle.instruction.specs.Reading.{boundary, codeAddress}
-
-abbrev pub monadicNumber : Monadic → ℕ
-monadicNumber M.Identity = 0
-monadicNumber M.Negative = 1
-monadicNumber M.Floor = 2
-monadicNumber M.Ceiling = 3
-monadicNumber M.Magnitude = 4
-monadicNumber M.Not = 5
-monadicNumber M.TestNumber = 6
-monadicNumber M.Convert = 7
-
-abbrev pub dyadicNumber : Dyadic → ℕ
-dyadicNumber D.Sum = 8
-dyadicNumber D.Difference = 9
-dyadicNumber D.Product = 10
-dyadicNumber D.Quotient = 11
-dyadicNumber D.LogicalProduct = 12
-dyadicNumber D.LogicalSum = 13
-dyadicNumber D.Less = 14
-dyadicNumber D.Equal = 15
-
-abbrev pub operatorNumber : Operator → ℕ
-operatorNumber (O.Monadic o) = monadicNumber o
-operatorNumber (O.Dyadic o) = dyadicNumber o
 
 abbrev pub memoryNumber : MemoryOperation → ℕ
 memoryNumber (AssignIndexed rank) = rank

@@ -67,7 +67,7 @@ module _ {regular alternate : List ℕ} {m : Machine Cell} (g : Legal regular al
   unfolding seenOf
   called next arguments selector number c =
       rw (sym (runs .regularSegment), sym (runs .alternateSegment))
-      (can-enter (number % 2 ^ 11) (omega arith) (f .regular) (f .alternate) selector (jump (next % 2 ^ 16) m) (c .found)
+      (can-enter (number % 2 ^ 11) (omega arith) (f .program .regular) (f .program .alternate) selector (jump (next % 2 ^ 16) m) (c .found)
       (omega (arith, c .wanted, c .given)))
 
   pub plan-meets : (i : Instruction) (next : ℕ) (es : List Effect) → planOf f seen i next ≡ gives es → AllMeet regular alternate es m

@@ -15,8 +15,8 @@ use Rattle.legality.specs.Legal.{functionWord, Legal}
 
 -- The function that is run is that of the current frame, which has as many variables as its header says.
 pub record RunsIn (regular alternate : List ℕ) (f : Running) (m : Machine Cell) : Type 0 where
-  pub regularSegment : f .regular ≡ regular
-  pub alternateSegment : f .alternate ≡ alternate
+  pub regularSegment : f .program .regular ≡ regular
+  pub alternateSegment : f .program .alternate ≡ alternate
   pub current : Frame Cell
   pub older : List (Frame Cell)
   pub frames : m .frames ≡ current ∷ older

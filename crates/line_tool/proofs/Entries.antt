@@ -145,10 +145,11 @@ faults =
     (line F.Odd
     (line F.TooManyBytes
     (line F.LongFile
+    (line F.LongTable
     (line F.TooManyWords
     (line F.PastEnd
     (line F.NoBar
-    (line F.LongLine [])))))))))))))
+    (line F.LongLine []))))))))))))))
 
 fault-line : (fault : Fault) → textLine (faultLine fault) faults ≡ bytes (faultText fault)
 unfolding faultText faultLine
@@ -162,6 +163,7 @@ fault-line F.TooLong = refl
 fault-line F.Odd = refl
 fault-line F.TooManyBytes = refl
 fault-line F.LongFile = refl
+fault-line F.LongTable = refl
 fault-line F.TooManyWords = refl
 fault-line F.PastEnd = refl
 fault-line F.NoBar = refl

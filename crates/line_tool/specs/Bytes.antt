@@ -1,4 +1,5 @@
--- The bytes of a procedure segment or of a file of imports as a line writes them: two HEX digits a byte, a dash for none.
+-- The bytes of a procedure segment, of a file of imports or of a table of operators as a line writes them: two HEX digits a byte, a
+-- dash for none.
 -- A reader must believe: bytes are read so. Assumes nothing.
 use Prim.Native.Nat.{ℕ, _+_, _*_, _/_, _%_}
 use mathlib.Core.Path.{_≡_, refl}

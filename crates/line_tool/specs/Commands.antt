@@ -6,7 +6,7 @@ use mathlib.Core.List.{List, [], _∷_}
 use lib.Dec.{eqb}
 use Rattle.line_tool.specs.Text.{bytes}
 use Rattle.line_tool.specs.declared.command.Command.{Command}
-use Rattle.line_tool.specs.declared.command.Command.the-variants.{Seg, Word, Words, Reg, Alt, File, Layout, Run, Load, Look, Sheet, Replay, Dump, Hash, Tally, Explain, Help, Unknown}
+use Rattle.line_tool.specs.declared.command.Command.the-variants.{Seg, Word, Words, Reg, Alt, File, Table, Layout, Run, Load, Look, Sheet, Replay, Dump, Hash, Tally, Explain, Help, Unknown}
 
 -- Two texts are the same.
 unfoldable pub is : List ℕ → List ℕ → Bool
@@ -36,16 +36,22 @@ operationOf word =
     (cond (is word (bytes "replay")) Replay
     (questionOf word))))))
 
--- First those that set what the operations are lent.
+-- Those that set bytes which the operations are lent.
+unfoldable pub bytesOf : List ℕ → Command
+bytesOf word =
+    cond (is word (bytes "reg")) Reg
+    (cond (is word (bytes "alt")) Alt
+    (cond (is word (bytes "file")) File
+    (cond (is word (bytes "table")) Table
+    (operationOf word))))
+
+-- First those that set words.
 unfoldable pub commandOf : List ℕ → Command
 commandOf word =
     cond (is word (bytes "seg")) Seg
     (cond (is word (bytes "word")) Word
     (cond (is word (bytes "words")) Words
-    (cond (is word (bytes "reg")) Reg
-    (cond (is word (bytes "alt")) Alt
-    (cond (is word (bytes "file")) File
-    (operationOf word))))))
+    (bytesOf word)))
 
 same : is (bytes "run") (bytes "run") ≡ true
 unfolding is
@@ -67,10 +73,14 @@ longer : commandOf (bytes "words") ≡ Words
 unfolding commandOf is
 longer = refl
 
+lent : commandOf (bytes "table") ≡ Table
+unfolding commandOf bytesOf is
+lent = refl
+
 last : commandOf (bytes "help") ≡ Help
-unfolding commandOf operationOf questionOf is
+unfolding commandOf bytesOf operationOf questionOf is
 last = refl
 
 other : commandOf (bytes "Seg") ≡ Unknown
-unfolding commandOf operationOf questionOf is
+unfolding commandOf bytesOf operationOf questionOf is
 other = refl

@@ -38,6 +38,7 @@ statuses =
     ∷ (23, "rank above 15, a length above 65535, a count that is not the lengths' product, or a word that is no scalar")
     ∷ (24, "no free block is long enough")
     ∷ (25, "no record stands at that place of the file")
+    ∷ (26, "the table of operators is not sixteen bytes, 0 to 15, each of them once")
     ∷ []
 
 unfoldable pub statusWords : ℕ → String
@@ -114,6 +115,10 @@ undefined-global = refl
 no-record : lastText (Status 25) ≡ bytes "status 25: no record stands at that place of the file"
 unfolding lastText statusText statusWords decimal
 no-record = refl
+
+wrong-table : lastText (Status 26) ≡ bytes "status 26: the table of operators is not sixteen bytes, 0 to 15, each of them once"
+unfolding lastText statusText statusWords decimal
+wrong-table = refl
 
 no-status : lastText (Status 1) ≡ bytes "status 1: no such status"
 unfolding lastText statusText statusWords decimal

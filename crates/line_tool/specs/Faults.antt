@@ -21,6 +21,7 @@ faultText F.TooLong = "a word of more than 8 digits"
 faultText F.Odd = "an odd number of digits, two are a byte"
 faultText F.TooManyBytes = "more than 40000 bytes"
 faultText F.LongFile = "more than 100000 bytes"
+faultText F.LongTable = "more than 1000 bytes"
 faultText F.TooManyWords = "more than 40000 words"
 faultText F.PastEnd = "past the end of the segment"
 faultText F.NoBar = "no bar | where the lengths end"
@@ -38,10 +39,11 @@ faultLine F.TooLong = 6
 faultLine F.Odd = 7
 faultLine F.TooManyBytes = 8
 faultLine F.LongFile = 9
-faultLine F.TooManyWords = 10
-faultLine F.PastEnd = 11
-faultLine F.NoBar = 12
-faultLine F.LongLine = 13
+faultLine F.LongTable = 10
+faultLine F.TooManyWords = 11
+faultLine F.PastEnd = 12
+faultLine F.NoBar = 13
+faultLine F.LongLine = 14
 
 -- A token of an error: its first 40 bytes.
 unfoldable pub shown : List ℕ → List ℕ

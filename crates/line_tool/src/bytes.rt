@@ -1,4 +1,4 @@
-// The bytes of a procedure segment or of a file of imports: two HEX digits a byte, - for none.
+// The bytes of a procedure segment, of a file of imports or of a table of operators: two HEX digits a byte, - for none.
 ghost use mathlib.Core.Path.{_≡_};
 ghost use lib.Seq.{sets};
 ghost use Rattle.line_tool.specs.Bytes as meaning;

@@ -9,6 +9,7 @@ pub enum Command {
     Reg,
     Alt,
     File,
+    Table,
     Layout,
     Run,
     Load,
@@ -35,6 +36,13 @@ pub fn command_of(word: &[u8]) -> Command
     if is(word, b"words") {
         return Command::Words;
     }
+    bytes_of(word)
+}
+
+// The commands that set bytes.
+fn bytes_of(word: &[u8]) -> Command
+    ensures { λ r. ⌜ r ≡ meaning.bytesOf (now (word .entry)) ⌝ }
+{
     if is(word, b"reg") {
         return Command::Reg;
     }
@@ -43,6 +51,9 @@ pub fn command_of(word: &[u8]) -> Command
     }
     if is(word, b"file") {
         return Command::File;
+    }
+    if is(word, b"table") {
+        return Command::Table;
     }
     operation_of(word)
 }

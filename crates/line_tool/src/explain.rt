@@ -46,7 +46,7 @@ fn put_trap(out: &mut [u8], at: usize, class: u8, n: u8) -> usize
 }
 
 // The statuses in order, as their texts stand below.
-const STATUSES: [u16; 19] = [
+const STATUSES: [u16; 20] = [
     0,
     2,
     3,
@@ -66,6 +66,7 @@ const STATUSES: [u16; 19] = [
     23,
     24,
     25,
+    26,
 ];
 
 fn put_status_words(out: &mut [u8], at: usize, n: u8) -> usize
@@ -90,6 +91,7 @@ the global is undefined
 rank above 15, a length above 65535, a count that is not the lengths' product, or a word that is no scalar
 no free block is long enough
 no record stands at that place of the file
+the table of operators is not sixteen bytes, 0 to 15, each of them once
 no such status
 ";
     put_line(out, at, texts, place_of(n as u16, &STATUSES))

@@ -17,6 +17,7 @@ pub enum Fault {
     Odd,
     TooManyBytes,
     LongFile,
+    LongTable,
     TooManyWords,
     PastEnd,
     NoBar,
@@ -36,6 +37,7 @@ a word of more than 8 digits
 an odd number of digits, two are a byte
 more than 40000 bytes
 more than 100000 bytes
+more than 1000 bytes
 more than 40000 words
 past the end of the segment
 no bar | where the lengths end
@@ -59,10 +61,11 @@ fn line_of(fault: Fault) -> usize
         Fault::Odd => 7,
         Fault::TooManyBytes => 8,
         Fault::LongFile => 9,
-        Fault::TooManyWords => 10,
-        Fault::PastEnd => 11,
-        Fault::NoBar => 12,
-        Fault::LongLine => 13,
+        Fault::LongTable => 10,
+        Fault::TooManyWords => 11,
+        Fault::PastEnd => 12,
+        Fault::NoBar => 13,
+        Fault::LongLine => 14,
     }
 }
 

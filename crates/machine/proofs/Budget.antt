@@ -4,6 +4,7 @@ use native.Mathlib.Omega.{arith}
 use mathlib.Core.Path.{_≡_, refl}
 use mathlib.Core.List.{List}
 use Rattle.segment.specs.State.{setTrap}
+use Rattle.manual.specs.Program.{Program}
 use Rattle.effects.specs.declared.Stepped.{Stepped}
 use Rattle.effects.specs.declared.Stepped.the-variants as answers
 use Rattle.effects.specs.declared.Ran.{Ran}
@@ -15,11 +16,11 @@ use Rattle.tally.specs.Counts.{counted}
 use Rattle.machine.specs.Resuming.{Whole, ending, whole, resumed, Advanced}
 
 -- a part of a run by what it answers
-module _ (regular alternate : List ℕ) (budget n : ℕ) (after t : List ℕ) {r : Ran} {o : Whole} where
-  pub goes-on : r ≡ Done n → resumed r budget regular alternate after t ≡ o → whole (budget - n) n regular alternate after t ≡ o
+module _ (p : Program) (budget n : ℕ) (after t : List ℕ) {r : Ran} {o : Whole} where
+  pub goes-on : r ≡ Done n → resumed r budget p after t ≡ o → whole (budget - n) n p after t ≡ o
   goes-on is told = rw is at told
 
-  pub stops : r ≡ Trapped n → resumed r budget regular alternate after t ≡ o → ending (Trapped n) after t ≡ o
+  pub stops : r ≡ Trapped n → resumed r budget p after t ≡ o → ending (Trapped n) after t ≡ o
   stops is told = rw is at told
 
 pub advances : (start budget n : ℕ) {r : Ran} → r ≡ Done n → Advanced start budget r → (start < n) × (n ≤ budget)
@@ -42,32 +43,32 @@ left-later {start} {n} from same is differs =
     let later : (n ≡ start → ⊥) = λ e. differs (rw is (same e)) in
     omega arith
 
-module _ (regular alternate : List ℕ) (budget n : ℕ) (counts s : List ℕ) where
-  pub run-ends : budget ≤ n → ending (Done n) counts s ≡ whole (budget - n) n regular alternate counts s
+module _ (p : Program) (budget n : ℕ) (counts s : List ℕ) where
+  pub run-ends : budget ≤ n → ending (Done n) counts s ≡ whole (budget - n) n p counts s
   unfolding stepsFrom talliedFrom
   run-ends done =
       let none : budget - n ≡ 0 = omega arith in
       rw none
 
   -- by what the next step answers
-  module _ (r : Stepped) (t : List ℕ) (more : n < budget) (is : stepResult r t ≡ stepOf regular alternate s) where
+  module _ (r : Stepped) (t : List ℕ) (more : n < budget) (is : stepResult r t ≡ stepOf p s) where
     one : budget - n ≡ suc (budget - (n + 1))
     one = omega arith
 
-    pub run-trapped : (class number : ℕ) → r ≡ answers.Trapped class number → ending (Trapped n) counts t ≡ whole (budget - n) n regular alternate counts s
+    pub run-trapped : (class number : ℕ) → r ≡ answers.Trapped class number → ending (Trapped n) counts t ≡ whole (budget - n) n p counts s
     unfolding stepsFrom talliedFrom
     run-trapped class number trapped = rw (one, ← is, trapped)
 
     -- its instruction counted
-    module _ {first : ℕ} {after : List ℕ} (read : first ≡ firstByte regular alternate s) (up : after ≡ counted first counts) where
-      pub run-goes : r ≡ answers.Finished → whole (budget - (n + 1)) (n + 1) regular alternate after t ≡ whole (budget - n) n regular alternate counts s
+    module _ {first : ℕ} {after : List ℕ} (read : first ≡ firstByte (p .regular) (p .alternate) s) (up : after ≡ counted first counts) where
+      pub run-goes : r ≡ answers.Finished → whole (budget - (n + 1)) (n + 1) p after t ≡ whole (budget - n) n p counts s
       unfolding stepsFrom talliedFrom
       run-goes done = rw (up, read, one, ← is, done)
 
-      pub run-traced : (class number : ℕ) → r ≡ answers.Traced class number → ending (Trapped (n + 1)) after t ≡ whole (budget - n) n regular alternate counts s
+      pub run-traced : (class number : ℕ) → r ≡ answers.Traced class number → ending (Trapped (n + 1)) after t ≡ whole (budget - n) n p counts s
       unfolding stepsFrom talliedFrom
       run-traced class number traced = rw (up, read, one, ← is, traced)
 
   -- a part of a run in a function that is not there
-  pub run-absent : {r : Ran} {t : List ℕ} → n < budget → trapped s 3 1 ≡ stepOf regular alternate s → r ≡ Trapped n → t ≡ setTrap s 3 1 → (resumed r budget regular alternate counts t ≡ whole (budget - n) n regular alternate counts s) × Advanced n budget r
+  pub run-absent : {r : Ran} {t : List ℕ} → n < budget → trapped s 3 1 ≡ stepOf p s → r ≡ Trapped n → t ≡ setTrap s 3 1 → (resumed r budget p counts t ≡ whole (budget - n) n p counts s) × Advanced n budget r
   run-absent more absent is words = rw (is, words) (run-trapped (answers.Trapped 3 1) (setTrap s 3 1) more absent 3 1 refl, tt)

@@ -18,6 +18,7 @@ use Rattle.instruction.specs.Reading.{fetchByte}
 use Rattle.instruction.specs.Decoding.{instructionAt}
 use Rattle.segment.specs.State.{lbase, flags, stepFlag, setTrap}
 use Rattle.segment.specs.Stack.{codeWordAt, alternateBit as bitP, functionNumber, pctr}
+use Rattle.manual.specs.Program.{Program}
 use Rattle.manual.specs.Instructions.{Running, running, headerOf, codeIn, planAt}
 use Rattle.effects.specs.declared.Outcome.{Outcome}
 use Rattle.effects.specs.Carried.{CarriesOut}
@@ -56,6 +57,10 @@ module _ (w number : ℕ) where
     number-of true is = omega arith
     number-of false is = omega arith
 
+-- the segment that P selects
+abbrev selectedBy : Bool → Program → List ℕ
+selectedBy P p = selected P (p .regular) (p .alternate)
+
 same-either : (b : Bool) → cond b (Trap 3 1) (Trap 3 1) ≡ Trap 3 1
 same-either true = refl
 same-either false = refl
@@ -84,9 +89,9 @@ module _ (s : List ℕ) where
 
   -- the instruction at PCTR, done as its plan says
   module _ (f : Running) {place : ℕ} (counted : place ≡ pctr (codeWordAt s (lbase s))) where
-    pub step-done : {r : Outcome} {t : List ℕ} → CarriesOut s r t (λ sees. planAt f sees place) → settled (f .regular) (f .alternate) (headerOf f .rtntrace) r t ≡ stepIn f s
+    pub step-done : {r : Outcome} {t : List ℕ} → CarriesOut s r t (λ sees. planAt f sees place) → settled (f .program .regular) (f .program .alternate) (headerOf f .rtntrace) r t ≡ stepIn f s
     unfolding stepIn
-    step-done done = ap (settle (f .regular) (f .alternate) (headerOf f .rtntrace)) (rw counted at done)
+    step-done done = ap (settle (f .program .regular) (f .program .alternate) (headerOf f .rtntrace)) (rw counted at done)
 
     -- after what has changed no word
     pub step-kept : (u : List ℕ) → u ≡ s → stepAt f place u ≡ stepIn f s
@@ -107,33 +112,33 @@ module _ (s : List ℕ) where
       traced-stands class number told = stands (λ e. let k : Traced class number ≡ Trapped 3 1 = sym told ∙ e in let z : _≡_ {A = ℕ} 0 1 = cc in absurd (omega arith))
 
   -- the function of the current frame
-  module _ (regular alternate : List ℕ) {selector : Bool} {number : ℕ} (P : selectorOf s ≡ selector) (n : currentFunction s ≡ number) where
-    found : stepFound regular alternate s selector (functionOf (selected selector regular alternate) number) ≡ stepOf regular alternate s
+  module _ (p : Program) {selector : Bool} {number : ℕ} (P : selectorOf s ≡ selector) (n : currentFunction s ≡ number) where
+    found : stepFound p s selector (functionOf (selectedBy selector p) number) ≡ stepOf p s
     unfolding stepOf
     found = rw (← P, ← n)
 
-    first : firstIn (selected selector regular alternate) s (functionOf (selected selector regular alternate) number) ≡ firstByte regular alternate s
+    first : firstIn (selectedBy selector p) s (functionOf (selectedBy selector p) number) ≡ firstByte (p .regular) (p .alternate) s
     unfolding firstByte
     first = rw (← P, ← n)
 
-    pub step-absent : functionOf (selected selector regular alternate) number ≡ F.Absent → trapped s 3 1 ≡ stepOf regular alternate s
-    step-absent is = ap (stepFound regular alternate s selector) (sym is) ∙ found
+    pub step-absent : functionOf (selectedBy selector p) number ≡ F.Absent → trapped s 3 1 ≡ stepOf p s
+    step-absent is = ap (stepFound p s selector) (sym is) ∙ found
 
-    module _ (block : Block) (is : functionOf (selected selector regular alternate) number ≡ F.At block) where
-      pub step-found : stepIn (running regular alternate selector block) s ≡ stepOf regular alternate s
-      step-found = ap (stepFound regular alternate s selector) (sym is) ∙ found
+    module _ (block : Block) (is : functionOf (selectedBy selector p) number ≡ F.At block) where
+      pub step-found : stepIn (running p selector block) s ≡ stepOf p s
+      step-found = ap (stepFound p s selector) (sym is) ∙ found
 
-      pub first-found : firstIn (selected selector regular alternate) s (F.At block) ≡ firstByte regular alternate s
-      first-found = ap (firstIn (selected selector regular alternate) s) (sym is) ∙ first
+      pub first-found : firstIn (selectedBy selector p) s (F.At block) ≡ firstByte (p .regular) (p .alternate) s
+      first-found = ap (firstIn (selectedBy selector p) s) (sym is) ∙ first
 
   -- the function that the second word of the current frame tells at once
-  module _ (regular alternate : List ℕ) (P : Bool) {number : ℕ} (block : Block) {w : ℕ} (small : number < 2 ^ 11) (is : functionOf (selected P regular alternate) number ≡ F.At block) (held : w ≡ codeWordAt s (lbase s)) (same : w / 2 ^ 16 % 2 ^ 12 ≡ number + 2048 * boolByte P) where
+  module _ (p : Program) (P : Bool) {number : ℕ} (block : Block) {w : ℕ} (small : number < 2 ^ 11) (is : functionOf (selectedBy P p) number ≡ F.At block) (held : w ≡ codeWordAt s (lbase s)) (same : w / 2 ^ 16 % 2 ^ 12 ≡ number + 2048 * boolByte P) where
     told : codeWordAt s (lbase s) / 2 ^ 16 % 2 ^ 12 ≡ number + 2048 * boolByte P
     told = rw (← held) same
 
-    pub step-here : stepIn (running regular alternate P block) s ≡ stepOf regular alternate s
-    step-here = step-found regular alternate (selector-of (codeWordAt s (lbase s)) number small P told) (number-of (codeWordAt s (lbase s)) number small P told) block is
+    pub step-here : stepIn (running p P block) s ≡ stepOf p s
+    step-here = step-found p (selector-of (codeWordAt s (lbase s)) number small P told) (number-of (codeWordAt s (lbase s)) number small P told) block is
 
     -- the first byte there, of the function's code
-    pub first-here : {code : List ℕ} {place : ℕ} → code ≡ codeIn (running regular alternate P block) → place ≡ pctr (codeWordAt s (lbase s)) → byteAt code place ≡ firstByte regular alternate s
-    first-here {code} {place} bytes counted = rw (bytes, counted) (first-found regular alternate (selector-of (codeWordAt s (lbase s)) number small P told) (number-of (codeWordAt s (lbase s)) number small P told) block is)
+    pub first-here : {code : List ℕ} {place : ℕ} → code ≡ codeIn (running p P block) → place ≡ pctr (codeWordAt s (lbase s)) → byteAt code place ≡ firstByte (p .regular) (p .alternate) s
+    first-here {code} {place} bytes counted = rw (bytes, counted) (first-found p (selector-of (codeWordAt s (lbase s)) number small P told) (number-of (codeWordAt s (lbase s)) number small P told) block is)

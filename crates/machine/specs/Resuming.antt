@@ -5,6 +5,7 @@ use mathlib.Core.Path.{_≡_}
 use mathlib.Core.List.{List}
 use Rattle.procedure.specs.declared.directory.Function.the-variants.{At}
 use Rattle.procedure.specs.Directory.{functionOf}
+use Rattle.manual.specs.Program.{Program}
 use Rattle.manual.specs.Instructions.{Running, segmentOf, headerOf, planAt}
 use Rattle.effects.specs.declared.Ran.{Ran}
 use Rattle.effects.specs.declared.Ran.the-variants.{Done, Trapped}
@@ -16,7 +17,7 @@ use Rattle.effects.specs.Tally.{talliedFrom}
 
 -- A step of the instruction at that place of the function `f`, wherever PCTR is.
 abbrev pub stepAt : Running → ℕ → List ℕ → StepResult
-stepAt f place s = settle (f .regular) (f .alternate) (headerOf f .rtntrace) (carry s (planAt f (seen s) place))
+stepAt f place s = settle (f .program .regular) (f .program .alternate) (headerOf f .rtntrace) (carry s (planAt f (seen s) place))
 
 -- The current frame is of the function `f`, which has that number in its directory.
 pub record Current (f : Running) (number : ℕ) (s : List ℕ) : Type 0 where
@@ -34,16 +35,16 @@ abbrev pub ending : Ran → List ℕ → List ℕ → Whole
 ending r counts s = record { result = runResult r s; counts = counts }
 
 -- A run of at most `budget` more instructions, so many having finished before it.
-abbrev pub whole : ℕ → ℕ → List ℕ → List ℕ → List ℕ → List ℕ → Whole
-whole budget steps regular alternate counts s = record {
-  result = stepsFrom budget steps regular alternate s;
-  counts = talliedFrom budget counts regular alternate s;
+abbrev pub whole : ℕ → ℕ → Program → List ℕ → List ℕ → Whole
+whole budget steps p counts s = record {
+  result = stepsFrom budget steps p s;
+  counts = talliedFrom budget counts p s;
 }
 
 -- What the whole run comes to, of `budget` instructions, when a part of it has answered so.
-abbrev pub resumed : Ran → ℕ → List ℕ → List ℕ → List ℕ → List ℕ → Whole
-resumed (Done n) budget regular alternate counts s = whole (budget - n) n regular alternate counts s
-resumed (Trapped n) budget regular alternate counts s = ending (Trapped n) counts s
+abbrev pub resumed : Ran → ℕ → Program → List ℕ → List ℕ → Whole
+resumed (Done n) budget p counts s = whole (budget - n) n p counts s
+resumed (Trapped n) budget p counts s = ending (Trapped n) counts s
 
 -- A part that begins after `start` instructions and has not trapped has done at least one more.
 abbrev pub Advanced : ℕ → ℕ → Ran → Type 0
@@ -52,6 +53,6 @@ Advanced start budget (Trapped n) = Unit {0}
 
 -- A part's contract: begun after `start` instructions with the counts `before` and the words `s`, it answers `r` and leaves the
 -- counts `after` and the words `t`.
-abbrev pub Resumes : List ℕ → List ℕ → ℕ → ℕ → List ℕ → List ℕ → Ran → List ℕ → List ℕ → Type 0
-Resumes regular alternate start budget before s r after t =
-    (resumed r budget regular alternate after t ≡ whole (budget - start) start regular alternate before s) × Advanced start budget r
+abbrev pub Resumes : Program → ℕ → ℕ → List ℕ → List ℕ → Ran → List ℕ → List ℕ → Type 0
+Resumes p start budget before s r after t =
+    (resumed r budget p after t ≡ whole (budget - start) start p before s) × Advanced start budget r

@@ -1,11 +1,13 @@
 // The long way of a step: the instruction at a place of a function's code, decoded and then done.
 ghost use mathlib.Core.Path.{_≡_};
-ghost use Prim.Native.Nat.{_≤_};
+ghost use mathlib.Core.List.{List};
+ghost use Prim.Native.Nat.{ℕ, _≤_};
 ghost use lib.ListN.{length};
 ghost use Rattle.procedure.specs.Directory.{selected};
 ghost use Rattle.procedure.specs.Headers.{lineOf};
 ghost use Rattle.manual.specs.Loads as loading;
 ghost use Rattle.manual.specs.Control as going;
+ghost use Rattle.manual.specs.Program.{program};
 ghost use Rattle.manual.specs.Instructions as plan;
 ghost use Rattle.effects.specs.Carried.{CarriesOut};
 ghost use Rattle.operands.specs.Variables.{variableSeen, Sure};
@@ -31,6 +33,7 @@ use operands::variables::Resolved;
 use operands::variables::resolve;
 use operands::variables::variables;
 use operator::Operator;
+use operator::lent::named;
 use procedure::header::Block;
 use procedure::header::Header;
 
@@ -39,6 +42,7 @@ pub fn obey(
     seg: &mut [u32],
     regular: &[u8],
     alternate: &[u8],
+    table: &[u8; 16],
     selector: bool,
     block: Block,
     code: &[u8],
@@ -46,9 +50,9 @@ pub fn obey(
     scratch: &mut [u32],
 ) -> Outcome
     requires { ⌜ (length (now seg) ≤ 16384) × (length (now scratch) ≡ 16384) ⌝ }
-    requires { ⌜ now code ≡ plan.codeIn (plan.running (now regular) (now alternate) selector block) ⌝ }
+    requires { ⌜ now code ≡ plan.codeIn (plan.running (program (now regular) (now alternate) (now table)) selector block) ⌝ }
     ensures { λ r. ⌜ CarriesOut (now (seg .entry)) r (now (seg .exit)) (λ sees.
-        plan.planAt (plan.running (now (regular .entry)) (now (alternate .entry)) selector block) sees (place .0)) ⌝ }
+        plan.planAt (plan.running (program (now (regular .entry)) (now (alternate .entry)) (now (table .entry))) selector block) sees (place .0)) ⌝ }
 {
     match instruction_at(code, place) {
         Decoded::Trap(class, number) => Outcome::Trapped(class, number),
@@ -58,7 +62,7 @@ pub fn obey(
                 negative,
                 magnitude,
             } => loads::short_constant(seg, negative, magnitude, next),
-            Instruction::Scalar(op) => scalar(seg, op, next, scratch),
+            Instruction::Scalar(op) => scalar(seg, named(table, op), next, scratch),
             Instruction::Memory(op, a) => memory_reference(seg, block.header, op, a, next, scratch),
             Instruction::Stack(op) => stack(seg, op, next),
             Instruction::Array(op) => array(seg, op, next, scratch),
@@ -178,8 +182,8 @@ fn control(
     next: CodeAddress,
 ) -> Outcome
     requires { ⌜ length (now seg) ≤ 16384 ⌝ }
-    ensures { λ r. ⌜ CarriesOut (now (seg .entry)) r (now (seg .exit)) (λ sees.
-        plan.controlPlan (plan.running (now (regular .entry)) (now (alternate .entry)) selector block) sees (next .0) op) ⌝ }
+    ensures { λ r. ⌜ ((table : List ℕ) → CarriesOut (now (seg .entry)) r (now (seg .exit)) (λ sees.
+        plan.controlPlan (plan.running (program (now (regular .entry)) (now (alternate .entry)) table) selector block) sees (next .0) op)) ⌝ }
 {
     match op {
         ControlOperation::Branch => branch(seg, regular, alternate, selector, block, next),

@@ -5,6 +5,7 @@ ghost use lib.ListN.{length};
 ghost use Rattle.procedure.specs.Directory.{selected};
 ghost use Rattle.segment.specs.State as state;
 ghost use Rattle.segment.specs.Stack as frames;
+ghost use Rattle.manual.specs.Program.{program};
 ghost use Rattle.manual.specs.Instructions as plan;
 ghost use Rattle.effects.specs.Step.{selectorOf, currentFunction};
 ghost use Rattle.effects.specs.Run.{runResult, stepsFrom};
@@ -24,38 +25,49 @@ use segment::state::sbase;
 use segment::state::set_trap;
 use segment::word;
 
-// At most `budget` instructions. What finishes is counted where counts are lent.
+// At most `budget` instructions, under a table of operators. What finishes is counted where counts are lent.
 pub fn run(
     seg: &mut [u32],
     regular: &[u8],
     alternate: &[u8],
+    table: &[u8; 16],
     budget: u32,
     counts: &mut [u32],
 ) -> Ran
     requires { ⌜ length (now seg) ≤ 16384 ⌝ }
-    ensures { λ r. ⌜ runResult r (now (seg .exit)) ≡ stepsFrom budget 0 (now (regular .entry)) (now (alternate .entry)) (now (seg .entry)) ⌝ }
+    ensures { λ r. ⌜ runResult r (now (seg .exit)) ≡ stepsFrom budget 0 (program (now (regular .entry)) (now (alternate .entry)) (now (table .entry))) (now (seg .entry)) ⌝ }
     ensures { λ r. ⌜ now (counts .exit)
-        ≡ talliedFrom budget (now (counts .entry)) (now (regular .entry)) (now (alternate .entry)) (now (seg .entry)) ⌝ }
+        ≡ talliedFrom budget (now (counts .entry)) (program (now (regular .entry)) (now (alternate .entry)) (now (table .entry))) (now (seg .entry)) ⌝ }
 {
     let mut scratch = [0u32; 16384];
-    steps_up_to(seg, regular, alternate, budget, counts, &mut scratch)
+    steps_up_to(seg, regular, alternate, table, budget, counts, &mut scratch)
 }
 
 fn steps_up_to(
     seg: &mut [u32],
     regular: &[u8],
     alternate: &[u8],
+    table: &[u8; 16],
     budget: u32,
     counts: &mut [u32],
     scratch: &mut [u32],
 ) -> Ran
     requires { ⌜ (length (now seg) ≤ 16384) × (length (now scratch) ≡ 16384) ⌝ }
     ensures { λ r. ⌜ ending r (now (counts .exit)) (now (seg .exit))
-        ≡ whole budget 0 (now (regular .entry)) (now (alternate .entry)) (now (counts .entry)) (now (seg .entry)) ⌝ }
+        ≡ whole budget 0 (program (now (regular .entry)) (now (alternate .entry)) (now (table .entry))) (now (counts .entry)) (now (seg .entry)) ⌝ }
 {
     let mut steps = 0;
     while steps < budget {
-        match run_current(seg, regular, alternate, steps, budget, counts, scratch) {
+        match run_current(
+            seg,
+            regular,
+            alternate,
+            table,
+            steps,
+            budget,
+            counts,
+            scratch,
+        ) {
             Ran::Trapped(n) => {
                 return Ran::Trapped(n);
             }
@@ -72,13 +84,14 @@ fn run_current(
     seg: &mut [u32],
     regular: &[u8],
     alternate: &[u8],
+    table: &[u8; 16],
     start: u32,
     budget: u32,
     counts: &mut [u32],
     scratch: &mut [u32],
 ) -> Ran
     requires { ⌜ (length (now seg) ≤ 16384) × (length (now scratch) ≡ 16384) × (start < budget) ⌝ }
-    ensures { λ r. ⌜ Resumes (now (regular .entry)) (now (alternate .entry)) start budget (now (counts .entry)) (now (seg .entry))
+    ensures { λ r. ⌜ Resumes (program (now (regular .entry)) (now (alternate .entry)) (now (table .entry))) start budget (now (counts .entry)) (now (seg .entry))
         r (now (counts .exit)) (now (seg .exit)) ⌝ }
 {
     let base = lbase(seg);
@@ -88,6 +101,7 @@ fn run_current(
             seg,
             regular,
             alternate,
+            table,
             alternate,
             number,
             true,
@@ -101,6 +115,7 @@ fn run_current(
         seg,
         regular,
         alternate,
+        table,
         regular,
         number,
         false,
@@ -116,6 +131,7 @@ fn run_function(
     seg: &mut [u32],
     regular: &[u8],
     alternate: &[u8],
+    table: &[u8; 16],
     p: &[u8],
     number: u32,
     selector: bool,
@@ -127,7 +143,7 @@ fn run_function(
     requires { ⌜ (length (now seg) ≤ 16384) × (length (now scratch) ≡ 16384) × (start < budget) ⌝ }
     requires { ⌜ now p ≡ selected selector (now regular) (now alternate) ⌝ }
     requires { ⌜ (selectorOf (now seg) ≡ selector) × (currentFunction (now seg) ≡ number) ⌝ }
-    ensures { λ r. ⌜ Resumes (now (regular .entry)) (now (alternate .entry)) start budget (now (counts .entry)) (now (seg .entry))
+    ensures { λ r. ⌜ Resumes (program (now (regular .entry)) (now (alternate .entry)) (now (table .entry))) start budget (now (counts .entry)) (now (seg .entry))
         r (now (counts .exit)) (now (seg .exit)) ⌝ }
 {
     match find(p, number as u16) {
@@ -136,6 +152,7 @@ fn run_function(
             seg,
             regular,
             alternate,
+            table,
             number,
             selector,
             block,
@@ -160,6 +177,7 @@ fn steps_in(
     seg: &mut [u32],
     regular: &[u8],
     alternate: &[u8],
+    table: &[u8; 16],
     number: u32,
     selector: bool,
     block: Block,
@@ -170,9 +188,9 @@ fn steps_in(
     scratch: &mut [u32],
 ) -> Ran
     requires { ⌜ (length (now seg) ≤ 16384) × (length (now scratch) ≡ 16384) × (start < budget) ⌝ }
-    requires { ⌜ now code ≡ plan.codeIn (plan.running (now regular) (now alternate) selector block) ⌝ }
-    requires { ⌜ Current (plan.running (now regular) (now alternate) selector block) number (now seg) ⌝ }
-    ensures { λ r. ⌜ Resumes (now (regular .entry)) (now (alternate .entry)) start budget (now (counts .entry)) (now (seg .entry))
+    requires { ⌜ now code ≡ plan.codeIn (plan.running (program (now regular) (now alternate) (now table)) selector block) ⌝ }
+    requires { ⌜ Current (plan.running (program (now regular) (now alternate) (now table)) selector block) number (now seg) ⌝ }
+    ensures { λ r. ⌜ Resumes (program (now (regular .entry)) (now (alternate .entry)) (now (table .entry))) start budget (now (counts .entry)) (now (seg .entry))
         r (now (counts .exit)) (now (seg .exit)) ⌝ }
 {
     let function = number + 0x800 * selector as u32;
@@ -182,7 +200,17 @@ fn steps_in(
             return Ran::Done(steps);
         }
         let at = stack::pctr(seg, lbase(seg));
-        match step_in(seg, regular, alternate, selector, block, code, at, scratch) {
+        match step_in(
+            seg,
+            regular,
+            alternate,
+            table,
+            selector,
+            block,
+            code,
+            at,
+            scratch,
+        ) {
             Stepped::Finished => {
                 count_step(counts, code, at);
                 steps += 1;

@@ -188,13 +188,13 @@ module _ {f : Running} {seen : Seen} {next : ℕ} (P : List Effect → Type 0) (
   unfolding control.call listed
   call-cases arguments alternate number k =
       let called = calledBy f alternate number in
-      stop P T k (not (inDirectory alternate (f .regular) (f .alternate) (number % 2 ^ 11))) _ _ _ refl (λ d.
+      stop P T k (not (inDirectory alternate (f .program .regular) (f .program .alternate) (number % 2 ^ 11))) _ _ _ refl (λ d.
       stop P T k (ltb (seen .count) arguments || not (eqb arguments (called .nargs))) _ _ _ refl (λ e.
       stop P T k (ltb (seen .room) (called .nlocals + 2)) _ _ _ refl (λ r.
       let n = none-holds (ltb (seen .count) arguments) (not (eqb arguments (called .nargs))) e in
       k .entered arguments alternate number refl
       (record {
-        found = not-false (inDirectory alternate (f .regular) (f .alternate) (number % 2 ^ 11)) d;
+        found = not-false (inDirectory alternate (f .program .regular) (f .program .alternate) (number % 2 ^ 11)) d;
         given = ltb-false (seen .count) arguments (n .0);
         wanted = eqb-true arguments (called .nargs) (not-false (eqb arguments (called .nargs)) (n .1));
         room = ltb-false (seen .room) (called .nlocals + 2) r;

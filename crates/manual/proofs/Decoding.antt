@@ -38,6 +38,7 @@ use Rattle.instruction.specs.Reading.{cursorAt, fetchByte, fetchHalf, fetchWord
 use Rattle.instruction.specs.Variables.{addressIn, addressAt, withAddress}
 use Rattle.instruction.specs.Decoding.{loadAt, shortConstantAt, scalarAt, memoryAt, constantScalarAt, constantVectorAt, jumpAt, callAt, etcAt, familyAt, instructionAt}
 use Rattle.manual.specs.Traps.{listed}
+use Rattle.manual.specs.Program.{underTable}
 
 -- The words that an instruction has of the code.
 abbrev pub Reads : (ℕ → Type 0) → Instruction → Type 0
@@ -53,6 +54,21 @@ Reads R (I.ConstantScalar w) = R w
 Reads R (I.ConstantVector count first) = Unit {0}
 Reads R (I.Call arguments alternate number) = Unit {0}
 Reads R (I.Index rank) = Unit {0}
+
+-- a table changes none of them
+pub reads-under : (R : ℕ → Type 0) (table : List ℕ) (i : Instruction) → Reads R i → Reads R (underTable table i)
+reads-under R table (I.Load a) h = h
+reads-under R table (I.ShortConstant negative magnitude) h = h
+reads-under R table (I.Scalar op) h = h
+reads-under R table (I.Memory op a) h = h
+reads-under R table (I.Stack op) h = h
+reads-under R table (I.Array op) h = h
+reads-under R table (I.Control op) h = h
+reads-under R table (I.Jump jump place) h = h
+reads-under R table (I.ConstantScalar w) h = h
+reads-under R table (I.ConstantVector count first) h = h
+reads-under R table (I.Call arguments alternate number) h = h
+reads-under R table (I.Index rank) h = h
 
 abbrev pub Decodes : (ℕ → Type 0) → Decoded → Type 0
 Decodes R (D.Instruction i next) = Reads R i

@@ -19,6 +19,7 @@ use Rattle.instruction.specs.Decoding.{instructionAt}
 use Rattle.manual.specs.Values.{any}
 use Rattle.manual.specs.Effects.{look, Plan}
 use Rattle.manual.specs.Seen.{Seen, variablesOf, localAt, globalAt, seenOf}
+use Rattle.manual.specs.Program.{underTable}
 use Rattle.manual.specs.Instructions.{Running, headerOf, codeIn, resolve, planOf, planDecoded, planAt}
 use Rattle.manual.specs.Traps.{Line, table, among, listed, InTable, Addressed, Trapping, TrapsListed}
 use Rattle.manual.proofs.Tests.{both-hold, one-holds}
@@ -54,7 +55,7 @@ plan-listed f seen h i next =
     })
 
 decoded-listed : (f : Running) (seen : Seen) → Addressed seen → (d : Decoded) → Decodes (λ w. Unit {0}) d → Listed (planDecoded f seen d)
-decoded-listed f seen h (D.Instruction i next) l = plan-listed f seen h i (next .0)
+decoded-listed f seen h (D.Instruction i next) l = plan-listed f seen h (underTable (f .program .table) i) (next .0)
 decoded-listed f seen h (D.Trap class number) l = l
 
 place-listed : (f : Running) (seen : Seen) → Addressed seen → (place : ℕ) → Listed (planAt f seen place)

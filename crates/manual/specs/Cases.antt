@@ -56,7 +56,7 @@ wordsOf f count first = wordsFrom (count % 2 ^ 8) (codeOf (segmentOf f) (f .bloc
 
 -- The header of the function that a CALL names.
 abbrev pub calledBy : Running → Bool → ℕ → Header
-calledBy f alternate number = headerOfFunction (selected alternate (f .regular) (f .alternate)) (number % 2 ^ 11)
+calledBy f alternate number = headerOfFunction (selected alternate (f .program .regular) (f .program .alternate)) (number % 2 ^ 11)
 
 -- What the instructions that push give.
 pub data Pushed (f : Running) (seen : Seen) : Instruction → Source → Type 0 where
@@ -111,7 +111,7 @@ pub record Element (f : Running) (seen : Seen) (a : Address) (rank : ℕ) (x : V
 
 -- A CALL finds its function, its arguments and the room for its frame.
 pub record Calling (f : Running) (seen : Seen) (arguments : ℕ) (alternate : Bool) (number : ℕ) : Type 0 where
-  pub found : inDirectory alternate (f .regular) (f .alternate) (number % 2 ^ 11) ≡ true
+  pub found : inDirectory alternate (f .program .regular) (f .program .alternate) (number % 2 ^ 11) ≡ true
   pub given : arguments ≤ seen .count
   pub wanted : arguments ≡ calledBy f alternate number .nargs
   pub room : calledBy f alternate number .nlocals + 2 ≤ seen .room

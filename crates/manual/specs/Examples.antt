@@ -38,6 +38,7 @@ use Rattle.manual.specs.Loads as loads
 use Rattle.manual.specs.Scalars as scalars
 use Rattle.manual.specs.Memory as memory
 use Rattle.manual.specs.Control as control
+use Rattle.manual.specs.Program.{underManual}
 use Rattle.manual.specs.Instructions.{Running, planOf}
 
 -- Scalars, a vector and a matrix.
@@ -62,7 +63,7 @@ abbrev header : Header
 header = record { calltrace = false; rtntrace = false; result = true; nargs = 1; nlines = 1; nlocals = 2; ncode = 3 }
 
 abbrev running : ℕ → Running
-running line = record { regular = bytes line; alternate = bytes line; selector = false; block = record { start = 2; header = header } }
+running line = record { program = underManual (bytes line) (bytes line); selector = false; block = record { start = 2; header = header } }
 
 -- A frame of that function, and a machine of such frames at origin 1 whose globals 8 and 9 hold the vector and undefined.
 abbrev frame : List Cell → Frame Cell

@@ -32,23 +32,23 @@ use Rattle.instruction.specs.Decoding.{instructionAt}
 use Rattle.manual.specs.OrTrap.{OrTrap, trap, stopIf}
 use Rattle.manual.specs.Effects.{Plan}
 use Rattle.manual.specs.Seen.{Seen, Variable, variablesOf}
+use Rattle.manual.specs.Program.{Program, underTable}
 use Rattle.manual.specs.Loads as loads
 use Rattle.manual.specs.Scalars as scalars
 use Rattle.manual.specs.Memory as memory
 use Rattle.manual.specs.Control as control
 
--- The function that is run: both procedure segments, P, and its block.
+-- The function that is run: what the run is lent, P, and its block.
 pub record Running : Type 0 where
-  pub regular : List ℕ
-  pub alternate : List ℕ
+  pub program : Program
   pub selector : Bool
   pub block : Block
 
-abbrev pub running : List ℕ → List ℕ → Bool → Block → Running
-running regular alternate selector block = record { regular = regular; alternate = alternate; selector = selector; block = block }
+abbrev pub running : Program → Bool → Block → Running
+running program selector block = record { program = program; selector = selector; block = block }
 
 abbrev pub segmentOf : Running → List ℕ
-segmentOf f = selected (f .selector) (f .regular) (f .alternate)
+segmentOf f = selected (f .selector) (f .program .regular) (f .program .alternate)
 
 abbrev pub headerOf : Running → Header
 headerOf f = f .block .header
@@ -105,8 +105,8 @@ jumpPlan f seen next J.GoFalse place = control.goIf seen (headerOf f) next false
 -- A function that is not in its directory is (3,1), before anything else is looked at: "CALL's counts as a fetch trap".
 abbrev pub callPlan : Running → Seen → ℕ → ℕ → Bool → ℕ → Plan
 callPlan f seen next arguments alternate number =
-    stopIf (not (hasFunction (selected alternate (f .regular) (f .alternate)) number)) 3 1
-    (control.call seen next (headerOfFunction (selected alternate (f .regular) (f .alternate)) number) alternate number arguments)
+    stopIf (not (hasFunction (selected alternate (f .program .regular) (f .program .alternate)) number)) 3 1
+    (control.call seen next (headerOfFunction (selected alternate (f .program .regular) (f .program .alternate)) number) alternate number arguments)
 
 -- The plan of an instruction, after which stands the code place `next`. Numbers have as many bits as their fields.
 unfoldable pub planOf : Running → Seen → Instruction → ℕ → Plan
@@ -124,9 +124,9 @@ planOf f seen (I.ConstantVector count first) next =
 planOf f seen (I.Call arguments alternate number) next = callPlan f seen next arguments alternate (number % 2 ^ 11)
 planOf f seen (I.Index rank) next = scalars.index seen next (rank % 2 ^ 4)
 
--- What is decoded at a place, planned. A fetch trap comes first.
+-- What is decoded at a place, planned by what it is under the table that is lent. A fetch trap comes first.
 abbrev pub planDecoded : Running → Seen → Decoded → Plan
-planDecoded f seen (D.Instruction i next) = planOf f seen i (next .0)
+planDecoded f seen (D.Instruction i next) = planOf f seen (underTable (f .program .table) i) (next .0)
 planDecoded f seen (D.Trap class number) = trap class number
 
 unfoldable pub planAt : Running → Seen → ℕ → Plan

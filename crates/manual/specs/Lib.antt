@@ -7,6 +7,7 @@ pub mod Loads
 pub mod Scalars
 pub mod Memory
 pub mod Control
+pub mod Program
 pub mod Instructions
 pub mod Traps
 pub mod Comparisons

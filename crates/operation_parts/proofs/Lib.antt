@@ -1,2 +1,3 @@
 -- Laws of the crate.
 pub mod Products
+pub mod Lent

@@ -9,10 +9,13 @@ ghost use Rattle.procedure.specs.Directory.{selected, functionOf};
 ghost use Rattle.procedure.specs.Refusal.{procedureRefusal};
 ghost use Rattle.segment.specs.Blocks as layout;
 ghost use Rattle.acceptance.specs.Refusal.{lengthTest, refusal};
+ghost use Rattle.manual.specs.Program.{program};
 ghost use Rattle.manual.specs.Values as values;
 ghost use Rattle.operations.specs.Load as meaning;
+ghost use Rattle.operations.specs.Run.{runRefusal};
 use acceptance::Judgement;
 use elements::kinds::any_other;
+use operator::lent::is_table;
 use procedure::directory::Function;
 use procedure::directory::find_in;
 use procedure::refusal::Refusal;
@@ -42,6 +45,23 @@ pub fn segments_refusal(seg: &[u32], regular: &[u8], alternate: &[u8]) -> u8
         Refusal::Nothing => 0,
         Refusal::Length => 11,
         Refusal::Contents => 12,
+    }
+}
+
+// The tests of a run: 10 to 12, then 26, then 13 to 18.
+pub fn run_refusal(seg: &[u32], regular: &[u8], alternate: &[u8], table: &[u8]) -> u8
+    ensures { λ r. ⌜ r ≡ runRefusal (now (seg .entry)) (program (now (regular .entry)) (now (alternate .entry)) (now (table .entry))) ⌝ }
+{
+    let refused = segments_refusal(seg, regular, alternate);
+    if refused != 0 {
+        return refused;
+    }
+    if !is_table(table) {
+        return 26;
+    }
+    match acceptance::judge_data(seg, regular, alternate) {
+        Judgement::Accepted => 0,
+        Judgement::Refused(test) => test.number(),
     }
 }
 

@@ -12,7 +12,7 @@ use Rattle.imports.specs.Records as file
 use Rattle.imports.specs.Records.{Record, FoundRecord, Records, ends, malformed, entry, continued, recordAt, recordsUpTo, recordsFrom, recordsOf}
 use Rattle.tally.specs.Counts.{noneCounted}
 use Rattle.tally.proofs.Laws.{counted-length}
-use Rattle.acceptance.specs.Refusal.{refusal}
+use Rattle.manual.specs.Program.{Program}
 use Rattle.effects.specs.declared.Stepped.{Stepped}
 use Rattle.effects.specs.declared.Stepped.the-variants as stepped
 use Rattle.effects.specs.Step.{stepOf}
@@ -20,7 +20,7 @@ use Rattle.effects.specs.Tally.{tallying, talliedFrom}
 use Rattle.operations.specs.declared.Replayed.the-variants.{Halted}
 use Rattle.operations.specs.Answers.{replayPlace}
 use Rattle.operations.specs.Load.{loadRefusal, loaded}
-use Rattle.operations.specs.Run.{ran}
+use Rattle.operations.specs.Run.{runRefusal, ran}
 use Rattle.operations.specs.Replay.{Replay, replay, tallied, runHalt, replayFrom, replayed}
 
 -- ---- counts
@@ -31,22 +31,22 @@ tallying-length n stepped.Finished counts more rest c m r = r more m
 tallying-length n (stepped.Traced class number) counts more rest c m r = m
 tallying-length n (stepped.Trapped class number) counts more rest c m r = c
 
-tallied-from-length : (n budget : ℕ) (counts regular alternate s : List ℕ) → length counts ≡ n → length (talliedFrom budget counts regular alternate s) ≡ n
+tallied-from-length : (n budget : ℕ) (counts : List ℕ) (p : Program) (s : List ℕ) → length counts ≡ n → length (talliedFrom budget counts p s) ≡ n
 unfolding talliedFrom
-tallied-from-length n zero counts regular alternate s h = h
-tallied-from-length n (suc budget) counts regular alternate s h =
-    tallying-length n (stepOf regular alternate s .answer) counts _ _ h (counted-length _ counts ∙ h)
-    (λ more l. tallied-from-length n budget more regular alternate (stepOf regular alternate s .words) l)
+tallied-from-length n zero counts p s h = h
+tallied-from-length n (suc budget) counts p s h =
+    tallying-length n (stepOf p s .answer) counts _ _ h (counted-length _ counts ∙ h)
+    (λ more l. tallied-from-length n budget more p (stepOf p s .words) l)
 
 tallied-if : (n : ℕ) (b : Bool) (after counts : List ℕ) → length after ≡ n → length counts ≡ n → length (cond b after counts) ≡ n
 tallied-if n true after counts a c = a
 tallied-if n false after counts a c = c
 
-tallied-length : (n : ℕ) (s regular alternate : List ℕ) (budget : ℕ) (counts : List ℕ) → length counts ≡ n
-    → length (tallied s regular alternate budget counts) ≡ n
+tallied-length : (n : ℕ) (s : List ℕ) (p : Program) (budget : ℕ) (counts : List ℕ) → length counts ≡ n
+    → length (tallied s p budget counts) ≡ n
 unfolding tallied
-tallied-length n s regular alternate budget counts h =
-    tallied-if n (eqb (refusal s regular alternate) 0) _ counts (tallied-from-length n budget counts regular alternate (set s 3 0) h) h
+tallied-length n s p budget counts h =
+    tallied-if n (eqb (runRefusal s p) 0) _ counts (tallied-from-length n budget counts p (set s 3 0) h) h
 
 -- ---- places
 
@@ -79,34 +79,34 @@ record Kept (limit : ℕ) (r : Replay) : Type 0 where
   eight : length (r .counts) ≡ 8
   inside : replayPlace (r .answer) < limit
 
-module _ (limit : ℕ) (some : 0 < limit) (regular alternate : List ℕ) where
+module _ (limit : ℕ) (some : 0 < limit) (p : Program) where
   after-record : (place number : ℕ) (b : Bool) (s counts : List ℕ) (rest : Replay) → place < limit → length counts ≡ 8 → Kept limit rest
       → Kept limit (cond b rest (replay (Halted number place) s counts))
-  after-record place number true s counts rest p c k = k
-  after-record place number false s counts rest p c k = record { eight = c; inside = p }
+  after-record place number true s counts rest low c k = k
+  after-record place number false s counts rest low c k = record { eight = c; inside = low }
 
-  from-kept : (records : Records) (s counts : List ℕ) → Below limit records → length counts ≡ 8 → Kept limit (replayFrom regular alternate records s counts)
+  from-kept : (records : Records) (s counts : List ℕ) → Below limit records → length counts ≡ 8 → Kept limit (replayFrom p records s counts)
   unfolding replayFrom
   from-kept ends s counts none c = record { eight = c; inside = some }
-  from-kept (malformed place) s counts (bad p) c = record { eight = c; inside = p }
-  from-kept (entry place (file.load g lengths ravel) rest) s counts (here p more) c =
-      after-record place (loadRefusal s regular alternate g lengths ravel) (eqb (loadRefusal s regular alternate g lengths ravel) 0) _ counts _ p c
-      (from-kept rest (loaded s regular alternate g lengths ravel) counts more c)
-  from-kept (entry place (file.run budget) rest) s counts (here p more) c =
-      let after : length (tallied s regular alternate budget counts) ≡ 8 = tallied-length 8 s regular alternate budget counts c in
-      after-record place (runHalt (ran s regular alternate budget .answer)) (eqb (runHalt (ran s regular alternate budget .answer)) 0) _ _ _ p after
-      (from-kept rest (ran s regular alternate budget .words) (tallied s regular alternate budget counts) more after)
+  from-kept (malformed place) s counts (bad low) c = record { eight = c; inside = low }
+  from-kept (entry place (file.load g lengths ravel) rest) s counts (here low more) c =
+      after-record place (loadRefusal s (p .regular) (p .alternate) g lengths ravel) (eqb (loadRefusal s (p .regular) (p .alternate) g lengths ravel) 0) _ counts _ low c
+      (from-kept rest (loaded s (p .regular) (p .alternate) g lengths ravel) counts more c)
+  from-kept (entry place (file.run budget) rest) s counts (here low more) c =
+      let after : length (tallied s p budget counts) ≡ 8 = tallied-length 8 s p budget counts c in
+      after-record place (runHalt (ran s p budget .answer)) (eqb (runHalt (ran s p budget .answer)) 0) _ _ _ low after
+      (from-kept rest (ran s p budget .words) (tallied s p budget counts) more after)
 
-  replayed-kept : (s bytes : List ℕ) → length bytes ≤ limit → Kept limit (replayed s regular alternate bytes)
+  replayed-kept : (s bytes : List ℕ) → length bytes ≤ limit → Kept limit (replayed s p bytes)
   unfolding replayed recordsFrom
   replayed-kept s bytes fits = from-kept (recordsOf bytes) s noneCounted (up-to-below limit bytes fits _ 0) refl
 
 -- a place in a file of at most 2 to the 32 bytes has 32 bits
-pub place-inside : (s regular alternate bytes : List ℕ) → length bytes ≤ 2 ^ 32 → replayPlace (replayed s regular alternate bytes .answer) < 2 ^ 32
-place-inside s regular alternate bytes fits = replayed-kept (2 ^ 32) (omega arith) regular alternate s bytes fits .inside
+pub place-inside : (s : List ℕ) (p : Program) (bytes : List ℕ) → length bytes ≤ 2 ^ 32 → replayPlace (replayed s p bytes .answer) < 2 ^ 32
+place-inside s p bytes fits = replayed-kept (2 ^ 32) (omega arith) p s bytes fits .inside
 
-eight-counts : (s regular alternate bytes : List ℕ) → length (replayed s regular alternate bytes .counts) ≡ 8
-eight-counts s regular alternate bytes = replayed-kept (suc (length bytes)) (omega arith) regular alternate s bytes (omega arith) .eight
+eight-counts : (s : List ℕ) (p : Program) (bytes : List ℕ) → length (replayed s p bytes .counts) ≡ 8
+eight-counts s p bytes = replayed-kept (suc (length bytes)) (omega arith) p s bytes (omega arith) .eight
 
 -- as many counts as there is room for are all that is left there
 pub all-set : (counts l : List ℕ) → length l ≡ length counts → sets l 0 counts ≡ counts
@@ -114,7 +114,7 @@ all-set counts l e =
     let none : drop (0 + length counts) l ≡ [] = drop-of-length-le l {i = 0 + length counts} (omega arith) in
     sets-eq counts l 0 (omega arith) ∙ ap (λ (rest : List ℕ). counts ++ rest) none ∙ append-nil counts
 
-pub tally-told : (s regular alternate bytes tally after : List ℕ) → after ≡ sets tally 0 (replayed s regular alternate bytes .counts)
-    → length tally ≡ 8 → after ≡ replayed s regular alternate bytes .counts
-tally-told s regular alternate bytes tally after e eight =
-    e ∙ all-set _ tally (eight ∙ sym (eight-counts s regular alternate bytes))
+pub tally-told : (s : List ℕ) (p : Program) (bytes tally after : List ℕ) → after ≡ sets tally 0 (replayed s p bytes .counts)
+    → length tally ≡ 8 → after ≡ replayed s p bytes .counts
+tally-told s p bytes tally after e eight =
+    e ∙ all-set _ tally (eight ∙ sym (eight-counts s p bytes))

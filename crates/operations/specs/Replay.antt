@@ -10,21 +10,20 @@ use lib.ListN.{set}
 use Rattle.imports.specs.Records as file
 use Rattle.imports.specs.Records.{Records, ends, malformed, entry, recordsOf}
 use Rattle.tally.specs.Counts.{noneCounted}
-use Rattle.acceptance.specs.Refusal.{refusal}
+use Rattle.manual.specs.Program.{Program}
 use Rattle.effects.specs.Tally.{talliedFrom}
 use Rattle.operations.specs.declared.Run.{Run}
 use Rattle.operations.specs.declared.Run.the-variants as R
 use Rattle.operations.specs.declared.Replayed.{Replayed}
 use Rattle.operations.specs.declared.Replayed.the-variants.{Done, Halted, Malformed}
-use Rattle.operations.specs.Run.{ran}
+use Rattle.operations.specs.Run.{runRefusal, ran}
 use Rattle.operations.specs.Load.{loadRefusal, loaded}
 
 -- ---- a run and its counts
 
 -- "A run sets word 3 to zero first"; a refused one counts nothing.
-unfoldable pub tallied : List ℕ → List ℕ → List ℕ → ℕ → List ℕ → List ℕ
-tallied s regular alternate budget counts =
-    cond (eqb (refusal s regular alternate) 0) (talliedFrom budget counts regular alternate (set s 3 0)) counts
+unfoldable pub tallied : List ℕ → Program → ℕ → List ℕ → List ℕ
+tallied s p budget counts = cond (eqb (runRefusal s p) 0) (talliedFrom budget counts p (set s 3 0)) counts
 
 -- ---- the replay
 
@@ -47,18 +46,18 @@ runHalt (R.Refused number) = number
 abbrev pub afterRecord : ℕ → ℕ → List ℕ → List ℕ → Replay → Replay
 afterRecord place number s counts rest = cond (eqb number 0) rest (replay (Halted number place) s counts)
 
-unfoldable pub replayFrom : List ℕ → List ℕ → Records → List ℕ → List ℕ → Replay
-replayFrom regular alternate ends s counts = replay Done s counts
-replayFrom regular alternate (malformed place) s counts = replay (Malformed place) s counts
-replayFrom regular alternate (entry place (file.load g lengths ravel) rest) s counts =
-    let t = loaded s regular alternate g lengths ravel in
-    let more = replayFrom regular alternate rest t counts in
-    afterRecord place (loadRefusal s regular alternate g lengths ravel) t counts more
-replayFrom regular alternate (entry place (file.run budget) rest) s counts =
-    let e = ran s regular alternate budget in
-    let after = tallied s regular alternate budget counts in
-    let more = replayFrom regular alternate rest (e .words) after in
+unfoldable pub replayFrom : Program → Records → List ℕ → List ℕ → Replay
+replayFrom p ends s counts = replay Done s counts
+replayFrom p (malformed place) s counts = replay (Malformed place) s counts
+replayFrom p (entry place (file.load g lengths ravel) rest) s counts =
+    let t = loaded s (p .regular) (p .alternate) g lengths ravel in
+    let more = replayFrom p rest t counts in
+    afterRecord place (loadRefusal s (p .regular) (p .alternate) g lengths ravel) t counts more
+replayFrom p (entry place (file.run budget) rest) s counts =
+    let e = ran s p budget in
+    let after = tallied s p budget counts in
+    let more = replayFrom p rest (e .words) after in
     afterRecord place (runHalt (e .answer)) (e .words) after more
 
-unfoldable pub replayed : List ℕ → List ℕ → List ℕ → List ℕ → Replay
-replayed s regular alternate bytes = replayFrom regular alternate (recordsOf bytes) s noneCounted
+unfoldable pub replayed : List ℕ → Program → List ℕ → Replay
+replayed s p bytes = replayFrom p (recordsOf bytes) s noneCounted

@@ -1,10 +1,13 @@
--- Run. Document 01's table: 10–18; then 2 and the steps where the number asked was done, 3 and the steps at a trap. Assumes
--- nothing.
+-- Run. Document 01's table: 10–18, and 26 of document 02, paper 5, "tested after 12"; then 2 and the steps where the number asked was
+-- done, 3 and the steps at a trap. Assumes nothing.
 use Prim.Native.Nat.{ℕ}
 use mathlib.Core.Bool.{cond}
 use mathlib.Core.List.{List}
 use lib.Dec.{eqb}
-use Rattle.acceptance.specs.Refusal.{refusal}
+use Rattle.operator.specs.Lent.{tableTest}
+use Rattle.procedure.specs.Refusal.{procedureRefusal}
+use Rattle.acceptance.specs.Refusal.{lengthTest, dataRefusal}
+use Rattle.manual.specs.Program.{Program}
 use Rattle.effects.specs.declared.Ran.{Ran}
 use Rattle.effects.specs.declared.Ran.the-variants as machine
 use Rattle.effects.specs.Run.{RunResult, runOf}
@@ -25,6 +28,13 @@ acceptedRun (machine.Trapped steps) = Trapped steps
 abbrev pub acceptedEnd : RunResult → Ended
 acceptedEnd o = ended (acceptedRun (o .answer)) (o .words)
 
-unfoldable pub ran : List ℕ → List ℕ → List ℕ → ℕ → Ended
-ran s regular alternate budget =
-    cond (eqb (refusal s regular alternate) 0) (acceptedEnd (runOf regular alternate s budget)) (ended (Refused (refusal s regular alternate)) s)
+unfoldable pub runRefusal : List ℕ → Program → ℕ
+runRefusal s p =
+    cond (lengthTest s)
+    (cond (eqb (procedureRefusal (p .regular) (p .alternate)) 0)
+    (cond (tableTest (p .table)) (dataRefusal s (p .regular) (p .alternate)) 26)
+    (procedureRefusal (p .regular) (p .alternate)))
+    10
+
+unfoldable pub ran : List ℕ → Program → ℕ → Ended
+ran s p budget = cond (eqb (runRefusal s p) 0) (acceptedEnd (runOf p s budget)) (ended (Refused (runRefusal s p)) s)

@@ -1,4 +1,4 @@
--- The GENSCALAR table of the manual: the operator of a suboperation number.
+-- The GENSCALAR table of the manual: the operator of a suboperation number, and the number of an operator.
 -- A reader must believe: the table is the manual's. Assumes nothing.
 use Prim.Native.Nat.{ℕ}
 use mathlib.Core.Bool.{cond}
@@ -8,6 +8,7 @@ use Rattle.operator.specs.declared.Monadic.{Monadic}
 use Rattle.operator.specs.declared.Monadic.the-variants.{Identity, Negative, Floor, Ceiling, Magnitude, Not, TestNumber, Convert}
 use Rattle.operator.specs.declared.Dyadic.{Dyadic}
 use Rattle.operator.specs.declared.Dyadic.the-variants.{Sum, Difference, Product, Quotient, LogicalProduct, LogicalSum, Less, Equal}
+use Rattle.operator.specs.declared.Operator.{Operator}
 use Rattle.operator.specs.declared.Operator.the-variants as O
 use Rattle.operator.specs.declared.Suboperation.{Suboperation}
 use Rattle.operator.specs.declared.Suboperation.the-variants.{Defined, Undefined}
@@ -45,3 +46,28 @@ operators =
 
 unfoldable pub operatorOf : ℕ → Suboperation
 operatorOf k = lookup k operators Undefined
+
+-- The table read the other way.
+abbrev pub monadicNumber : Monadic → ℕ
+monadicNumber Identity = 0
+monadicNumber Negative = 1
+monadicNumber Floor = 2
+monadicNumber Ceiling = 3
+monadicNumber Magnitude = 4
+monadicNumber Not = 5
+monadicNumber TestNumber = 6
+monadicNumber Convert = 7
+
+abbrev pub dyadicNumber : Dyadic → ℕ
+dyadicNumber Sum = 8
+dyadicNumber Difference = 9
+dyadicNumber Product = 10
+dyadicNumber Quotient = 11
+dyadicNumber LogicalProduct = 12
+dyadicNumber LogicalSum = 13
+dyadicNumber Less = 14
+dyadicNumber Equal = 15
+
+abbrev pub operatorNumber : Operator → ℕ
+operatorNumber (O.Monadic o) = monadicNumber o
+operatorNumber (O.Dyadic o) = dyadicNumber o

@@ -1,7 +1,10 @@
-// The sixteen operators of the GENSCALAR family, and which of them a suboperation number means.
+// The sixteen operators of the GENSCALAR family, and which of them a suboperation number means: by the manual's table, or by one that
+// is lent in its place.
 ghost use mathlib.Core.Path.{_≡_};
 ghost use Prim.Native.Nat.{_<_, _≤_};
-ghost use Rattle.operator.specs.Table.{operatorOf};
+ghost use Rattle.operator.specs.Table.{operatorOf, operatorNumber, monadicNumber, dyadicNumber};
+
+pub mod lent;
 
 // The operators of one operand.
 pub enum Monadic {
@@ -80,5 +83,45 @@ fn dyadic_of(number: u8) -> Dyadic
         13 => Dyadic::LogicalSum,
         14 => Dyadic::Less,
         _ => Dyadic::Equal,
+    }
+}
+
+// The suboperation number of an operator.
+pub fn number_of(op: Operator) -> u8
+    ensures { λ r. ⌜ (r ≡ operatorNumber op) × (r < 16) ⌝ }
+{
+    match op {
+        Operator::Monadic(m) => number_of_monadic(m),
+        Operator::Dyadic(d) => number_of_dyadic(d),
+    }
+}
+
+fn number_of_monadic(op: Monadic) -> u8
+    ensures { λ r. ⌜ (r ≡ monadicNumber op) × (r < 16) ⌝ }
+{
+    match op {
+        Monadic::Identity => 0,
+        Monadic::Negative => 1,
+        Monadic::Floor => 2,
+        Monadic::Ceiling => 3,
+        Monadic::Magnitude => 4,
+        Monadic::Not => 5,
+        Monadic::TestNumber => 6,
+        Monadic::Convert => 7,
+    }
+}
+
+fn number_of_dyadic(op: Dyadic) -> u8
+    ensures { λ r. ⌜ (r ≡ dyadicNumber op) × (r < 16) ⌝ }
+{
+    match op {
+        Dyadic::Sum => 8,
+        Dyadic::Difference => 9,
+        Dyadic::Product => 10,
+        Dyadic::Quotient => 11,
+        Dyadic::LogicalProduct => 12,
+        Dyadic::LogicalSum => 13,
+        Dyadic::Less => 14,
+        Dyadic::Equal => 15,
     }
 }

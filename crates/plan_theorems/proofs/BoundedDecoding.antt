@@ -44,8 +44,8 @@ bytes-selected : (selector : Bool) (regular alternate : List ℕ) → Bytes regu
 bytes-selected true regular alternate h k = k
 bytes-selected false regular alternate h k = h
 
-pub code-bytes : (f : Running) → Bytes (f .regular) → Bytes (f .alternate) → Bytes (codeIn f)
-code-bytes f h k = bytes-code (segmentOf f) (f .block) (bytes-selected (f .selector) (f .regular) (f .alternate) h k)
+pub code-bytes : (f : Running) → Bytes (f .program .regular) → Bytes (f .program .alternate) → Bytes (codeIn f)
+code-bytes f h k = bytes-code (segmentOf f) (f .block) (bytes-selected (f .selector) (f .program .regular) (f .program .alternate) h k)
 
 word-at : (code : List ℕ) → Bytes code → (i : ℕ) → wordAt code i < 2 ^ 32
 unfolding wordAt

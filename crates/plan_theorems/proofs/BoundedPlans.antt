@@ -14,9 +14,10 @@ use Rattle.manual.specs.Seen.{Seen, variablesOf}
 use Rattle.manual.specs.Loads.{isUndefined}
 use Rattle.manual.specs.Scalars.{resultSource}
 use Rattle.manual.specs.Control.{frameWord}
+use Rattle.manual.specs.Program.{underTable}
 use Rattle.manual.specs.Instructions.{Running, codeIn, headerOf, planOf, planDecoded}
 use Rattle.manual.specs.Cases.{Pushed, ofLoad, ofReference, ofTestDefined, ofUndefined, ofGetOrigin, ofShortConstant, ofConstantScalar, ofConstantVector}
-use Rattle.manual.proofs.Decoding.{Reads}
+use Rattle.manual.proofs.Decoding.{Reads, reads-under}
 use Rattle.manual.proofs.Cases.{plan-cases}
 use Rattle.scalar_theorems.specs.Validity.{Valid}
 use Rattle.segment.specs.Lent.{Words, Bytes}
@@ -74,5 +75,6 @@ module _ {s : List ℕ} {v : Seen} (f : Running) (h : Sees s (variablesOf (heade
       })
 
   pub planned-small : (d : Decoded) → SmallDecoded d → Given AllSmall (planDecoded f v d)
-  planned-small (D.Instruction i next) k = plan-small i k (next .0)
+  planned-small (D.Instruction i next) k =
+      plan-small (underTable (f .program .table) i) (reads-under (λ w. w < 2 ^ 32) (f .program .table) i k) (next .0)
   planned-small (D.Trap class number) k = tt

@@ -43,6 +43,6 @@ pub record BoundedTheorems : Type 0 where
   pub effect : (s : List ℕ) → Sound s → Words s → (e : Effect) → Fits s e → isFull s e ≡ false → Small e → Words (perform s e)
   pub effects : (s : List ℕ) → Sound s → Words s → (es : List Effect) → AllFit s es → OneRequest es → firstFull s es ≡ false → AllSmall es → Words (performs s es)
   -- of an instruction that is decoded: its words are those of the code
-  pub plan : (s : List ℕ) → Sound s → Words s → (f : Running) → Bytes (f .regular) → Bytes (f .alternate)
+  pub plan : (s : List ℕ) → Sound s → Words s → (f : Running) → Bytes (f .program .regular) → Bytes (f .program .alternate)
       → HasFrame s (variablesOf (headerOf f)) (headerOf f .result)
       → (place : ℕ) (es : List Effect) → planAt f (seen s) place ≡ gives es → AllSmall es

@@ -11,6 +11,7 @@ use Rattle.imports.specs.declared.parse.Parsed.the-variants as P
 use Rattle.imports.specs.Parsing.{parsed, Usable}
 use Rattle.imports.proofs.Files as reading
 use Rattle.acceptance.specs.Refusal.{refusal}
+use Rattle.manual.specs.Program.{Program}
 use Rattle.audit.specs.Calls.{procedures}
 use Rattle.audit.proofs.Load.{load-accepts}
 use Rattle.operations.specs.declared.Replayed.the-variants.{Done, Halted, Malformed}
@@ -41,10 +42,10 @@ module _ {told : Parsed} {place : ℕ} (within : Usable place told) where
 
 -- ---- what is done
 
-module _ (regular alternate file : List ℕ) where
+module _ (p : Program) (file : List ℕ) where
   -- the rest of the file
   abbrev pub From : ℕ → List ℕ → List ℕ → Replay
-  From place s counts = replayFrom regular alternate (recordsFrom file place) s counts
+  From place s counts = replayFrom p (recordsFrom file place) s counts
 
   -- A record at `place` returned `halt` and left the words `t` and the counts `after`; the next stands at `next`.
   pub record Returned (place : ℕ) (s counts : List ℕ) (next halt : ℕ) (t after : List ℕ) : Type 0 where
@@ -62,13 +63,13 @@ module _ (regular alternate file : List ℕ) where
 
       -- what the record returned, and what it left
       module _ (next : ℕ) {halt : ℕ} {t after : List ℕ} where
-        pub run-done : (budget : ℕ) → found (run budget) next ≡ recordAt file place → halt ≡ runHalt (ran s regular alternate budget .answer)
-            → t ≡ ran s regular alternate budget .words → after ≡ tallied s regular alternate budget counts → Returned place s counts next halt t after
+        pub run-done : (budget : ℕ) → found (run budget) next ≡ recordAt file place → halt ≡ runHalt (ran s p budget .answer)
+            → t ≡ ran s p budget .words → after ≡ tallied s p budget counts → Returned place s counts next halt t after
         unfolding replayFrom
         run-done budget is h w c = record { whole = rw (reading.one-record file place more (run budget) next (sym is), h, w, c) }
 
-        pub load-done : (g : ℕ) (lengths ravel : List ℕ) → found (load g lengths ravel) next ≡ recordAt file place → halt ≡ loadRefusal s regular alternate g lengths ravel
-            → t ≡ loaded s regular alternate g lengths ravel → after ≡ counts → Returned place s counts next halt t after
+        pub load-done : (g : ℕ) (lengths ravel : List ℕ) → found (load g lengths ravel) next ≡ recordAt file place → halt ≡ loadRefusal s (p .regular) (p .alternate) g lengths ravel
+            → t ≡ loaded s (p .regular) (p .alternate) g lengths ravel → after ≡ counts → Returned place s counts next halt t after
         unfolding replayFrom
         load-done g lengths ravel is h w c = record { whole = rw (reading.one-record file place more (load g lengths ravel) next (sym is), h, w, c) }
 

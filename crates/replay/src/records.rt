@@ -2,6 +2,7 @@
 ghost use mathlib.Core.Path.{_≡_};
 ghost use lib.ListN.{length};
 ghost use Rattle.imports.specs.Records.{recordsOf};
+ghost use Rattle.manual.specs.Program.{program};
 ghost use Rattle.operations.specs.Answers.{statusOf};
 ghost use Rattle.operations.specs.Load.{loadRefusal, loaded};
 ghost use Rattle.operations.specs.Run.{ran};
@@ -20,11 +21,12 @@ pub fn replay_records(
     seg: &mut [u32],
     regular: &[u8],
     alternate: &[u8],
+    table: &[u8],
     file: &[u8],
     counts: &mut [u32],
 ) -> Replayed
     ensures { λ r. ⌜ meaning.replay r (now (seg .exit)) (now (counts .exit))
-        ≡ meaning.replayFrom (now (regular .entry)) (now (alternate .entry)) (recordsOf (now (file .entry))) (now (seg .entry)) (now (counts .entry)) ⌝ }
+        ≡ meaning.replayFrom (program (now (regular .entry)) (now (alternate .entry)) (now (table .entry))) (recordsOf (now (file .entry))) (now (seg .entry)) (now (counts .entry)) ⌝ }
 {
     let mut lengths = [0u32; 15];
     let mut ravel = [0u32; 16384];
@@ -32,6 +34,7 @@ pub fn replay_records(
         seg,
         regular,
         alternate,
+        table,
         file,
         counts,
         &mut lengths,
@@ -45,6 +48,7 @@ fn one_by_one(
     seg: &mut [u32],
     regular: &[u8],
     alternate: &[u8],
+    table: &[u8],
     file: &[u8],
     counts: &mut [u32],
     lengths: &mut [u32],
@@ -52,7 +56,7 @@ fn one_by_one(
 ) -> Replayed
     requires { ⌜ (length (now lengths) ≡ 15) × (length (now ravel) ≡ 16384) ⌝ }
     ensures { λ r. ⌜ meaning.replay r (now (seg .exit)) (now (counts .exit))
-        ≡ meaning.replayFrom (now (regular .entry)) (now (alternate .entry)) (recordsOf (now (file .entry))) (now (seg .entry)) (now (counts .entry)) ⌝ }
+        ≡ meaning.replayFrom (program (now (regular .entry)) (now (alternate .entry)) (now (table .entry))) (recordsOf (now (file .entry))) (now (seg .entry)) (now (counts .entry)) ⌝ }
 {
     let mut tested = false;
     let mut place = 0;
@@ -62,7 +66,7 @@ fn one_by_one(
                 return Replayed::Malformed(place);
             }
             Parsed::Run { budget, next } => {
-                let halt = run_record(seg, regular, alternate, budget, counts);
+                let halt = run_record(seg, regular, alternate, table, budget, counts);
                 if halt != 0 {
                     return Replayed::Halted(halt, place);
                 }
@@ -100,15 +104,16 @@ fn run_record(
     seg: &mut [u32],
     regular: &[u8],
     alternate: &[u8],
+    table: &[u8],
     budget: u32,
     counts: &mut [u32],
 ) -> u8
-    ensures { λ r. ⌜ r ≡ meaning.runHalt (ran (now (seg .entry)) (now (regular .entry)) (now (alternate .entry)) budget .answer) ⌝ }
-    ensures { λ _. ⌜ now (seg .exit) ≡ ran (now (seg .entry)) (now (regular .entry)) (now (alternate .entry)) budget .words ⌝ }
+    ensures { λ r. ⌜ r ≡ meaning.runHalt (ran (now (seg .entry)) (program (now (regular .entry)) (now (alternate .entry)) (now (table .entry))) budget .answer) ⌝ }
+    ensures { λ _. ⌜ now (seg .exit) ≡ ran (now (seg .entry)) (program (now (regular .entry)) (now (alternate .entry)) (now (table .entry))) budget .words ⌝ }
     ensures { λ _. ⌜ now (counts .exit)
-        ≡ meaning.tallied (now (seg .entry)) (now (regular .entry)) (now (alternate .entry)) budget (now (counts .entry)) ⌝ }
+        ≡ meaning.tallied (now (seg .entry)) (program (now (regular .entry)) (now (alternate .entry)) (now (table .entry))) budget (now (counts .entry)) ⌝ }
 {
-    match run_tallied(seg, regular, alternate, budget, counts) {
+    match run_tallied(seg, regular, alternate, table, budget, counts) {
         Run::Done(_) => 0,
         Run::Trapped(_) => 3,
         Run::Refused(number) => number,

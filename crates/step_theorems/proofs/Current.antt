@@ -25,6 +25,7 @@ use Rattle.acceptance.specs.Structure.{Accepted}
 use Rattle.manual.specs.OrTrap.{gives}
 use Rattle.manual.specs.Effects.{Effect}
 use Rattle.manual.specs.Seen.{variablesOf, seenOf}
+use Rattle.manual.specs.Program.{Program, underTable}
 use Rattle.manual.specs.Instructions.{Running, running, headerOf, codeIn, planOf, planDecoded, planAt}
 use Rattle.effects.specs.Seen.{seen}
 use Rattle.effects.specs.Sound.{Sound}
@@ -78,14 +79,14 @@ unfolding functionOf known
 found regular alternate w h = rw (both (ltb w (2 ^ 28)) (hasFunction (frameSegment regular alternate w) (functionNumber w)) h .1)
 
 -- The function of the current frame.
-abbrev pub current-function : List ℕ → List ℕ → List ℕ → Running
-current-function s regular alternate =
-    let p = frameSegment regular alternate (codeWordAt s (lbase s)) in
-    running regular alternate (selectorOf s) (blockAt p (startOf p (currentFunction s)))
+abbrev pub current-function : List ℕ → Program → Running
+current-function s p =
+    let segment = frameSegment (p .regular) (p .alternate) (codeWordAt s (lbase s)) in
+    running p (selectorOf s) (blockAt segment (startOf segment (currentFunction s)))
 
-pub header-running : (s regular alternate : List ℕ) → headerIn regular alternate (view s) ≡ headerOf (current-function s regular alternate)
+pub header-running : (s : List ℕ) (p : Program) → headerIn (p .regular) (p .alternate) (view s) ≡ headerOf (current-function s p)
 unfolding currentHeader
-header-running s regular alternate = header-seen regular alternate s
+header-running s p = header-seen (p .regular) (p .alternate) s
 
 -- An instruction of which these effects are planned.
 pub record Decodes (s : List ℕ) (f : Running) (es : List Effect) : Type 0 where
@@ -94,9 +95,15 @@ pub record Decodes (s : List ℕ) (f : Running) (es : List Effect) : Type 0 wher
   pub byWords : planOf f (seen s) instruction next ≡ gives es
   pub byCells : planOf f (seenOf (length s - sbase s) (view s)) instruction next ≡ gives es
 
-module _ (s regular alternate : List ℕ) (h : Accepted s regular alternate) where
+module _ (s : List ℕ) (p : Program) (h : Accepted s (p .regular) (p .alternate)) where
+  abbrev regular : List ℕ
+  regular = p .regular
+
+  abbrev alternate : List ℕ
+  alternate = p .alternate
+
   abbrev f : Running
-  f = current-function s regular alternate
+  f = current-function s p
 
   function-there : functionOf (frameSegment regular alternate (codeWordAt s (lbase s))) (currentFunction s) ≡ F.At (f .block)
   function-there = found regular alternate (codeWordAt s (lbase s)) (function-known s regular alternate (h .older) (lbase s) (h .chain))
@@ -123,22 +130,22 @@ module _ (s regular alternate : List ℕ) (h : Accepted s regular alternate) whe
   abbrev place : ℕ
   place = pctr (codeWordAt s (lbase s))
 
-  plan-seen : planned s regular alternate ≡ planAt f (seenOf (length s - sbase s) (view s)) place
+  plan-seen : planned s p ≡ planAt f (seenOf (length s - sbase s) (view s)) place
   unfolding nextPlan
   plan-seen = rw (current s .frames, same-selector s, same-function s, function-there, same-selector s, current s .place)
 
-  pub plan-is : Sound s → planned s regular alternate ≡ planAt f (seen s) place
+  pub plan-is : Sound s → planned s p ≡ planAt f (seen s) place
   plan-is g = plan-seen ∙ sym (plans-theorems .decoded s g f runs place)
 
-  pub step-is : Sound s → stepOf regular alternate s ≡ settle regular alternate (headerOf f .rtntrace) (carry s (planned s regular alternate))
+  pub step-is : Sound s → stepOf p s ≡ settle regular alternate (headerOf f .rtntrace) (carry s (planned s p))
   unfolding stepOf stepIn
   step-is g = rw (plan-is g, function-there)
 
   -- where effects are planned, they are those of an instruction, by the words and by the view
-  pub decodes : Sound s → (es : List Effect) → planned s regular alternate ≡ gives es → Decodes s f es
+  pub decodes : Sound s → (es : List Effect) → planned s p ≡ gives es → Decodes s f es
   unfolding planAt
   decodes g es e = go (instructionAt (codeIn f) place) (sym (plan-is g) ∙ e) (sym plan-seen ∙ e)
     where
       go : (d : Decoded) → planDecoded f (seen s) d ≡ gives es → planDecoded f (seenOf (length s - sbase s) (view s)) d ≡ gives es → Decodes s f es
-      go (D.Instruction i next) p q = record { instruction = i; next = next .0; byWords = p; byCells = q }
-      go (D.Trap class number) p q = let z : _≡_ {A = ℕ} 0 1 = cc in absurd (omega arith)
+      go (D.Instruction i next) byWords byCells = record { instruction = underTable (p .table) i; next = next .0; byWords = byWords; byCells = byCells }
+      go (D.Trap class number) byWords byCells = let z : _≡_ {A = ℕ} 0 1 = cc in absurd (omega arith)

@@ -18,6 +18,7 @@ use Rattle.acceptance.specs.Structure.{Accepted}
 use Rattle.manual.specs.OrTrap.{gives, trap}
 use Rattle.manual.specs.Effects.{Effect, Plan}
 use Rattle.manual.specs.Seen.{seenOf}
+use Rattle.manual.specs.Program.{Program}
 use Rattle.manual.specs.Instructions.{Running, running}
 use Rattle.manual.specs.Traps.{listed}
 use Rattle.manual.proofs.Traps.{traps-listed}
@@ -42,21 +43,21 @@ pub record Known (s regular alternate : List ℕ) (es : List Effect) : Type 0 wh
   pub kept : KeepsLegal regular alternate (view s) es
   pub small : AllSmall es
 
-module _ (s regular alternate : List ℕ) (lent : Lent s regular alternate) (h : Accepted s regular alternate) where
+module _ (s : List ℕ) (p : Program) (lent : Lent s (p .regular) (p .alternate)) (h : Accepted s (p .regular) (p .alternate)) where
   abbrev f : Running
-  f = current-function s regular alternate
+  f = current-function s p
 
-  pub plan-known : (es : List Effect) → planned s regular alternate ≡ gives es → Known s regular alternate es
+  pub plan-known : (es : List Effect) → planned s p ≡ gives es → Known s (p .regular) (p .alternate) es
   plan-known es e =
       let sound = sound-of h in
-      let d = decodes s regular alternate h sound es e in
+      let d = decodes s p h sound es e in
       let i = d .instruction in
       record {
-        fitting = plans-fit .fitting s sound (lent .words) f (runs s regular alternate h) i (d .next) es (d .byWords);
+        fitting = plans-fit .fitting s sound (lent .words) f (runs s p h) i (d .next) es (d .byWords);
         first = plan-enters f (seen s) i (d .next) es (d .byWords);
-        kept = kept-theorems .kept (legal-theorems .split s regular alternate h .legal) (runs-in s regular alternate h) (length s - sbase s) i (d .next) (d .byCells);
-        small = bounded-theorems .plan s sound (lent .words) f (lent .regularBytes) (lent .otherBytes) (runs s regular alternate h)
-            (pctr (codeWordAt s (lbase s))) es (sym (plan-is s regular alternate h sound) ∙ e);
+        kept = kept-theorems .kept (legal-theorems .split s (p .regular) (p .alternate) h .legal) (runs-in s p h) (length s - sbase s) i (d .next) (d .byCells);
+        small = bounded-theorems .plan s sound (lent .words) f (lent .regularBytes) (lent .otherBytes) (runs s p h)
+            (pctr (codeWordAt s (lbase s))) es (sym (plan-is s p h sound) ∙ e);
       }
 
 -- ---- traps
@@ -68,7 +69,7 @@ trap-same a b class number h e =
     rw (c, n) at h
 
 -- every trap that is planned is one of the manual's list
-module _ (regular alternate : List ℕ) (words : ℕ) (m : Machine Cell) (class number : ℕ) where
+module _ (p : Program) (words : ℕ) (m : Machine Cell) (class number : ℕ) where
   abbrev Listed : Plan → Type 0
   Listed plan = plan ≡ trap class number → listed class number ≡ true
 
@@ -76,15 +77,15 @@ module _ (regular alternate : List ℕ) (words : ℕ) (m : Machine Cell) (class 
   unfolding listed
   no-code = trap-same 3 1 class number refl
 
-  found-listed : (r : Frame Cell) (f : Function) → Listed (planIn regular alternate words m r f)
+  found-listed : (r : Frame Cell) (f : Function) → Listed (planIn p words m r f)
   found-listed r (F.At block) =
-      traps-listed .atPlace (running regular alternate (frameSelector r) block) (seenOf words m) (traps-listed .machines words m) (r .pctr) .inTable class number
+      traps-listed .atPlace (running p (frameSelector r) block) (seenOf words m) (traps-listed .machines words m) (r .pctr) .inTable class number
   found-listed r F.Absent = no-code
 
-  frames-listed : (l : List (Frame Cell)) → Listed (planFrom regular alternate words m l)
+  frames-listed : (l : List (Frame Cell)) → Listed (planFrom p words m l)
   frames-listed [] = no-code
-  frames-listed (r ∷ older) = found-listed r (functionOf (frameSegment regular alternate (functionWord r)) (functionNumber (functionWord r)))
+  frames-listed (r ∷ older) = found-listed r (functionOf (frameSegment (p .regular) (p .alternate) (functionWord r)) (functionNumber (functionWord r)))
 
-  pub plan-listed : Listed (nextPlan regular alternate words m)
+  pub plan-listed : Listed (nextPlan p words m)
   unfolding nextPlan
   plan-listed = frames-listed (m .frames)

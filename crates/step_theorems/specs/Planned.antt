@@ -19,6 +19,7 @@ use Rattle.acceptance.specs.Frames.{frameSegment}
 use Rattle.manual.specs.OrTrap.{trap}
 use Rattle.manual.specs.Effects.{Plan}
 use Rattle.manual.specs.Seen.{seenOf}
+use Rattle.manual.specs.Program.{Program}
 use Rattle.manual.specs.Instructions.{running, planAt}
 use Rattle.legality.specs.Legal.{functionWord}
 
@@ -26,21 +27,21 @@ use Rattle.legality.specs.Legal.{functionWord}
 abbrev pub frameSelector : Frame Cell → Bool
 frameSelector r = eqb (stack.alternateBit (functionWord r)) 1
 
-abbrev pub planIn : List ℕ → List ℕ → ℕ → Machine Cell → Frame Cell → Function → Plan
-planIn regular alternate words m r (F.At block) = planAt (running regular alternate (frameSelector r) block) (seenOf words m) (r .pctr)
-planIn regular alternate words m r F.Absent = trap 3 1
+abbrev pub planIn : Program → ℕ → Machine Cell → Frame Cell → Function → Plan
+planIn p words m r (F.At block) = planAt (running p (frameSelector r) block) (seenOf words m) (r .pctr)
+planIn p words m r F.Absent = trap 3 1
 
-abbrev pub planFrom : List ℕ → List ℕ → ℕ → Machine Cell → List (Frame Cell) → Plan
-planFrom regular alternate words m [] = trap 3 1
-planFrom regular alternate words m (r ∷ older) = planIn regular alternate words m r (functionOf (frameSegment regular alternate (functionWord r)) (functionNumber (functionWord r)))
+abbrev pub planFrom : Program → ℕ → Machine Cell → List (Frame Cell) → Plan
+planFrom p words m [] = trap 3 1
+planFrom p words m (r ∷ older) = planIn p words m r (functionOf (frameSegment (p .regular) (p .alternate) (functionWord r)) (functionNumber (functionWord r)))
 
 -- On a stack of `words` words.
-unfoldable pub nextPlan : List ℕ → List ℕ → ℕ → Machine Cell → Plan
-nextPlan regular alternate words m = planFrom regular alternate words m (m .frames)
+unfoldable pub nextPlan : Program → ℕ → Machine Cell → Plan
+nextPlan p words m = planFrom p words m (m .frames)
 
 -- The plan of the next instruction, by the view of the segment.
-abbrev pub planned : List ℕ → List ℕ → List ℕ → Plan
-planned s regular alternate = nextPlan regular alternate (length s - sbase s) (view s)
+abbrev pub planned : List ℕ → Program → Plan
+planned s p = nextPlan p (length s - sbase s) (view s)
 
 -- The header of the current frame's function. A machine has at least one frame.
 abbrev pub headerFrom : List ℕ → List ℕ → List (Frame Cell) → Header

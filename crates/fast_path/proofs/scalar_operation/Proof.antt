@@ -5,8 +5,8 @@ use borrow.Author.Needs.{needs}
 use Rattle.fast_path.proofs.scalar_operation.Statement.{statement}
 use Rattle.fast_path.proofs.scalar_operation.Tie as tie
 
-operator-of-requires : tie.Need-operator-of-requires
-operator-of-requires c κs = search needs
+operator-under-requires : tie.Need-operator-under-requires
+operator-under-requires c κs = search needs
 
 enum-known-operator : tie.Need-enum-known-operator
 enum-known-operator c = search needs
@@ -36,19 +36,19 @@ same-length : tie.Need-same-length
 same-length c = search needs
 
 returns-2 : tie.Need-returns-2
-returns-2 c = let k = c .before .before .before .before .before .before .before in λ f. λ of. dyadic-by _ f _ (sym (k .before .before .before .before .operator-of .ensures) ∙ k .before .before .operator .given .1) (k .after .ensures) (c .before .before .before .before .before .operator2 .given .1) (c .before .before .dyadic .ensures)
+returns-2 c = let k = c .before .before .before .before .before .before .before in λ f. λ lent. dyadic-by _ f _ _ lent (sym (k .before .before .before .before .operator-under .ensures) ∙ k .before .before .operator .given .1) (k .after .ensures) (c .before .before .before .before .before .operator2 .given .1) (c .before .before .dyadic .ensures)
 
 same-length-2 : tie.Need-same-length-2
 same-length-2 c = search needs
 
 returns-3 : tie.Need-returns-3
-returns-3 c = let k = c .before .before .before .before .before .before .before in λ f. λ of. monadic-by _ f _ (sym (k .before .before .before .before .operator-of .ensures) ∙ k .before .before .operator .given .1) (k .after .ensures) (c .before .before .before .before .before .operator3 .given .1) (c .before .before .monadic .ensures)
+returns-3 c = let k = c .before .before .before .before .before .before .before in λ f. λ lent. monadic-by _ f _ _ lent (sym (k .before .before .before .before .operator-under .ensures) ∙ k .before .before .operator .given .1) (k .after .ensures) (c .before .before .before .before .before .operator3 .given .1) (c .before .before .monadic .ensures)
 
 pub scalar-operation-spec : {M : Type 1} → statement M
 scalar-operation-spec =
     tie.close
     (tie.spec
-    operator-of-requires
+    operator-under-requires
     enum-known-operator
     enum-told
     returns

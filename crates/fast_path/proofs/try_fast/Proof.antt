@@ -94,7 +94,7 @@ same-length : tie.Need-same-length
 same-length c = search needs
 
 returns-3 : tie.Need-returns-3
-returns-3 c = let k = c .before .before .before .before .before .before .before .before in λ f. λ of. short-local-at _ f _ _ (k .before .before .before .before .number .ensures) (k .before .before .before .if1 .left) (k .before .before .if2 .left) refl (k .family-of .ensures) (c .before .before .before .before .before .before .enum-told .given .1) (c .before .before .before .before .variables .ensures ∙ ap variablesOf (sym of)) (c .before .before .before .after .ensures) (c .before .before .load-local .ensures)
+returns-3 c = let k = c .before .before .before .before .before .before .before .before in λ f. λ of. short-local-at _ f _ _ (k .before .before .before .before .number .ensures) (k .before .before .before .if1 .left) (k .before .before .if2 .left) refl (k .family-of .ensures) (c .before .before .before .before .before .before .enum-told .given .1) (c .before .before .before .before .variables .ensures ∙ ap variablesOf (sym (of .0))) (c .before .before .before .after .ensures) (c .before .before .load-local .ensures)
 
 same-length-2 : tie.Need-same-length-2
 same-length-2 c = search needs
@@ -106,31 +106,31 @@ same-length-3 : tie.Need-same-length-3
 same-length-3 c = search needs
 
 returns-5 : tie.Need-returns-5
-returns-5 c = let k = c .before .before .before .before .before .before in λ f. λ of. scalar-at _ f _ _ (k .before .before .before .before .number .ensures) (k .before .before .before .if1 .left) (k .before .before .if2 .left) refl (k .family-of .ensures) (c .before .before .before .before .enum-told3 .given .1) (c .before .before .scalar-operation .ensures f tt)
+returns-5 c = let k = c .before .before .before .before .before .before in λ f. λ of. scalar-at _ f _ _ (k .before .before .before .before .number .ensures) (k .before .before .before .if1 .left) (k .before .before .if2 .left) refl (k .family-of .ensures) (c .before .before .before .before .enum-told3 .given .1) (c .before .before .scalar-operation .ensures f (of .1))
 
 same-length-4 : tie.Need-same-length-4
 same-length-4 c = search needs
 
 returns-6 : tie.Need-returns-6
-returns-6 c = let k = c .before .before .before .before .before .before .before .before in λ f. λ of. memory-at _ f _ _ (k .before .before .before .before .number .ensures) (k .before .before .before .if1 .left) (k .before .before .if2 .left) refl (k .family-of .ensures) (c .before .before .before .before .before .before .enum-told4 .given .1) (c .before .before .before .memory-of .ensures) (c .before .before .memory .ensures f (ap variablesOf of ∙ sym (c .before .before .before .before .variables2 .ensures)))
+returns-6 c = let k = c .before .before .before .before .before .before .before .before in λ f. λ of. memory-at _ f _ _ (k .before .before .before .before .number .ensures) (k .before .before .before .if1 .left) (k .before .before .if2 .left) refl (k .family-of .ensures) (c .before .before .before .before .before .before .enum-told4 .given .1) (c .before .before .before .memory-of .ensures) (c .before .before .memory .ensures f (ap variablesOf (of .0) ∙ sym (c .before .before .before .before .variables2 .ensures)))
 
 same-length-5 : tie.Need-same-length-5
 same-length-5 c = search needs
 
 returns-7 : tie.Need-returns-7
-returns-7 c = let k = c .before .before .before .before .before .before in λ f. λ of. etc-at _ f _ _ (k .before .before .before .before .number .ensures) (k .before .before .before .if1 .left) (k .before .before .if2 .left) refl (k .family-of .ensures) (c .before .before .before .before .enum-told5 .given .1) (c .before .before .etc .ensures f of)
+returns-7 c = let k = c .before .before .before .before .before .before in λ f. λ of. etc-at _ f _ _ (k .before .before .before .before .number .ensures) (k .before .before .before .if1 .left) (k .before .before .if2 .left) refl (k .family-of .ensures) (c .before .before .before .before .enum-told5 .given .1) (c .before .before .etc .ensures f (of .0))
 
 same-length-6 : tie.Need-same-length-6
 same-length-6 c = search needs
 
 returns-8 : tie.Need-returns-8
-returns-8 c = let k = c .before .before .before .before .before .before .before in λ f. λ of. long-local-at _ f _ _ (k .before .before .before .before .number .ensures) (k .before .before .before .if1 .left) (k .before .before .if2 .left) refl (k .family-of .ensures) (c .before .before .before .before .before .enum-told6 .given .1) (c .before .before .load-long .ensures f (ap variablesOf of ∙ sym (c .before .before .before .variables3 .ensures)))
+returns-8 c = let k = c .before .before .before .before .before .before .before in λ f. λ of. long-local-at _ f _ _ (k .before .before .before .before .number .ensures) (k .before .before .before .if1 .left) (k .before .before .if2 .left) refl (k .family-of .ensures) (c .before .before .before .before .before .enum-told6 .given .1) (c .before .before .load-long .ensures f (ap variablesOf (of .0) ∙ sym (c .before .before .before .variables3 .ensures)))
 
 same-length-7 : tie.Need-same-length-7
 same-length-7 c = search needs
 
 returns-9 : tie.Need-returns-9
-returns-9 c = let k = c .before .before .before .before .before .before .before in λ f. λ of. long-global-at _ f _ _ (k .before .before .before .before .number .ensures) (k .before .before .before .if1 .left) (k .before .before .if2 .left) refl (k .family-of .ensures) (c .before .before .before .before .before .enum-told7 .given .1) (c .before .before .load-long2 .ensures f (ap variablesOf of ∙ sym (c .before .before .before .variables4 .ensures)))
+returns-9 c = let k = c .before .before .before .before .before .before .before in λ f. λ of. long-global-at _ f _ _ (k .before .before .before .before .number .ensures) (k .before .before .before .if1 .left) (k .before .before .if2 .left) refl (k .family-of .ensures) (c .before .before .before .before .before .enum-told7 .given .1) (c .before .before .load-long2 .ensures f (ap variablesOf (of .0) ∙ sym (c .before .before .before .variables4 .ensures)))
 
 returns-10 : tie.Need-returns-10
 returns-10 c = λ f. λ of. left

@@ -1,4 +1,4 @@
--- `replay::replay` meets its contract: a walk of its MIR, by hand. The four slices go to `replay_all` for good; the borrow of the tally is opened, and closed at the tally of no counts; it then goes to `add` for good, with the counts that `replay_all` answered.
+-- `replay::replay` meets its contract: a walk of its MIR, by hand. The five slices go to `replay_all` for good; the borrow of the tally is opened, and closed at the tally of no counts; it then goes to `add` for good, with the counts that `replay_all` answered.
 -- All that the proof knows of the three callees is that each meets its contract.
 -- Assumes nothing.
 use mathlib.Core.Path.{_≡_, refl, ap}
@@ -58,7 +58,7 @@ use Rattle.reader.proofs.Calling.{answers-plain}
 use Rattle.reader.proofs.Locals.{Typed, free}
 use Rattle.replay.specs.declared.Week.{Week}
 use Rattle.replay.proofs.Giving.{gives, ensures, states, beside}
-use Rattle.replay.proofs.Parting.{four, fifth, with, Slices, val, vals, slices, all as lent, tokens-apart, tokens-together, stays, all-go, owned-apart}
+use Rattle.replay.proofs.Parting.{five, sixth, with, Slices, val, vals, slices, all as lent, tokens-apart, tokens-together, stays, all-go, owned-apart}
 use Rattle.replay.proofs.Telling.{Told, promised, summed}
 use Rattle.replay.proofs.Week as K
 use Rattle.replay.proofs.Week.Laws as K′
@@ -72,7 +72,7 @@ use Rattle.replay.proofs.replay.Statement as stated
 use Rattle.replay.proofs.replay.Code as code
 
 abbrev stayed : Stays (replay.ended .signature .params) (replay.ended .kept)
-stayed = stays (mutRefTo (4 ∷ []) tt (plain (λ _. T.the-row))) (gave-ref (4 ∷ []) tt (plain (λ _. T.the-row)))
+stayed = stays (mutRefTo (5 ∷ []) tt (plain (λ _. T.the-row))) (gave-ref (5 ∷ []) tt (plain (λ _. T.the-row)))
 
 module _ {M : Type 1} (𝓤 : URA M) (H : Heap 𝓤) (A : Atoms 𝓤) (mem : Memory → SProp 𝓤) (run : Routine → Fun 𝓤) where
   -- the contracts that the proof cites
@@ -95,7 +95,7 @@ answer-is w {u} is = LL.owed K.the-type K′.the-laws w (u ∷ []) is .0
 tally-is : (w : Week) {u : Val} → Is K.the-row w (u ∷ []) → Is T.the-row (w .tally) (T′.lowered (w .tally) ∷ [])
 tally-is w {u} is = LL.owed K.the-type K′.the-laws w (u ∷ []) is .1 .0
 
-module _ {M : Type 1} (𝓤 : URA M) (H : Heap 𝓤) (A : Atoms 𝓤) (W : Given 𝓤 H A) (at-mem : Memory → SProp 𝓤) (run : Routine → Fun 𝓤) (κs : Lfts 5) (qs : Shares 5) (x : Slices) (b o : ℕ) (γ : GName) (h : Tally) where
+module _ {M : Type 1} (𝓤 : URA M) (H : Heap 𝓤) (A : Atoms 𝓤) (W : Given 𝓤 H A) (at-mem : Memory → SProp 𝓤) (run : Routine → Fun 𝓤) (κs : Lfts 6) (qs : Shares 6) (x : Slices) (b o : ℕ) (γ : GName) (h : Tally) where
   abbrev ref : Tally → RefT Tally
   ref t = record { ptr = (b, o); name = γ; now = t }
 
@@ -107,7 +107,7 @@ module _ {M : Type 1} (𝓤 : URA M) (H : Heap 𝓤) (A : Atoms 𝓤) (W : Given
 
   -- what is left of the last calls of `add` and of `replay_all`
   abbrev Left : Week → Tally → Tally → List ℕ → List (Item 𝓤)
-  Left w z t s = ‵ (lasts add.ended (fifth κs, tt) (ref z, (w .tally, tt)) (t, (tt, tt))) ∷ (‵ (flft (fifth κs) (fifth qs)) ⊛ ‵ ftrue) ∷ ‵ (lasts all.ended (four κs) x (s, (tt, (tt, (tt, tt))))) ∷ raw (alive 𝓤 H A all.signature (four κs) (four qs)) ∷ []
+  Left w z t s = ‵ (lasts add.ended (sixth κs, tt) (ref z, (w .tally, tt)) (t, (tt, tt))) ∷ (‵ (flft (sixth κs) (sixth qs)) ⊛ ‵ ftrue) ∷ ‵ (lasts all.ended (five κs) x (s, (tt, (tt, (tt, (tt, tt)))))) ∷ raw (alive 𝓤 H A all.signature (five κs) (five qs)) ∷ []
 
   exits : (w : Week) (z t : Tally) (s : List ℕ) → Told x (w .answer) s t → Is E.the-row (w .answer) (told (w .answer) ∷ []) → ent 𝓤 (⋆ 𝓤 H A (Left w z t s)) (Post (told (w .answer)))
   exits w z t s e is =
@@ -115,12 +115,12 @@ module _ {M : Type 1} (𝓤 : URA M) (H : Heap 𝓤) (A : Atoms 𝓤) (W : Given
       fsplit ! $ move ! (1 ∷ []) $ drop ! $ move ! (2 ∷ []) $ fsplit ! $ fsplit ! $ move ! (1 ∷ []) $ feqL ! (λ same. move ! (1 ∷ []) $ drop ! $ move ! (2 ∷ []) $ split ! $ move ! (1 ∷ []) $ drop ! $
       -- [the tally's token; the last words; the last tally; the other tokens]
       move ! (3 ∷ 0 ∷ []) $ use2 W (raw (alive 𝓤 H A replay.signature κs qs)) (tokens-together 𝓤 H A W κs qs) $
-      suffices ! _ (ends-at 𝓤 H A replay.ended stayed (replay.clauses 𝓤 H A at-mem run) W y (told (w .answer)) (w .answer) (s, (tt, (tt, (tt, (t, tt))))) (same, (tt, (tt, (tt, (tt, tt)))))) $ ensures ! (beside 𝓤 (states 𝓤 e) (states 𝓤 (promised x (w .answer) s t e))) $ frame ! $
-      nothing ! $ move ! (2 ∷ 0 ∷ []) $ fjoin ! $ nothing ! $ fjoin ! $ nothing ! $ fjoin ! $ nothing ! $ fjoin ! $ move ! (1 ∷ 0 ∷ []) $ fjoin ! $ frame ! $ owned ! E.the-row (Is E.the-row) (EL.makes E.the-type E′.the-plain 𝓤 H A) (w .answer) _ is $ done !)
+      suffices ! _ (ends-at 𝓤 H A replay.ended stayed (replay.clauses 𝓤 H A at-mem run) W y (told (w .answer)) (w .answer) (s, (tt, (tt, (tt, (tt, (t, tt)))))) (same, (tt, (tt, (tt, (tt, (tt, tt))))))) $ ensures ! (beside 𝓤 (states 𝓤 e) (states 𝓤 (promised x (w .answer) s t e))) $ frame ! $
+      nothing ! $ move ! (2 ∷ 0 ∷ []) $ fjoin ! $ nothing ! $ fjoin ! $ nothing ! $ fjoin ! $ nothing ! $ fjoin ! $ nothing ! $ fjoin ! $ move ! (1 ∷ 0 ∷ []) $ fjoin ! $ frame ! $ owned ! E.the-row (Is E.the-row) (EL.makes E.the-type E′.the-plain 𝓤 H A) (w .answer) _ is $ done !)
 
   module _ (C : Calls 𝓤 H) (Λ : Loops 𝓤 H) (fm : FmC 𝓤 H (W .laws) C) (known-all : Triple 𝓤 (C #all) (All 𝓤 H A at-mem run)) (known-zero : Triple 𝓤 (C #zero) (Zero 𝓤 H A at-mem run)) (known-add : Triple 𝓤 (C #add) (Add 𝓤 H A at-mem run)) (room : Room u32 (length (x .0 .now))) where
     -- the types of locals: an answer, a tally, the other slices, and what the borrow refers to
-    module _ (tr tv t₂ t₃ t₄ tb tp : Ty) (ν : Sym) (typed-r : Typed E.the-row tr) (typed-v : Typed T.the-row tv) (typed-w : Typed K.the-row (tyStruct ν (tcons tr (tcons tv tnil)))) (l₀ l₁ l₂ l₃ l₄ l₅ l₆ l₇ l₈ l₉ l₁₀ l₁₁ : ℕ) where
+    module _ (tr tv t₂ t₃ t₄ t₅ tb tp : Ty) (ν : Sym) (typed-r : Typed E.the-row tr) (typed-v : Typed T.the-row tv) (typed-w : Typed K.the-row (tyStruct ν (tcons tr (tcons tv tnil)))) (l₀ l₁ l₂ l₃ l₄ l₅ l₆ l₇ l₈ l₉ l₁₀ l₁₁ l₁₂ : ℕ) where
       abbrev tw : Ty
       tw = tyStruct ν (tcons tr (tcons tv tnil))
 
@@ -128,73 +128,75 @@ module _ {M : Type 1} (𝓤 : URA M) (H : Heap 𝓤) (A : Atoms 𝓤) (W : Given
       ts ℓ = lone (MutSlice ℓ (κs .0) u32 .mir)
 
       abbrev En : Env 𝓤 H
-      En = (tr, l₀) ∷ (ts (named 0), l₁) ∷ (t₂, l₂) ∷ (t₃, l₃) ∷ (t₄, l₄) ∷ (tb, l₅) ∷ (tw, l₆) ∷ (tyRef erased mut (tyInt w32), l₇) ∷ (ts erased, l₈) ∷ (tv, l₉) ∷ (tyUnit, l₁₀) ∷ (tyRef erased mut tp, l₁₁) ∷ []
+      En = (tr, l₀) ∷ (ts (named 0), l₁) ∷ (t₂, l₂) ∷ (t₃, l₃) ∷ (t₄, l₄) ∷ (t₅, l₅) ∷ (tb, l₆) ∷ (tw, l₇) ∷ (tyRef erased mut (tyInt w32), l₈) ∷ (ts erased, l₉) ∷ (tv, l₁₀) ∷ (tyUnit, l₁₁) ∷ (tyRef erased mut tp, l₁₂) ∷ []
 
       abbrev Start : List (Item 𝓤)
-      Start = raw (alive 𝓤 H A all.signature (four κs) (four qs)) ∷ ‵ (slices (four κs) x) ∷ ‵ (flft (fifth κs) (fifth qs)) ∷ ‵ (MutRef (named 4) (fifth κs) T.the-row .own (ref h) (vptr b o ∷ []))
-          ∷ free ((tyRef erased mut tp, l₁₁) ∷ (tyUnit, l₁₀) ∷ (tv, l₉) ∷ (ts erased, l₈) ∷ (tyRef erased mut (tyInt w32), l₇) ∷ (tw, l₆) ∷ [])
-          (‵ (fat fullShare tb l₅ 0 (vptr b o)) ∷ ‵ (fdies tb l₅) ∷ ‵ (fat fullShare t₄ l₄ 0 (val (x .1 .1 .1 .0))) ∷ ‵ (fdies t₄ l₄) ∷ ‵ (fat fullShare t₃ l₃ 0 (val (x .1 .1 .0))) ∷ ‵ (fdies t₃ l₃)
+      Start = raw (alive 𝓤 H A all.signature (five κs) (five qs)) ∷ ‵ (slices (five κs) x) ∷ ‵ (flft (sixth κs) (sixth qs)) ∷ ‵ (MutRef (named 5) (sixth κs) T.the-row .own (ref h) (vptr b o ∷ []))
+          ∷ free ((tyRef erased mut tp, l₁₂) ∷ (tyUnit, l₁₁) ∷ (tv, l₁₀) ∷ (ts erased, l₉) ∷ (tyRef erased mut (tyInt w32), l₈) ∷ (tw, l₇) ∷ [])
+          (‵ (fat fullShare tb l₆ 0 (vptr b o)) ∷ ‵ (fdies tb l₆) ∷ ‵ (fat fullShare t₅ l₅ 0 (val (x .1 .1 .1 .1 .0))) ∷ ‵ (fdies t₅ l₅) ∷ ‵ (fat fullShare t₄ l₄ 0 (val (x .1 .1 .1 .0))) ∷ ‵ (fdies t₄ l₄) ∷ ‵ (fat fullShare t₃ l₃ 0 (val (x .1 .1 .0))) ∷ ‵ (fdies t₃ l₃)
           ∷ ‵ (fat fullShare t₂ l₂ 0 (val (x .1 .0))) ∷ ‵ (fdies t₂ l₂) ∷ ‵ (fat fullShare (ts (named 0)) l₁ 0 (val (x .0))) ∷ ‵ (fdies (ts (named 0)) l₁) ∷ ‵ (froom tr l₀ 0) ∷ ‵ (fdies tr l₀) ∷ [])
 
       steps : Sq W Start (runs C Λ En code.Mir.t-1 (atRet En Post))
       steps =
           -- the segment is lent on, and `replay_all` is called
-          assigns ! (addr ! (from ! (fld ! refl (hop ! (look-in ! 24 (sub ! 0 refl (whole !))) (stop !))))) (from ! (stop !)) (init ! 12 refl (tt, tt)) $
-          assigns ! (agg ! (and-then ! (load ! (from ! (stop !)) (look ! 12 refl)) (and-then ! (load ! (from ! (fld ! refl (stop !))) (look-in ! 24 (sub ! 1 refl (whole !)))) (no-more !)))) (from ! (stop !)) (init ! 10 refl (tt, (tt, (record { fits = room .0 }, tt)))) $
-          gives ! fm all.ended (all.clauses 𝓤 H A at-mem run) known-all (four κs, four qs, tt, x, vals x) tt (id⊢ 𝓤 _)
-          (and-then ! (load ! (from ! (stop !)) (look ! 9 refl)) (and-then ! (load ! (from ! (stop !)) (look ! 21 refl)) (and-then ! (load ! (from ! (stop !)) (look ! 19 refl)) (and-then ! (load ! (from ! (stop !)) (look ! 17 refl)) (no-more !)))))
+          assigns ! (addr ! (from ! (fld ! refl (hop ! (look-in ! 26 (sub ! 0 refl (whole !))) (stop !))))) (from ! (stop !)) (init ! 12 refl (tt, tt)) $
+          assigns ! (agg ! (and-then ! (load ! (from ! (stop !)) (look ! 12 refl)) (and-then ! (load ! (from ! (fld ! refl (stop !))) (look-in ! 26 (sub ! 1 refl (whole !)))) (no-more !)))) (from ! (stop !)) (init ! 10 refl (tt, (tt, (record { fits = room .0 }, tt)))) $
+          gives ! fm all.ended (all.clauses 𝓤 H A at-mem run) known-all (five κs, five qs, tt, x, vals x) tt (id⊢ 𝓤 _)
+          (and-then ! (load ! (from ! (stop !)) (look ! 9 refl)) (and-then ! (load ! (from ! (stop !)) (look ! 23 refl)) (and-then ! (load ! (from ! (stop !)) (look ! 21 refl)) (and-then ! (load ! (from ! (stop !)) (look ! 19 refl)) (and-then ! (load ! (from ! (stop !)) (look ! 17 refl)) (no-more !))))))
           (λ w ws. Told x (w .answer) (ws .0) (added (tallyOf noneCounted) (w .tally))) (λ w ws. id⊢ 𝓤 _) (λ u w ws e is.
-          land ! (from ! (stop !)) (init ! 14 refl (typed-w w _ is)) $ rewrite ! 14 (λ (v : Val). ‵ (fat fullShare tw l₆ 0 v)) (ap only (LL.tells K.the-type K′.the-laws w _ is)) refl $
+          land ! (from ! (stop !)) (init ! 14 refl (typed-w w _ is)) $ rewrite ! 14 (λ (v : Val). ‵ (fat fullShare tw l₇ 0 v)) (ap only (LL.tells K.the-type K′.the-laws w _ is)) refl $
           -- `zero` is called
           nothing ! $ answers-plain ! fm zero.ended (zero.clauses 𝓤 H A at-mem run) known-zero (tt, tt, tt, tt, tt) tt (id⊢ 𝓤 _) (id⊢ 𝓤 _) (no-more !) (λ z. z ≡ tallyOf noneCounted) (λ z ws. id⊢ 𝓤 _) (λ v z none is₀.
           land ! (from ! (stop !)) (init ! 8 refl (typed-v z _ is₀)) $
-          -- [what `replay_all` left; its tokens; the tally's token; the borrow; _11; …]: the borrow is opened, and closed at no counts
+          -- [what `replay_all` left; its tokens; the tally's token; the borrow; _12; …]: the borrow is opened, and closed at no counts
           move ! (3 ∷ 2 ∷ []) $ fsplit3 ! $ drop ! $
           opens ! tt T.the-row {h = h} b o (λ vs. spelt ! T.the-row (Is T.the-row) (shows 𝓤 H A T.the-row) (LL.vals T.the-type T′.the-laws) (LL.tells T.the-type T′.the-laws) fullShare h vs b o $
           use1 W (‵ (fat fullShare T′.mir b o (T′.lowered h))) (W .laws .raw-at fullShare T′.mir b o (T′.lowered h)) $ move ! (1 ∷ []) $ drop ! $
           assigns ! (of-opd ! (load ! (from ! (stop !)) (look ! 10 refl))) (from ! (hop ! (look ! 18 refl) (stop !))) (store ! 0 refl (LL.lawful T.the-type T′.the-laws 𝓤 H A W .typed z (v ∷ []) is₀ .0)) $
           use1 W (‵ (cellAt fullShare (T.the-row .mir) (v ∷ []) b o)) (W .laws .at-raw fullShare T′.mir b o v) $
           owned ! T.the-row (Is T.the-row) (LL.makes T.the-type T′.the-plain 𝓤 H A) z _ is₀ $ move ! (1 ∷ 0 ∷ []) $ closes ! tt T.the-row z (v ∷ []) b o $
-          -- [obs; the borrow; its token; what `replay_all` left; its tokens; _11; …]: the tally is lent on, and `add` is called
+          -- [obs; the borrow; its token; what `replay_all` left; its tokens; _12; …]: the tally is lent on, and `add` is called
           assigns ! (addr ! (from ! (hop ! (look ! 17 refl) (stop !)))) (from ! (stop !)) (init ! 5 refl (tt, tt)) $
           feqI ! (List Val) (vptr b o ∷ []) (vptr b o ∷ []) refl $ fjoin3 ! $ nothing ! $ owned ! T.the-row (Is T.the-row) (LL.makes T.the-type T′.the-plain 𝓤 H A) (w .tally) _ (tally-is w is) $ fjoin ! $ move ! (1 ∷ 0 ∷ []) $ fjoin ! $
-          nothing ! $ move ! (2 ∷ 0 ∷ []) $ join ! $ use1 W (raw (alive 𝓤 H A add.signature (fifth κs, tt) (fifth qs, tt))) (id⊢ 𝓤 _) $
-          gives ! fm add.ended (add.clauses 𝓤 H A at-mem run) known-add ((fifth κs, tt), (fifth qs, tt), tt, (ref z, (w .tally, tt)), (vptr b o ∷ [], (T′.lowered (w .tally) ∷ [], tt))) tt (id⊢ 𝓤 _)
+          nothing ! $ move ! (2 ∷ 0 ∷ []) $ join ! $ use1 W (raw (alive 𝓤 H A add.signature (sixth κs, tt) (sixth qs, tt))) (id⊢ 𝓤 _) $
+          gives ! fm add.ended (add.clauses 𝓤 H A at-mem run) known-add ((sixth κs, tt), (sixth qs, tt), tt, (ref z, (w .tally, tt)), (vptr b o ∷ [], (T′.lowered (w .tally) ∷ [], tt))) tt (id⊢ 𝓤 _)
           (and-then ! (load ! (from ! (stop !)) (look ! 3 refl)) (and-then ! (load ! (from ! (fld ! refl (stop !))) (look-in ! 13 (sub ! 1 refl (whole !)))) (no-more !)))
           (λ _ ts. ts .0 ≡ added z (w .tally)) (λ _ ts. id⊢ 𝓤 _) (λ v′ _ ts sum is₁.
           land ! (from ! (stop !)) (init ! 6 refl (nothing-lawful 𝓤 H A W .typed tt (v′ ∷ []) is₁ .0)) $
-          assigns ! (of-opd ! (load ! (from ! (fld ! refl (stop !))) (look-in ! 14 (sub ! 0 refl (whole !))))) (from ! (stop !)) (init ! 26 refl (typed-r (w .answer) _ (answer-is w is))) $
-          returns ! (look ! 26 refl) $ forget ! 4 refl $ forget ! 6 refl $ forget ! 8 refl $ forget ! 10 refl $ forget ! 12 refl $ forget ! 14 refl $ forget ! 16 refl $ forget ! 18 refl $ forget ! 20 refl $ forget ! 22 refl $ forget ! 24 refl $ forget ! 26 refl $
-          move ! (26 ∷ 27 ∷ []) $ free1 ! $ move ! (24 ∷ 25 ∷ []) $ free1 ! $ move ! (22 ∷ 23 ∷ []) $ free1 ! $ move ! (20 ∷ 21 ∷ []) $ free1 ! $ move ! (18 ∷ 19 ∷ []) $ free1 ! $ move ! (16 ∷ 17 ∷ []) $ free1 ! $
+          assigns ! (of-opd ! (load ! (from ! (fld ! refl (stop !))) (look-in ! 14 (sub ! 0 refl (whole !))))) (from ! (stop !)) (init ! 28 refl (typed-r (w .answer) _ (answer-is w is))) $
+          returns ! (look ! 28 refl) $ forget ! 4 refl $ forget ! 6 refl $ forget ! 8 refl $ forget ! 10 refl $ forget ! 12 refl $ forget ! 14 refl $ forget ! 16 refl $ forget ! 18 refl $ forget ! 20 refl $ forget ! 22 refl $ forget ! 24 refl $ forget ! 26 refl $ forget ! 28 refl $
+          move ! (28 ∷ 29 ∷ []) $ free1 ! $ move ! (26 ∷ 27 ∷ []) $ free1 ! $ move ! (24 ∷ 25 ∷ []) $ free1 ! $ move ! (22 ∷ 23 ∷ []) $ free1 ! $ move ! (20 ∷ 21 ∷ []) $ free1 ! $ move ! (18 ∷ 19 ∷ []) $ free1 ! $ move ! (16 ∷ 17 ∷ []) $ free1 ! $
           move ! (14 ∷ 15 ∷ []) $ free1 ! $ move ! (12 ∷ 13 ∷ []) $ free1 ! $ move ! (10 ∷ 11 ∷ []) $ free1 ! $ move ! (8 ∷ 9 ∷ []) $ free1 ! $ move ! (6 ∷ 7 ∷ []) $ free1 ! $ move ! (4 ∷ 5 ∷ []) $ free1 ! $ free0 ! $
           by ! (exits w z (ts .0) (ws .0) (summed x (w .answer) (ws .0) z (ts .0) (w .tally) e none sum) (answer-is w is))))))
 
     walk : Is (MutSlice (named 0) (κs .0) u32) (x .0) (val (x .0) ∷ []) → Is (ShrSlice (named 1) (κs .1 .0) u8) (x .1 .0) (val (x .1 .0) ∷ []) → Is (ShrSlice (named 2) (κs .1 .1 .0) u8) (x .1 .1 .0) (val (x .1 .1 .0) ∷ [])
-        → Is (ShrSlice (named 3) (κs .1 .1 .1 .0) u8) (x .1 .1 .1 .0) (val (x .1 .1 .1 .0) ∷ []) → ent 𝓤 (onEntry 𝓤 H A replay.signature κs qs (y .0 .3) (y .0 .4)) (WpFn 𝓤 H C Λ code.function (val (x .0) ∷ val (x .1 .0) ∷ val (x .1 .1 .0) ∷ val (x .1 .1 .1 .0) ∷ vptr b o ∷ []) Post)
-    walk is₁ is₂ is₃ is₄ =
-        qed W (raw (alive 𝓤 H A replay.signature κs qs) ∷ ‵ (lent (four κs) (MutRef (named 4) (fifth κs) T.the-row) x (ref h) (vptr b o ∷ [])) ∷ []) ∵
-        use1 W (raw (alive 𝓤 H A all.signature (four κs) (four qs)) ⊛ ‵ (flft (fifth κs) (fifth qs))) (tokens-apart 𝓤 H A W κs qs) $ split ! $
-        move ! (2 ∷ []) $ use1 W (‵ (slices (four κs) x) ⊛ ‵ (MutRef (named 4) (fifth κs) T.the-row .own (ref h) (vptr b o ∷ []))) (owned-apart 𝓤 H A W (four κs) (MutRef (named 4) (fifth κs) T.the-row) x (ref h) (vptr b o ∷ [])) $ split ! $ move ! (2 ∷ 0 ∷ 3 ∷ 1 ∷ []) $
-        enter ! C Λ code.function (val (x .0) ∷ val (x .1 .0) ∷ val (x .1 .1 .0) ∷ val (x .1 .1 .1 .0) ∷ vptr b o ∷ []) _ $
-        alloc1 ! (λ l₀. alloc1 ! (λ l₁. alloc1 ! (λ l₂. alloc1 ! (λ l₃. alloc1 ! (λ l₄. alloc1 ! (λ l₅. alloc1 ! (λ l₆. alloc1 ! (λ l₇. alloc1 ! (λ l₈. alloc1 ! (λ l₉. alloc1 ! (λ l₁₀. alloc1 ! (λ l₁₁. alloc0 ! $ params1 ! $
-        pass1 ! (init ! 20 refl (mut-slice-lawful 𝓤 H A W (named 0) (κs .0) u32 .typed (x .0) _ is₁ .0)) $ pass1 ! (init ! 18 refl (shr-slice-lawful 𝓤 H A W (named 1) (κs .1 .0) u8 .typed (x .1 .0) _ is₂ .0)) $
-        pass1 ! (init ! 16 refl (shr-slice-lawful 𝓤 H A W (named 2) (κs .1 .1 .0) u8 .typed (x .1 .1 .0) _ is₃ .0)) $ pass1 ! (init ! 14 refl (shr-slice-lawful 𝓤 H A W (named 3) (κs .1 .1 .1 .0) u8 .typed (x .1 .1 .1 .0) _ is₄ .0)) $ pass1 ! (init ! 12 refl (tt, tt)) $ pass0 ! $
-        move ! (24 ∷ 25 ∷ 26 ∷ 27 ∷ []) $
-        steps E′.mir T′.mir (lone (ShrSlice (named 1) (κs .1 .0) u8 .mir)) (lone (ShrSlice (named 2) (κs .1 .1 .0) u8 .mir)) (lone (ShrSlice (named 3) (κs .1 .1 .1 .0) u8 .mir)) (lone (MutRef (named 4) (fifth κs) T.the-row .mir)) _ _
+        → Is (ShrSlice (named 3) (κs .1 .1 .1 .0) u8) (x .1 .1 .1 .0) (val (x .1 .1 .1 .0) ∷ []) → Is (ShrSlice (named 4) (κs .1 .1 .1 .1 .0) u8) (x .1 .1 .1 .1 .0) (val (x .1 .1 .1 .1 .0) ∷ [])
+        → ent 𝓤 (onEntry 𝓤 H A replay.signature κs qs (y .0 .3) (y .0 .4)) (WpFn 𝓤 H C Λ code.function (val (x .0) ∷ val (x .1 .0) ∷ val (x .1 .1 .0) ∷ val (x .1 .1 .1 .0) ∷ val (x .1 .1 .1 .1 .0) ∷ vptr b o ∷ []) Post)
+    walk is₁ is₂ is₃ is₄ is₅ =
+        qed W (raw (alive 𝓤 H A replay.signature κs qs) ∷ ‵ (lent (five κs) (MutRef (named 5) (sixth κs) T.the-row) x (ref h) (vptr b o ∷ [])) ∷ []) ∵
+        use1 W (raw (alive 𝓤 H A all.signature (five κs) (five qs)) ⊛ ‵ (flft (sixth κs) (sixth qs))) (tokens-apart 𝓤 H A W κs qs) $ split ! $
+        move ! (2 ∷ []) $ use1 W (‵ (slices (five κs) x) ⊛ ‵ (MutRef (named 5) (sixth κs) T.the-row .own (ref h) (vptr b o ∷ []))) (owned-apart 𝓤 H A W (five κs) (MutRef (named 5) (sixth κs) T.the-row) x (ref h) (vptr b o ∷ [])) $ split ! $ move ! (2 ∷ 0 ∷ 3 ∷ 1 ∷ []) $
+        enter ! C Λ code.function (val (x .0) ∷ val (x .1 .0) ∷ val (x .1 .1 .0) ∷ val (x .1 .1 .1 .0) ∷ val (x .1 .1 .1 .1 .0) ∷ vptr b o ∷ []) _ $
+        alloc1 ! (λ l₀. alloc1 ! (λ l₁. alloc1 ! (λ l₂. alloc1 ! (λ l₃. alloc1 ! (λ l₄. alloc1 ! (λ l₅. alloc1 ! (λ l₆. alloc1 ! (λ l₇. alloc1 ! (λ l₈. alloc1 ! (λ l₉. alloc1 ! (λ l₁₀. alloc1 ! (λ l₁₁. alloc1 ! (λ l₁₂. alloc0 ! $ params1 ! $
+        pass1 ! (init ! 22 refl (mut-slice-lawful 𝓤 H A W (named 0) (κs .0) u32 .typed (x .0) _ is₁ .0)) $ pass1 ! (init ! 20 refl (shr-slice-lawful 𝓤 H A W (named 1) (κs .1 .0) u8 .typed (x .1 .0) _ is₂ .0)) $
+        pass1 ! (init ! 18 refl (shr-slice-lawful 𝓤 H A W (named 2) (κs .1 .1 .0) u8 .typed (x .1 .1 .0) _ is₃ .0)) $ pass1 ! (init ! 16 refl (shr-slice-lawful 𝓤 H A W (named 3) (κs .1 .1 .1 .0) u8 .typed (x .1 .1 .1 .0) _ is₄ .0)) $
+        pass1 ! (init ! 14 refl (shr-slice-lawful 𝓤 H A W (named 4) (κs .1 .1 .1 .1 .0) u8 .typed (x .1 .1 .1 .1 .0) _ is₅ .0)) $ pass1 ! (init ! 12 refl (tt, tt)) $ pass0 ! $
+        move ! (26 ∷ 27 ∷ 28 ∷ 29 ∷ []) $
+        steps E′.mir T′.mir (lone (ShrSlice (named 1) (κs .1 .0) u8 .mir)) (lone (ShrSlice (named 2) (κs .1 .1 .0) u8 .mir)) (lone (ShrSlice (named 3) (κs .1 .1 .1 .0) u8 .mir)) (lone (ShrSlice (named 4) (κs .1 .1 .1 .1 .0) u8 .mir)) (lone (MutRef (named 5) (sixth κs) T.the-row .mir)) _ _
         (λ r u is. EL.lawful E.the-type E′.the-laws 𝓤 H A W tt .typed r (u ∷ []) is .0) (λ r u is. LL.lawful T.the-type T′.the-laws 𝓤 H A W .typed r (u ∷ []) is .0) (λ r u is. LL.lawful K.the-type K′.the-laws 𝓤 H A W .typed r (u ∷ []) is .0)
-        l₀ l₁ l₂ l₃ l₄ l₅ l₆ l₇ l₈ l₉ l₁₀ l₁₁))))))))))))
+        l₀ l₁ l₂ l₃ l₄ l₅ l₆ l₇ l₈ l₉ l₁₀ l₁₁ l₁₂)))))))))))))
 
 module _ {M : Type 1} (𝓤 : URA M) (H : Heap 𝓤) (A : Atoms 𝓤) (W : Given 𝓤 H A) (mem : Memory → SProp 𝓤) (run : Routine → Fun 𝓤) where
   replay-walks : (C : Calls 𝓤 H) (Λ : Loops 𝓤 H) → FmC 𝓤 H (W .laws) C → Triple 𝓤 (C #all) (All 𝓤 H A mem run) → Triple 𝓤 (C #zero) (Zero 𝓤 H A mem run) → Triple 𝓤 (C #add) (Add 𝓤 H A mem run)
       → Walks 𝓤 H A replay.ended stayed (WpFn 𝓤 H C Λ code.function) (replay.clauses 𝓤 H A mem run)
   replay-walks C Λ fm known-all known-zero known-add = walked 𝓤 H A replay.ended stayed (replay.clauses 𝓤 H A mem run) (WpFn 𝓤 H C Λ code.function)
-      (λ κs. (slice-vals, (slice-vals, (slice-vals, (slice-vals, (ptr-vals, tt)))))) (λ κs. (mut-slice-tells (named 0) (κs .0) u32, (shr-slice-tells (named 1) (κs .1 .0) u8, (shr-slice-tells (named 2) (κs .1 .1 .0) u8, (shr-slice-tells (named 3) (κs .1 .1 .1 .0) u8, (mut-tells (named 4) (fifth κs) T.the-row, tt))))))
-      (λ κs qs bounds a _ are. via 𝓤 _ (fst∗ 𝓤 _ (emp 𝓤)) (walk 𝓤 H A W mem run κs qs (four a) (fifth a .ptr .0) (fifth a .ptr .1) (fifth a .name) (fifth a .now) C Λ fm known-all known-zero known-add (are .0 .0 .1) (are .0) (are .1 .0) (are .1 .1 .0) (are .1 .1 .1 .0)))
+      (λ κs. (slice-vals, (slice-vals, (slice-vals, (slice-vals, (slice-vals, (ptr-vals, tt))))))) (λ κs. (mut-slice-tells (named 0) (κs .0) u32, (shr-slice-tells (named 1) (κs .1 .0) u8, (shr-slice-tells (named 2) (κs .1 .1 .0) u8, (shr-slice-tells (named 3) (κs .1 .1 .1 .0) u8, (shr-slice-tells (named 4) (κs .1 .1 .1 .1 .0) u8, (mut-tells (named 5) (sixth κs) T.the-row, tt)))))))
+      (λ κs qs bounds a _ are. via 𝓤 _ (fst∗ 𝓤 _ (emp 𝓤)) (walk 𝓤 H A W mem run κs qs (five a) (sixth a .ptr .0) (sixth a .ptr .1) (sixth a .name) (sixth a .now) C Λ fm known-all known-zero known-add (are .0 .0 .1) (are .0) (are .1 .0) (are .1 .1 .0) (are .1 .1 .1 .0) (are .1 .1 .1 .1 .0)))
 
 replay-meets : {M : Type 1} (𝓤 : URA M) (H : Heap 𝓤) (A : Atoms 𝓤) → Given 𝓤 H A → (mem : Memory → SProp 𝓤) (run : Routine → Fun 𝓤) (𝓣 : Tables 𝓤 H)
     → Triple 𝓤 (𝓣 .C #all) (All 𝓤 H A mem run) → Triple 𝓤 (𝓣 .C #zero) (Zero 𝓤 H A mem run) → Triple 𝓤 (𝓣 .C #add) (Add 𝓤 H A mem run)
     → Meets 𝓤 H A replay.signature (WpFn 𝓤 H (𝓣 .C) (𝓣 .Λ) code.function) (replay.spec 𝓤 H A mem run)
-replay-meets 𝓤 H A W mem run 𝓣 known-all known-zero known-add = walk-meets 𝓤 H A replay.ended stayed W (all-go 𝓤 H A W (mutRefTo (4 ∷ []) tt (plain (λ _. T.the-row))) (gave-ref (4 ∷ []) tt (plain (λ _. T.the-row))) (goes-gave-ref 𝓤 H A W 5 4 tt (plain (λ _. T.the-row)))) (replay.clauses 𝓤 H A mem run) (WpFn 𝓤 H (𝓣 .C) (𝓣 .Λ) code.function) (WpFn-mono 𝓤 H (W .laws) 𝓣 code.function)
+replay-meets 𝓤 H A W mem run 𝓣 known-all known-zero known-add = walk-meets 𝓤 H A replay.ended stayed W (all-go 𝓤 H A W (mutRefTo (5 ∷ []) tt (plain (λ _. T.the-row))) (gave-ref (5 ∷ []) tt (plain (λ _. T.the-row))) (goes-gave-ref 𝓤 H A W 6 5 tt (plain (λ _. T.the-row)))) (replay.clauses 𝓤 H A mem run) (WpFn 𝓤 H (𝓣 .C) (𝓣 .Λ) code.function) (WpFn-mono 𝓤 H (W .laws) 𝓣 code.function)
     (replay-walks 𝓤 H A W mem run (𝓣 .C) (𝓣 .Λ) (fmOf 𝓤 H (W .laws) 𝓣) known-all known-zero known-add)
 
 pub replay-spec : {M : Type 1} → stated.statement M

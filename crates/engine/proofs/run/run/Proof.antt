@@ -6,7 +6,8 @@ pub run-spec : {M : Type 1} → statement M
 run-spec =
     tie.close
     (tie.spec
+    (λ c κs. search needs)
     (λ c. search needs)
     (λ c κs. search needs)
     (λ c. search needs)
-    (λ c. let told = c .before .before .before .run-tallied .ensures in (told .0, told .1 .0)))
+    (λ c. rw (c .before .before .before .before .before .manual-table .ensures) at (c .before .before .run-with .ensures)))

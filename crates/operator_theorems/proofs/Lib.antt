@@ -1,0 +1,3 @@
+-- The proof of the statement in specs/.
+mod Permuted
+pub mod Theorem

@@ -1,0 +1,1 @@
+// No code: the theorems about a table of operators that is lent.
