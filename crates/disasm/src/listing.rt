@@ -1,5 +1,7 @@
-// The listing of one procedure segment.
+// The listing of one procedure segment, with operators named by a table.
+ghost use mathlib.Core.Path.{_≡_};
 ghost use Prim.Native.Nat.{_+_, _^_, _<_};
+ghost use Rattle.procedure.specs.Headers.{codeEnd, codeOf};
 use crate::text::array_name;
 use crate::text::control_name;
 use crate::text::field;
@@ -19,6 +21,7 @@ use instruction::Instruction;
 use instruction::Jump;
 use instruction::family::Family;
 use instruction::family::family_of;
+use operator::lent::named;
 use procedure::bytes::byte_at;
 use procedure::bytes::word_at;
 use procedure::directory::Function;
@@ -31,8 +34,28 @@ use procedure::refusal::FunctionFault;
 use procedure::refusal::fault_of;
 use reader::Reader;
 
+// A function as it is listed: its block, and the table that says which operator each suboperation means.
+struct Shown {
+    block: Block,
+    table: [u8; 16],
+}
+
+impl Shown {
+    fn code_end(self) -> u32
+        ensures { λ r. ⌜ r ≡ codeEnd (self .block .header) ⌝ }
+    {
+        self.block.code_end()
+    }
+
+    fn code(self, p: &[u8]) -> &[u8]
+        ensures { λ r. ⌜ now r ≡ codeOf (now (p .entry)) (self .block) ⌝ }
+    {
+        self.block.code(p)
+    }
+}
+
 // All functions of a segment that the tests 11 and 12 accept; else what is wrong.
-pub fn segment(p: &[u8]) {
+pub fn segment(p: &[u8], table: [u8; 16]) {
     match fault_of(p) {
         Fault::SegmentLength => say(b": refused 11, shorter than 4 bytes\n"),
         Fault::Entries => say(b": refused 12, entry 0 or the number of entries\n"),
@@ -44,7 +67,7 @@ pub fn segment(p: &[u8]) {
         }
         Fault::Nothing => {
             say(b"\n");
-            functions(p);
+            functions(p, table);
         }
     }
 }
@@ -61,16 +84,16 @@ fn reason(wrong: FunctionFault) {
     }
 }
 
-fn functions(p: &[u8]) {
+fn functions(p: &[u8], table: [u8; 16]) {
     let end = entries(p);
     let mut k = 1;
     while k < end {
-        function(p, k);
+        function(p, table, k);
         k += 1;
     }
 }
 
-fn function(p: &[u8], k: u16) {
+fn function(p: &[u8], table: [u8; 16], k: u16) {
     let Function::At(block) = find(p, k) else {
         return;
     };
@@ -87,7 +110,7 @@ fn function(p: &[u8], k: u16) {
     field(b"NCODE", h.ncode);
     say(b"\n");
     line_table(p, block);
-    instructions(p, block);
+    instructions(p, Shown { block, table });
 }
 
 // The line entries, where there are any.
@@ -118,23 +141,24 @@ fn line_entry(p: &[u8], block: Block, i: u32) {
 }
 
 // Instruction after instruction; a byte that starts none is passed over.
-fn instructions(p: &[u8], block: Block) {
-    let end = block.code_end();
-    let mut r = Reader::new(block.code(p));
+fn instructions(p: &[u8], shown: Shown) {
+    let end = shown.code_end();
+    let mut r = Reader::new(shown.code(p));
     while r.place.number() < end {
         let at = r.place;
-        listed(p, block, at, r.next());
+        listed(p, shown, at, r.next());
         r.place = past(at, r.place);
     }
 }
 
 // The lines that start at a place, and what was found there.
-fn listed(p: &[u8], block: Block, at: CodeAddress, found: Decoded) {
-    lines(p, block, at.number());
-    let code = block.code(p);
+fn listed(p: &[u8], shown: Shown, at: CodeAddress, found: Decoded) {
+    lines(p, shown.block, at.number());
+    let code = shown.code(p);
+    let table = shown.table;
     match found {
         Decoded::Trap(class, n) => trapped(code, at.number(), class, n),
-        Decoded::Instruction(i, next) => decoded(code, at.number(), next.number(), i),
+        Decoded::Instruction(i, next) => decoded(code, table, at.number(), next.number(), i),
     }
 }
 
@@ -179,9 +203,9 @@ fn trapped(code: &[u8], at: u32, class: u8, n: u8) {
     say(b")\n");
 }
 
-fn decoded(code: &[u8], at: u32, next: u32, i: Instruction) {
+fn decoded(code: &[u8], table: [u8; 16], at: u32, next: u32, i: Instruction) {
     dump(code, at as usize, next as usize);
-    name(code, byte_at(code, at as usize), i);
+    name(code, table, byte_at(code, at as usize), i);
     say(b"\n");
 }
 
@@ -208,7 +232,7 @@ fn byte_column(code: &[u8], from: usize, to: usize, k: usize) {
     say(b"   ");
 }
 
-fn name(code: &[u8], first: u8, i: Instruction) {
+fn name(code: &[u8], table: [u8; 16], first: u8, i: Instruction) {
     match i {
         Instruction::Load(a) => {
             load_name(family_of(first));
@@ -218,7 +242,7 @@ fn name(code: &[u8], first: u8, i: Instruction) {
             negative,
             magnitude,
         } => short_constant(negative, magnitude),
-        Instruction::Scalar(o) => operator_name(o),
+        Instruction::Scalar(o) => operator_name(named(&table, o)),
         Instruction::Memory(o, a) => {
             memory_name(o);
             variable(a);

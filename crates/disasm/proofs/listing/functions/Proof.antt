@@ -5,10 +5,10 @@ use Rattle.disasm.proofs.listing.functions.Statement.{statement}
 use Rattle.disasm.proofs.listing.functions.Tie as tie
 
 abbrev Inv-loop : tie.InvT-loop
-Inv-loop p end k₀ k = Unit {0}
+Inv-loop p table end k₀ k = Unit {0}
 
 abbrev μ-loop : tie.MeasureT-loop
-μ-loop p end k₀ k = end - k
+μ-loop p table end k₀ k = end - k
 
 pub functions-spec : {M : Type 1} → statement M
 functions-spec =

@@ -50,18 +50,18 @@ use Rattle.descriptor.proofs.address.CodeAddress.number as number
 use Rattle.descriptor.proofs.address.CodeAddress.number.Symbol as number-def
 use Rattle.descriptor.proofs.address.CodeAddress.number.Symbol.{name as #number}
 use Rattle.descriptor.proofs.address.CodeAddress.number.Met as number-thm
-use Rattle.procedure.specs.declared.header.Block.{Block}
+use Rattle.disasm.specs.declared.listing.Shown.{Shown}
 use Rattle.procedure.specs.Headers.{codeEnd, codeOf}
-use Rattle.procedure.proofs.header.Block as K
-use Rattle.procedure.proofs.header.Block.Laws as K′
-use Rattle.procedure.proofs.header.Block.code_end as code-end
-use Rattle.procedure.proofs.header.Block.code_end.Symbol as code-end-def
-use Rattle.procedure.proofs.header.Block.code_end.Symbol.{name as #code-end}
-use Rattle.procedure.proofs.header.Block.code_end.Met as code-end-thm
-use Rattle.procedure.proofs.header.Block.code as code-of
-use Rattle.procedure.proofs.header.Block.code.Symbol as code-of-def
-use Rattle.procedure.proofs.header.Block.code.Symbol.{name as #code-of}
-use Rattle.procedure.proofs.header.Block.code.Met as code-of-thm
+use Rattle.disasm.proofs.listing.Shown as K
+use Rattle.disasm.proofs.listing.Shown.Laws as K′
+use Rattle.disasm.proofs.listing.Shown.code_end as code-end
+use Rattle.disasm.proofs.listing.Shown.code_end.Symbol as code-end-def
+use Rattle.disasm.proofs.listing.Shown.code_end.Symbol.{name as #code-end}
+use Rattle.disasm.proofs.listing.Shown.code_end.Met as code-end-thm
+use Rattle.disasm.proofs.listing.Shown.code as code-of
+use Rattle.disasm.proofs.listing.Shown.code.Symbol as code-of-def
+use Rattle.disasm.proofs.listing.Shown.code.Symbol.{name as #code-of}
+use Rattle.disasm.proofs.listing.Shown.code.Met as code-of-thm
 use Rattle.instruction.proofs.Decoded as D
 use Rattle.instruction.proofs.Decoded.Laws as D′
 use Rattle.instruction.specs.Reading.{codeAddress}
@@ -115,7 +115,7 @@ tests : {M : Type 1} {𝓤 : URA M} {H : Heap 𝓤} {A : Atoms 𝓤} {G : Type 0
     → G → Opd G W Γ E c (vbool y) → (Holds y → Seq G W Γ (runs C Λ E b p)) → (Holds (not y) → Seq G W Γ (prop (post 𝓤 H p (exits n)))) → Seq G W Γ (runs C Λ E (seq (cond c skipᴹ (exit n)) b) p)
 tests t o held failed = first t $ branches t o (λ h. skips t $ record { prf = held h .prf }) (λ h. jumps t $ record { prf = failed h .prf })
 
-module _ {M : Type 1} (𝓤 : URA M) (H : Heap 𝓤) (A : Atoms 𝓤) (W : Given 𝓤 H A) (mem : Memory → SProp 𝓤) (run : Routine → Fun 𝓤) (κ : Lft) (q : Share) (s : RefT (List ℕ)) (k : Block) (kv : Val) (is-k : Is K.the-row k (kv ∷ [])) where
+module _ {M : Type 1} (𝓤 : URA M) (H : Heap 𝓤) (A : Atoms 𝓤) (W : Given 𝓤 H A) (mem : Memory → SProp 𝓤) (run : Routine → Fun 𝓤) (κ : Lft) (q : Share) (s : RefT (List ℕ)) (k : Shown) (kv : Val) (is-k : Is K.the-row k (kv ∷ [])) where
   -- the machine value that s has
   abbrev v : Val
   v = sliceVal (s .ptr) (length (s .now))
@@ -126,16 +126,16 @@ module _ {M : Type 1} (𝓤 : URA M) (H : Heap 𝓤) (A : Atoms 𝓤) (W : Given
   abbrev Own : Fml
   Own = ShrSlice (named 0) κ u8 .own s (v ∷ [])
 
-  -- what the block owns is had for what is known of it
-  block-own : {G : Type 0} {Γ : List (Item 𝓤)} {goal : Goal 𝓤 H} → G → Step G W (‵ (K.the-row .own k (kv ∷ [])) ∷ Γ) goal Γ goal
-  block-own t = owned t K.the-row (Is K.the-row) (LL.makes K.the-type K′.the-plain 𝓤 H A) k (kv ∷ []) is-k
+  -- what `shown` owns is had for what is known of it
+  shown-own : {G : Type 0} {Γ : List (Item 𝓤)} {goal : Goal 𝓤 H} → G → Step G W (‵ (K.the-row .own k (kv ∷ [])) ∷ Γ) goal Γ goal
+  shown-own t = owned t K.the-row (Is K.the-row) (LL.makes K.the-type K′.the-plain 𝓤 H A) k (kv ∷ []) is-k
 
   leaves : ent 𝓤 (⋆ 𝓤 H A (‵ (flft κ q) ∷ ‵ Own ∷ [])) (Post′ vunit)
   leaves =
       qed W (‵ (flft κ q) ∷ ‵ Own ∷ []) ∵ suffices ! _ (ends-at 𝓤 H A instructions.ended stayed (instructions.clauses 𝓤 H A mem run) W (((κ, tt), (q, tt), tt, (s, (k, tt)), (v ∷ [], (kv ∷ [], tt))), tt) vunit tt (tt, (tt, tt)) (tt, (tt, tt))) $ says-nothing ! $
-      nothing ! $ move ! (1 ∷ 0 ∷ []) $ join ! $ frame ! $ nothing ! $ block-own ! $ fjoin ! $ move ! (1 ∷ 0 ∷ []) $ fjoin ! $ frame ! $ owned ! unit (Is unit) (nothing-makes 𝓤 H A W) tt _ refl $ done !
+      nothing ! $ move ! (1 ∷ 0 ∷ []) $ join ! $ frame ! $ nothing ! $ shown-own ! $ fjoin ! $ move ! (1 ∷ 0 ∷ []) $ fjoin ! $ frame ! $ owned ! unit (Is unit) (nothing-makes 𝓤 H A W) tt _ refl $ done !
 
-  -- The types of locals that are long when written out, and what the walk needs of them: a place, what was found, the block, the slices p and code, and the borrow of r.
+  -- The types of locals that are long when written out, and what the walk needs of them: a place, what was found, what is shown, the slices p and code, and the borrow of r.
   module _ (tp td tk ts tc tm : Ty) (typed-p : Typed P.the-row tp) (typed-d : Typed D.the-row td) (typed-c : Typed (ShrSlice (named 0) κ u8) tc) (typed-m : (l : ℕ) → Holds (hasTy tm (vptr l 0)) × WT (vptr l 0))
       (𝓣 : Tables 𝓤 H) (known : Known 𝓤 H A mem run (𝓣 .C)) (l₀ l₁ l₂ l₃ l₄ l₅ l₆ l₇ l₈ l₉ l₁₀ l₁₁ l₁₂ l₁₃ l₁₄ : ℕ) where
     abbrev C : Calls 𝓤 H
@@ -199,7 +199,7 @@ module _ {M : Type 1} (𝓤 : URA M) (H : Heap 𝓤) (A : Atoms 𝓤) (W : Given
           land ! (from ! (stop !)) (init ! 9 refl (typed-d f _ is′)) $
           -- `listed` is called
           move ! (3 ∷ []) $ nothing ! $ move ! (1 ∷ 0 ∷ []) $ fjoin ! $ place-own ! place (place-is κ (made place) was) $ fjoin ! $
-          block-own ! $ fjoin ! $ move ! (4 ∷ []) $ use1 W (‵ Own ⊛ ‵ Own) (shr-slice-copy 𝓤 H A W (named 0) κ u8 .twice s (v ∷ [])) $ split ! $ move ! (0 ∷ 2 ∷ []) $ fjoin ! $
+          shown-own ! $ fjoin ! $ move ! (4 ∷ []) $ use1 W (‵ Own ⊛ ‵ Own) (shr-slice-copy 𝓤 H A W (named 0) κ u8 .twice s (v ∷ [])) $ split ! $ move ! (0 ∷ 2 ∷ []) $ fjoin ! $
           nothing ! $ move ! (5 ∷ 0 ∷ []) $ join ! $ use1 W (raw (alive 𝓤 H A listed.signature (κ, tt) (q, tt))) (id⊢ 𝓤 _) $
           answers ! fm listed.ended (listed.clauses 𝓤 H A mem run) (known .listed-met) ((κ, tt), (q, tt), tt, (s, (k, (place, (f, tt)))), (v ∷ [], (kv ∷ [], (P′.lowered place ∷ [], (u ∷ [], tt))))) tt (id⊢ 𝓤 _)
           (and-then ! (load ! (from ! (stop !)) (look ! 29 refl)) (and-then ! (load ! (from ! (stop !)) (look ! 27 refl)) (and-then ! (load ! (from ! (stop !)) (look ! 22 refl)) (and-then ! (load ! (from ! (stop !)) (look ! 8 refl)) (no-more !)))))
@@ -240,15 +240,15 @@ module _ {M : Type 1} (𝓤 : URA M) (H : Heap 𝓤) (A : Atoms 𝓤) (W : Given
     starts : Sq W Start (runs C Λ En code.Mir.t-1 (atRet En Post′))
     starts =
         -- `code_end` is called
-        nothing ! $ block-own ! $ fjoin ! $
+        nothing ! $ shown-own ! $ fjoin ! $
         answers-plain ! fm code-end.ended (code-end.clauses 𝓤 H A mem run) (known .end-met) (tt, tt, tt, (k, tt), (kv ∷ [], tt)) tt (id⊢ 𝓤 _) (id⊢ 𝓤 _) (and-then ! (load ! (from ! (stop !)) (look ! 27 refl)) (no-more !))
-        (λ n. n ≡ codeEnd (k .header)) (λ n ws. id⊢ 𝓤 _) (λ u end _ is.
+        (λ n. n ≡ codeEnd (k .block .header)) (λ n ws. id⊢ 𝓤 _) (λ u end _ is.
         land ! (from ! (stop !)) (init ! 24 refl (uint-lawful 𝓤 H A W w32 .typed end _ is .0)) $ rewrite ! 24 (λ (w : Val). ‵ (fat fullShare (tyInt w32) l₃ 0 w)) (ap only (is .0)) refl $
         -- `code` is called
         move ! (1 ∷ []) $ use1 W (‵ Own ⊛ ‵ Own) (shr-slice-copy 𝓤 H A W (named 0) κ u8 .twice s (v ∷ [])) $ split ! $ nothing ! $ move ! (1 ∷ 0 ∷ []) $ fjoin ! $
-        block-own ! $ fjoin ! $ nothing ! $ move ! (3 ∷ 0 ∷ []) $ join ! $ use1 W (raw (alive 𝓤 H A code-of.signature (κ, tt) (q, tt))) (id⊢ 𝓤 _) $
+        shown-own ! $ fjoin ! $ nothing ! $ move ! (3 ∷ 0 ∷ []) $ join ! $ use1 W (raw (alive 𝓤 H A code-of.signature (κ, tt) (q, tt))) (id⊢ 𝓤 _) $
         answers ! fm code-of.ended (code-of.clauses 𝓤 H A mem run) (known .code-met) ((κ, tt), (q, tt), tt, (k, (s, tt)), (kv ∷ [], (v ∷ [], tt))) tt (id⊢ 𝓤 _)
-        (and-then ! (load ! (from ! (stop !)) (look ! 26 refl)) (and-then ! (load ! (from ! (stop !)) (look ! 28 refl)) (no-more !))) (λ c. now c ≡ codeOf (now s) k) (λ c ws. id⊢ 𝓤 _) (λ w c _ is′.
+        (and-then ! (load ! (from ! (stop !)) (look ! 26 refl)) (and-then ! (load ! (from ! (stop !)) (look ! 28 refl)) (no-more !))) (λ c. now c ≡ codeOf (now s) (k .block)) (λ c ws. id⊢ 𝓤 _) (λ w c _ is′.
         land ! (from ! (stop !)) (init ! 17 refl (typed-c c _ is′)) $
         rewrite ! 17 (λ (x : Val). ‵ (fat fullShare tc l₇ 0 x)) (ap only (shr-slice-tells (named 0) κ u8 c _ is′)) refl $ rewrite ! 0 (λ (ws : List Val). ‵ (ShrSlice (named 0) κ u8 .own c ws)) (shr-slice-tells (named 0) κ u8 c _ is′) refl $
         -- `new` is called, and its reader is moved to r
@@ -292,8 +292,8 @@ instructions-spec 𝓤 H 𝓜 𝓖 𝓡 =
     (tables 𝓤 H 𝓜 𝓡 code.env .C) (tables 𝓤 H 𝓜 𝓡 code.env .Λ) #instructions code.function (code.unfolded 𝓤 H 𝓜 𝓡)
     (instructions-meets 𝓤 H (𝓖 .A) (givenOf 𝓤 H 𝓜 𝓖) (𝓜 .mem) (𝓡 .run) (tablesOf 𝓤 H 𝓜 (tables 𝓤 H 𝓜 𝓡 code.env)) (record {
       number-met = cited 𝓤 H (tripleOf 𝓤 H (𝓖 .A) number.signature (number.spec 𝓤 H (𝓖 .A) (𝓜 .mem) (𝓡 .run))) 𝓜 𝓡 code.env #number number-def.routine code.calls-descriptor·address·CodeAddress·number (number-thm.met 𝓤 H 𝓜 𝓖 𝓡);
-      end-met = cited 𝓤 H (tripleOf 𝓤 H (𝓖 .A) code-end.signature (code-end.spec 𝓤 H (𝓖 .A) (𝓜 .mem) (𝓡 .run))) 𝓜 𝓡 code.env #code-end code-end-def.routine code.calls-procedure·header·Block·code-end (code-end-thm.met 𝓤 H 𝓜 𝓖 𝓡);
-      code-met = cited 𝓤 H (tripleOf 𝓤 H (𝓖 .A) code-of.signature (code-of.spec 𝓤 H (𝓖 .A) (𝓜 .mem) (𝓡 .run))) 𝓜 𝓡 code.env #code-of code-of-def.routine code.calls-procedure·header·Block·code (code-of-thm.met 𝓤 H 𝓜 𝓖 𝓡);
+      end-met = cited 𝓤 H (tripleOf 𝓤 H (𝓖 .A) code-end.signature (code-end.spec 𝓤 H (𝓖 .A) (𝓜 .mem) (𝓡 .run))) 𝓜 𝓡 code.env #code-end code-end-def.routine code.calls-disasm·listing·Shown·code-end (code-end-thm.met 𝓤 H 𝓜 𝓖 𝓡);
+      code-met = cited 𝓤 H (tripleOf 𝓤 H (𝓖 .A) code-of.signature (code-of.spec 𝓤 H (𝓖 .A) (𝓜 .mem) (𝓡 .run))) 𝓜 𝓡 code.env #code-of code-of-def.routine code.calls-disasm·listing·Shown·code (code-of-thm.met 𝓤 H 𝓜 𝓖 𝓡);
       new-met = cited 𝓤 H (tripleOf 𝓤 H (𝓖 .A) new.signature (new.spec 𝓤 H (𝓖 .A) (𝓜 .mem) (𝓡 .run))) 𝓜 𝓡 code.env #new new-def.routine code.calls-reader·Reader·new (new-thm.met 𝓤 H 𝓜 𝓖 𝓡);
       next-met = cited 𝓤 H (Next 𝓤 H (𝓖 .A) (𝓜 .mem) (𝓡 .run)) 𝓜 𝓡 code.env #next next-def.routine code.calls-reader·Reader·next (next-thm.met 𝓤 H 𝓜 𝓖 𝓡);
       listed-met = cited 𝓤 H (tripleOf 𝓤 H (𝓖 .A) listed.signature (listed.spec 𝓤 H (𝓖 .A) (𝓜 .mem) (𝓡 .run))) 𝓜 𝓡 code.env #listed listed-def.routine code.calls-disasm·listing·listed (listed-thm.met 𝓤 H 𝓜 𝓖 𝓡);
