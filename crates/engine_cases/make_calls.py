@@ -3,7 +3,8 @@
 
 FORM, below, says what the lines mean. Every answer that is written here comes from the documents and the manual, by hand; only
 the calls of the mixed list at the end have none. If there is a file stdout, the script says where it differs from these
-answers, where a refused call changed a word, and where a run in parts leaves other words than the whole run.
+answers, where a refused call changed a word, and where a run in parts or under another table of operators leaves other words
+than the whole run.
 """
 import math
 import os
@@ -13,6 +14,7 @@ n W R A            W data words, R bytes of the regular and A of the alternate p
 s I V V ..         data words from I on become these; r, a: words of the regular, of the alternate procedure segment
 L P F G A          lay out: function F of procedure segment P, G globals, A array words
 R B                run, with budget B
+T B C C ..         run, with budget B, under a table of operators that has these bytes
 V G K L .. E ..    load global G with an array of rank K, its lengths and its elements; rank 0 is a scalar
 K G                look at global G
 w I I ..           no call: words of the data segment
@@ -21,7 +23,10 @@ words ends it, so that a wrong word shows. In listings of code G8 loads global 8
 
 lines = []       # of stdin
 expected = []    # for each line of stdout the line that it answers and the answer, or None where none is written here
+alike = []       # pairs of lines of stdout after which the words must be the same
 lent = [0, 0, 0]
+MANUAL = list(range(16))
+numbering = list(MANUAL)    # the table of operators that code is written by
 
 
 # ---- words
@@ -56,6 +61,11 @@ class Op:
 
 def op(name, *code):
     return Op(name, lambda at, labels: bytes(code))
+
+
+def operator(name, place):
+    """One of the sixteen, by its place in the manual's table."""
+    return Op(name, lambda at, labels: bytes([0x60 + numbering.index(place)]))
 
 
 def half(name, first, number):
@@ -106,7 +116,7 @@ def defined(variable):
 SCALARS = """IDENTITY NEGATIVE FLOOR CEILING MAGNITUDE NOT TEST_NUMBER CONVERT
 SUM DIFFERENCE PRODUCT QUOTIENT LOGICAL_PRODUCT LOGICAL_SUM LESS EQUAL""".split()
 (IDENTITY, NEGATIVE, FLOOR, CEILING, MAGNITUDE, NOT, TEST_NUMBER, CONVERT,
- SUM, DIFFERENCE, PRODUCT, QUOTIENT, AND, OR, LESS, EQUAL) = (op(name, 0x60 + k) for k, name in enumerate(SCALARS))
+ SUM, DIFFERENCE, PRODUCT, QUOTIENT, AND, OR, LESS, EQUAL) = (operator(name, k) for k, name in enumerate(SCALARS))
 UNDEFINED, EAT1, INTERCHANGE, SETORIGIN, GETORIGIN, SHAPE, RESHAPE, RAVEL, CATENATE, INDEXGEN = (
     op(name, 0xA0 + k) for k, name in enumerate(
         "UNDEFINED EAT1 INTERCHANGE SETORIGIN GETORIGIN SHAPE RESHAPE RAVEL CATENATE INDEX_GENERATOR".split()))
@@ -192,7 +202,9 @@ class Function:
         return ", ".join(o.name for o in self.code)
 
 
-def segment(functions):
+def segment(functions, table=None):
+    """A procedure segment, in which operators are numbered by a table, or as in the manual."""
+    numbering[:] = table or MANUAL
     blocks = [function.block() for function in functions]
     start = 1 + len(blocks)
     directory = [start]
@@ -225,8 +237,8 @@ def lend(words=None, regular=None, alternate=None):
         line("n", *lent)
 
 
-def regular(*functions, listed=True):
-    words = segment(functions)
+def regular(*functions, listed=True, table=None):
+    words = segment(functions, table)
     for k, function in enumerate(functions):
         if listed:
             remark(f"{k + 1}: {function.listing()}")
@@ -246,8 +258,8 @@ def lay_out(p, function, globals_, storage, answer="0"):
     asks(answer, "L", p, function, globals_, storage)
 
 
-def run(budget, answer=None):
-    asks(answer, "R", budget)
+def run(budget, answer=None, table=None):
+    asks(answer, "R", budget) if table is None else asks(answer, "T", budget, *table)
 
 
 def load(g, lengths, elements, answer="0"):
@@ -279,10 +291,10 @@ def words(start, *values):
     line("s", start, *values)
 
 
-def trial(text, *code, trap=None, after=None, extra=(), nlocals=1, lines=(), flags=0, globals_=4, storage=24, loads=()):
+def trial(text, *code, trap=None, after=None, extra=(), nlocals=1, lines=(), flags=0, globals_=4, storage=24, loads=(), table=None):
     """Function 1 from a fresh segment: as many steps as it has instructions, or the trap after so many."""
     remark(text)
-    regular(Function(*code, nlocals=nlocals, lines=lines), *extra)
+    regular(Function(*code, nlocals=nlocals, lines=lines), *extra, table=table)
     lay_out(0, 1, globals_, storage)
     if flags:
         words(2, flags)
@@ -290,9 +302,9 @@ def trial(text, *code, trap=None, after=None, extra=(), nlocals=1, lines=(), fla
         load(g, lengths, elements)
     steps = len([o for o in code if not o.name.endswith(":")])
     if trap is None:
-        run(steps, f"2 after {steps}")
+        run(steps, f"2 after {steps}", table)
     else:
-        run(0x40, f"3 after {steps - 1 if after is None else after} {trap}")
+        run(0x40, f"3 after {steps - 1 if after is None else after} {trap}", table)
 
 
 # ---- document 01's examples
@@ -672,12 +684,11 @@ run(100, "2 after 100")
 whole = len(expected) - 1
 look(10, listed(100, 100, 100, 100, 50))
 look(11, listed(1, 2, 3))
-in_parts = []
 for parts in ([50, 50], [1] * 10 + [90], [0, 3, 0, 20, 7, 70], [13, 29, 58]):
     story()
     for part in parts:
         run(part, f"2 after {part}")
-    in_parts.append((whole, len(expected) - 1))
+    alike.append((whole, len(expected) - 1))
 remark("with STEP every run ends after one instruction, and does no other")
 story()
 words(2, 8)
@@ -685,7 +696,7 @@ for _ in range(5):
     run(100, "3 after 1 (2,1)")
 words(2, 0)
 run(95, "2 after 95")
-in_parts.append((whole, len(expected) - 1))
+alike.append((whole, len(expected) - 1))
 lend(words=64)
 
 
@@ -864,6 +875,93 @@ trial("a list of 65,535 is (1,2) however long a segment is", lit(65535), INDEXGE
 lend(words=64)
 
 
+# ---- tables of operators
+
+remark("A LENT TABLE OF OPERATORS")
+REVERSED, ROTATED = MANUAL[::-1], MANUAL[5:] + MANUAL[:5]
+# Each operator on the list in a global, and on the next list where it has two operands, then on scalars, the first of two on top.
+SIXTEEN = ((IDENTITY, 8, (7, i(-2), f(0.5)), [const(7)], 7), (NEGATIVE, 8, (i(-7), 2, f(-0.5)), [const(7)], i(-7)),
+           (FLOOR, 8, (7, i(-2), 0), [lit(f(2.5))], 2), (CEILING, 8, (7, i(-2), 1), [lit(f(2.5))], 3),
+           (MAGNITUDE, 8, (7, 2, f(0.5)), [const(-6)], 6), (NOT, 10, (1, 0, 0), [const(0)], 1),
+           (TEST_NUMBER, 12, (0, 1, 1), [lit(c("A"))], 0), (CONVERT, 12, (65, c("B"), c("C")), [const(65)], c("A")),
+           (SUM, 8, (9, 0, f(2.5)), [const(3), const(12)], 15), (DIFFERENCE, 8, (5, i(-4), f(-1.5)), [const(3), const(12)], 9),
+           (PRODUCT, 8, (14, i(-4), f(1.0)), [const(3), const(12)], 36), (QUOTIENT, 8, (f(3.5), f(-1.0), f(0.25)), [const(3), const(12)], f(4.0)),
+           (AND, 10, (0, 1, 0), [const(0), const(1)], 0), (OR, 10, (0, 1, 1), [const(0), const(1)], 1),
+           (LESS, 8, (0, 1, 1), [const(12), const(3)], 1), (EQUAL, 10, (1, 1, 0), [const(3), const(3)], 1))
+sixteen = []
+for k, (o, g, _, scalars, _) in enumerate(SIXTEEN):
+    sixteen += [*[G(g + 1), G(g)][-len(scalars):], o, store(G(13 + k)), *scalars, o, store(G(29 + k))]
+lend(words=256)
+remark("all sixteen, on lists and on scalars: by the manual's numbers, with no table lent, and with one; by the reversed table; by a rotated one")
+for table in (None, MANUAL, REVERSED, ROTATED):
+    if table is not MANUAL:
+        regular(Function(*sixteen), listed=False, table=table)
+    lay_out(0, 1, 37, 150)
+    for k, elements in enumerate(([7, i(-2), f(0.5)], [2, 2, 2], [0, 1, f(1.0)], [0, 1, 0], [c("A"), 66, f(67.0)])):
+        load(8 + k, [3], elements)
+    run(len(sixteen), f"2 after {len(sixteen)}", table)
+    if table is None:
+        whole = len(expected) - 1
+    alike.append((whole, len(expected) - 1))
+    for k, (_, _, result, _, _) in enumerate(SIXTEEN):
+        look(13 + k, listed(*result))
+    show(*((29 + k, result) for k, (*_, result) in enumerate(SIXTEEN)))
+lend(words=64)
+trial("as many operands as the operator has: two for EQUAL, which is 0 here, and one for IDENTITY, which is 15",
+      const(1), IDENTITY, EQUAL, trap="(3,4)", table=REVERSED)
+trial("(3,9): 16", raw(0x70), trap="(3,9)", table=REVERSED)
+trial("(3,9): 31", raw(0x7F), trap="(3,9)", table=ROTATED)
+trial("the operator's traps: (8,4)", const(0), const(1), QUOTIENT, trap="(8,4)", table=ROTATED)
+trial("(8,5)", const(2), NOT, trap="(8,5)", table=ROTATED)
+trial("(7,0)", G(8), NEGATIVE, trap="(7,0)", loads=[(8, [3], [1, c("A"), 3])], table=REVERSED)
+trial("through calls and returns: 5 factorial", const(5), call(1, 2), store(G(8)), BREAKPOINT, extra=[factorial], trap="(2,4)",
+      after=4 * 12 + 7 + 3, table=ROTATED)
+whole = len(expected) - 1
+look(8, scalar(120))
+remark("the same in parts")
+lay_out(0, 1, 4, 24)
+for part in (1, 20, 0, 30):
+    run(part, f"2 after {part}", ROTATED)
+run(64, "3 after 7 (2,4)", ROTATED)
+alike.append((whole, len(expected) - 1))
+remark("a table holds for one run: SUM by the reversed one is CONVERT in the plain run that follows, and then SUM again")
+regular(Function(const(60), const(5), SUM, SUM, store(G(8)), const(60), const(5), SUM, store(G(9))), table=REVERSED)
+lay_out(0, 1, 4, 24)
+run(3, "2 after 3", REVERSED)
+run(2, "2 after 2")
+run(4, "2 after 4", REVERSED)
+look(8, scalar(c("A")))
+look(9, scalar(65))
+trial("26: no byte, 15, 17, 32; a byte 16, a byte 255; a byte twice; all the same. The old trap stays", const(1), lit(i(8388607)), SUM,
+      trap="(8,1)", table=ROTATED)
+for table in ([], ROTATED[:15], ROTATED + [0], ROTATED * 2, [16] + ROTATED[1:], ROTATED[:15] + [255], ROTATED[:15] + ROTATED[:1],
+              ROTATED[1:2] + ROTATED[1:], ROTATED[:15] + ROTATED[14:15], [0] * 16, [15] * 16):
+    run(1, "26", table)
+show((3, 0x801))
+remark("10 to 12 go before 26, and 26 before 13 to 18")
+regular(Function(const(5), INDEXGEN), Function(RETURN, nargs=1), listed=False)
+lay_out(0, 1, 4, 24)
+load(8, [3], [1, 2, 3])
+load(9, [], [7])
+whole, size = len(expected) - 1, lent[1]
+for number, how in (("10", dict(words=31)), ("11", dict(regular=3)), ("11", dict(alternate=6)), ("12", dict(regular=8))):
+    lend(**how)
+    run(5, number, [])
+    run(5, number, REVERSED)
+    lend(words=64, regular=size, alternate=4)
+for number in ("13", "14", "15", "16", "17", "18"):
+    damage = next(damage for refusal, _, damage in damages if refusal == number)
+    for at, value in damage.items():
+        words(at, value)
+    run(5, "26", [])
+    run(5, number, REVERSED)
+    for at in damage:
+        words(at, base[at])
+show((9, 7))
+alike.append((whole, len(expected) - 1))
+run(2, "2 after 2", REVERSED)
+
+
 # ---- a long mixed list
 
 class Generator:
@@ -981,9 +1079,9 @@ def differences(written):
     for k, (said, (_, answer)) in enumerate(zip(written, expected)):
         if answer is not None and answer_of(said)[0] != answer:
             yield f"line {k + 1}: {said}: and not {answer}"
-    for a, b in in_parts:
+    for a, b in alike:
         if answer_of(written[a])[1] != answer_of(written[b])[1]:
-            yield f"lines {a + 1} and {b + 1}: the parts leave other words than the whole"
+            yield f"lines {a + 1} and {b + 1}: the words are not the same"
 
 
 def changes(written):
@@ -1004,7 +1102,8 @@ def changes(written):
 # Each operation gives every refusal that it can, and a run every trap but (3,6) and (3,10).
 TRAPS = {1: (1, 2), 2: (1, 2, 3, 4), 3: (1, 2, 3, 4, 5, 7, 8, 9, 11, 12, 13), 4: (0,), 5: (0,), 6: (0,), 7: (0,),
          8: (1, 2, 3, 4, 5), 9: (1, 2), 10: (0,)}
-wanted = {(letter, str(n)) for letter, more in (("R", ()), ("V", (21, 23, 24)), ("K", (21, 22))) for n in (*range(10, 19), *more)}
+wanted = {(letter, str(n)) for letter, more in (("R", ()), ("T", (26,)), ("V", (21, 23, 24)), ("K", (21, 22)))
+          for n in (*range(10, 19), *more)}
 wanted |= {("L", str(n)) for n in (10, 11, 12, 19, 20)} | {("R", f"({k},{n})") for k, numbers in TRAPS.items() for n in numbers}
 assert not wanted - {(asked[0], answer.split()[-1]) for asked, answer in expected if answer}
 
@@ -1013,7 +1112,7 @@ text = "\n".join(lines) + "\n"
 assert len(text) <= 65536, "more than the program reads"
 with open(os.path.join(here, "stdin"), "w") as out:
     out.write(text)
-print(sum(asked[0] in "LRVK" for asked in lines), "calls,", sum(answer is not None for _, answer in expected), "answers by hand")
+print(sum(asked[0] in "LRTVK" for asked in lines), "calls,", sum(answer is not None for _, answer in expected), "answers by hand")
 if os.path.exists(os.path.join(here, "stdout")):
     with open(os.path.join(here, "stdout")) as file:
         written = file.read().splitlines()

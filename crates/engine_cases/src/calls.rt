@@ -1,5 +1,7 @@
 // The four operations, called with the numbers of a line.
+use crate::lent::first_bytes;
 use crate::lent::part;
+use crate::lent::put_bytes;
 use crate::saying::say_answer;
 use crate::saying::say_look;
 use crate::saying::say_run;
@@ -10,6 +12,7 @@ pub fn call(letter: u8, seg: &mut [u32], regular: &[u8], alternate: &[u8], numbe
     match letter {
         b'L' => lay_out(seg, regular, alternate, numbers),
         b'R' => run(seg, regular, alternate, word(numbers, 0)),
+        b'T' => run_with(seg, regular, alternate, numbers),
         b'V' => load(seg, regular, alternate, numbers),
         b'K' => look(seg, regular, alternate, word(numbers, 0)),
         _ => say_shown(seg, numbers),
@@ -34,6 +37,16 @@ fn lay_out(seg: &mut [u32], regular: &[u8], alternate: &[u8], numbers: &[u32]) {
 
 fn run(seg: &mut [u32], regular: &[u8], alternate: &[u8], budget: u32) {
     let answer = engine::run::run(seg, regular, alternate, budget);
+    say_run(answer, word(seg, 3));
+}
+
+// The budget and the bytes of the table. There is room for a table that is too long, which a run must refuse.
+fn run_with(seg: &mut [u32], regular: &[u8], alternate: &[u8], numbers: &[u32]) {
+    let bytes = part(numbers, 1, numbers.len());
+    let mut table = [0u8; 40];
+    put_bytes(&mut table, bytes);
+    let lent = first_bytes(&table, bytes.len());
+    let answer = engine::run::run_with(seg, regular, alternate, lent, word(numbers, 0));
     say_run(answer, word(seg, 3));
 }
 

@@ -1,4 +1,4 @@
-// What a call is lent: parts of the program's arrays, and words of a procedure segment.
+// What a call is lent: parts of the program's arrays, words of a procedure segment, and bytes of a table.
 ghost use Prim.Native.Nat.{_≤_};
 
 pub fn least(a: usize, b: usize) -> usize
@@ -50,4 +50,16 @@ fn put_word(p: &mut [u8], index: usize, word: u32) {
     p[at + 1] = (word / 0x1_0000 % 0x100) as u8;
     p[at + 2] = (word / 0x100 % 0x100) as u8;
     p[at + 3] = (word % 0x100) as u8;
+}
+
+// Numbers below 256, as many as there is room for.
+pub fn put_bytes(bytes: &mut [u8], numbers: &[u32]) {
+    let mut i = 0;
+    while i < numbers.len() {
+        if bytes.len() <= i {
+            return;
+        }
+        bytes[i] = (numbers[i] % 0x100) as u8;
+        i += 1;
+    }
 }
