@@ -1,4 +1,5 @@
-/* The engine of the CRMS APL processor: six operations on a lent data segment and both procedure segments.
+/* The engine of the CRMS APL processor: six operations on a lent data segment and both procedure segments, two of them, run and
+ * replay, under the manual's table of operators or one that is lent.
  *
  * The data segment is `n` words of 32 bits; the procedure segments are `nr` and `na` bytes, the most significant byte of a word
  * first. An unused procedure segment is the one word 0x00000001. A call that is refused changes nothing; a replay that halts leaves
@@ -19,7 +20,8 @@
 extern "C" {
 #endif
 
-/* ---- status numbers: tests go in this order, save that 20 comes before 19, and 25 before the others for its record */
+/* ---- status numbers: tests go in this order, save that 26 comes after 12 and before 13, 20 before 19, and 25 before the others for
+ * its record */
 enum crms_status {
     CRMS_DONE = 0,              /* lay out, load, look, sheet: done; replay: every record was done */
     CRMS_BUDGET = 2,            /* run: as many instructions as asked were done; with 0 asked, none */
@@ -39,7 +41,8 @@ enum crms_status {
     CRMS_UNDEFINED = 22,        /* look: the global is undefined */
     CRMS_NO_VALUE = 23,         /* load: rank above 15, a length above 65,535, a count that is not the product, or a word no scalar */
     CRMS_FULL = 24,             /* load: no free block is 2 + rank + elements words long */
-    CRMS_MALFORMED = 25         /* replay: what stands at the place is no record */
+    CRMS_MALFORMED = 25,        /* replay: what stands at the place is no record */
+    CRMS_TABLE = 26             /* run, replay: the table of operators is not 16 bytes long, a byte is above 15, or one is repeated */
 };
 
 /* ---- traps, as word 3 of the data segment has them: class * 256 + number. The instruction has not happened, save for the first
@@ -86,6 +89,29 @@ enum crms_trap {
     CRMS_TRAP_UNDEFINED = 0x0A00         /* an undefined variable is loaded, or a function is left while its result is undefined */
 };
 
+/* ---- the operators of GENSCALAR, by their places in the manual's table: the bytes of a table that is lent */
+enum crms_operator {
+    /* of one operand */
+    CRMS_OPERATOR_IDENTITY = 0,
+    CRMS_OPERATOR_NEGATIVE = 1,
+    CRMS_OPERATOR_FLOOR = 2,
+    CRMS_OPERATOR_CEILING = 3,
+    CRMS_OPERATOR_MAGNITUDE = 4,
+    CRMS_OPERATOR_NOT = 5,
+    CRMS_OPERATOR_TEST_NUMBER = 6,
+    CRMS_OPERATOR_CONVERT = 7,
+    /* of two operands */
+    CRMS_OPERATOR_SUM = 8,
+    CRMS_OPERATOR_DIFFERENCE = 9,
+    CRMS_OPERATOR_PRODUCT = 10,
+    CRMS_OPERATOR_QUOTIENT = 11,
+    CRMS_OPERATOR_LOGICAL_PRODUCT = 12,
+    CRMS_OPERATOR_LOGICAL_SUM = 13,
+    CRMS_OPERATOR_LESS = 14,
+    CRMS_OPERATOR_EQUAL = 15,
+    CRMS_OPERATORS = 16 /* how many there are: the length of a table */
+};
+
 /* ---- the counts of a tally, by the family of an instruction's first byte */
 enum crms_family {
     CRMS_FAMILY_SHORTLOCAL = 0, /* 00-3F */
@@ -117,6 +143,12 @@ uint32_t crms_lay_out(uint32_t *data, size_t n, const uint8_t *regular, size_t n
 /* At most `budget` instructions. Gives status * 2^32 + the number of instructions that finished. */
 uint64_t crms_run(uint32_t *data, size_t n, const uint8_t *regular, size_t nr, const uint8_t *alternate, size_t na, uint32_t budget);
 
+/* The same under a table for code that numbers the operators in its own way: byte i is the operator, by enum crms_operator, that
+ * suboperation i of GENSCALAR means, whose first byte is 0x60 + i. Each operator stands in it once, those of one operand where they
+ * like. Suboperations 16 to 31 mean nothing under any table. crms_run is this under the manual's table, 0 to 15. */
+uint64_t crms_run_with(uint32_t *data, size_t n, const uint8_t *regular, size_t nr, const uint8_t *alternate, size_t na,
+                       const uint8_t *table, size_t nt, uint32_t budget);
+
 /* The value of these lengths and element words becomes the value of a global; rank 0 is one scalar. Gives the status. */
 uint32_t crms_load(uint32_t *data, size_t n, const uint8_t *regular, size_t nr, const uint8_t *alternate, size_t na, uint32_t global,
                    const uint32_t *lengths, size_t rank, const uint32_t *elements, size_t count);
@@ -132,6 +164,10 @@ uint32_t crms_load(uint32_t *data, size_t n, const uint8_t *regular, size_t nr, 
  * The tally is zeroed; then each finished instruction counts in its family, enum crms_family. A count stays at 4,294,967,295. */
 uint64_t crms_replay(uint32_t *data, size_t n, const uint8_t *regular, size_t nr, const uint8_t *alternate, size_t na,
                      const uint8_t *file, size_t nf, uint32_t tally[CRMS_FAMILIES]);
+
+/* The same with every run under a table, as crms_run_with is. A table that is refused halts it at the first record that runs. */
+uint64_t crms_replay_with(uint32_t *data, size_t n, const uint8_t *regular, size_t nr, const uint8_t *alternate, size_t na,
+                          const uint8_t *table, size_t nt, const uint8_t *file, size_t nf, uint32_t tally[CRMS_FAMILIES]);
 
 /* What a global holds. Gives status * 2^32 + rank * 2^28 + first * 2^14 + count: `first` is the address in the data segment of the
  * first of `count` element words (a scalar: rank 0, the global's own address, count 1); the lengths are the `rank` words before it. */

@@ -1,16 +1,37 @@
 /* A par list is loaded and copied, the copy is written, and both are looked at: the list is as it was. A sheet tells what each step
- * cost. Then the same by a file of imports. */
+ * cost. Then the same by a file of imports. Then one function out of two compilers, which number the operators differently. */
 #include <inttypes.h>
 #include <stdio.h>
 #include <stdlib.h>
 
 #include "crms.h"
 
-/* A procedure segment of one function, as a compiler writes it. */
+/* What shelves are short of: global 8 less global 9, where that is above 0, into global 9. A compiler has its own first bytes for the
+ * operators. */
+#define SHORTFALL(difference, less, product)                                                              \
+    0x00, 0x00, 0x00, 0x00,       /* header: no arguments, no lines, */                                   \
+    0x00, 0x00, 0x00, 0x05,       /* no locals, 5 words of code */                                        \
+    0xD0, 0x09, 0xD0, 0x08,       /* LONGGLOBAL 9 and 8: an operator's first operand is pushed last */    \
+    difference, 0x91, 0xD0, 0x09, /* ASSIGN_NO_RESULT to global 9: the gap */                             \
+    0xD0, 0x09, 0x40, 0x00, less, /* whether 0 is less than the gap: 1 or 0 */                            \
+    0xD0, 0x09, product,          /* the gap, or 0 */                                                     \
+    0x91, 0xD0, 0x09, 0xB0        /* ASSIGN_NO_RESULT to global 9; RETURN */
+
+/* A compiler that numbers the operators by their names, from A to Z. */
+static const uint8_t by_name[CRMS_OPERATORS] = {
+    CRMS_OPERATOR_CEILING, CRMS_OPERATOR_CONVERT, CRMS_OPERATOR_DIFFERENCE, CRMS_OPERATOR_EQUAL, CRMS_OPERATOR_FLOOR,
+    CRMS_OPERATOR_IDENTITY, CRMS_OPERATOR_LESS, CRMS_OPERATOR_LOGICAL_PRODUCT, CRMS_OPERATOR_LOGICAL_SUM, CRMS_OPERATOR_MAGNITUDE,
+    CRMS_OPERATOR_NEGATIVE, CRMS_OPERATOR_NOT, CRMS_OPERATOR_PRODUCT, CRMS_OPERATOR_QUOTIENT, CRMS_OPERATOR_SUM,
+    CRMS_OPERATOR_TEST_NUMBER
+};
+
+/* A procedure segment of three functions, as a compiler writes it. */
 static const uint8_t functions[] = {
-    0x00, 0x00, 0x00, 0x02,       /* a directory of two entries: itself, and */
-    0x00, 0x02, 0x00, 0x06,       /* function 1, which starts at word 2 and is 6 words long */
-    0x00, 0x00, 0x00, 0x00,       /* its header: no arguments, no lines, */
+    0x00, 0x00, 0x00, 0x04,       /* a directory of four entries: itself, and */
+    0x00, 0x04, 0x00, 0x06,       /* function 1, which starts at word 4 and is 6 words long, */
+    0x00, 0x0A, 0x00, 0x07,       /* function 2, from word 10 on, 7 words, */
+    0x00, 0x11, 0x00, 0x07,       /* function 3, from word 17 on, 7 words */
+    0x00, 0x00, 0x00, 0x00,       /* the header of function 1: no arguments, no lines, */
     0x00, 0x00, 0x00, 0x04,       /* no locals, 4 words of code */
     0xD0, 0x08,                   /* LONGGLOBAL 8: the list */
     0x91, 0xD0, 0x09,             /* ASSIGN_NO_RESULT to global 9: its copy, which shares the list's block */
@@ -18,7 +39,9 @@ static const uint8_t functions[] = {
     0x81, 0xD0, 0x09,             /* ASSIGN_INDEXED into global 9 */
     0xA1,                         /* EAT1: the result is not wanted */
     0xB0,                         /* RETURN: in the bottom frame this is the end, trap (3,13) */
-    0xB2, 0xB2                    /* NO_OPERATION fills up the word */
+    0xB2, 0xB2,                   /* NO_OPERATION fills up the word */
+    SHORTFALL(0x69, 0x6E, 0x6A),  /* function 2, by the manual's numbers */
+    SHORTFALL(0x62, 0x66, 0x6C)   /* function 3, by the numbers of by_name */
 };
 
 /* The alternate procedure segment has no functions. */
@@ -113,6 +136,44 @@ static void replay(uint32_t *data, size_t bytes, uint32_t expected)
            tally[CRMS_FAMILY_MEMREF], tally[CRMS_FAMILY_ETC], tally[CRMS_FAMILY_LONGGLOBAL]);
 }
 
+/* A fresh segment with more array words for a shortfall: 10 20 30 is to be there, and 4 25 13 is. */
+static void stock(uint32_t *data, uint32_t function)
+{
+    const uint32_t lengths[] = {3};
+    const uint32_t par[] = {10, 20, 30};
+    const uint32_t there[] = {4, 25, 13};
+
+    expect("lay out", crms_lay_out(data, WORDS, PROCEDURES, 0, function, 2, 36), CRMS_DONE);
+    expect("load", crms_load(data, WORDS, PROCEDURES, LIST, lengths, 1, par, 3), CRMS_DONE);
+    expect("load", crms_load(data, WORDS, PROCEDURES, COPY, lengths, 1, there, 3), CRMS_DONE);
+}
+
+/* The ten instructions of a shortfall: function 2 by the manual's table, function 3 by the one that is lent. */
+static void shortfall(uint32_t *data)
+{
+    static const uint8_t run_record[] = {1, 10};
+    uint32_t tally[CRMS_FAMILIES];
+
+    stock(data, 2);
+    expect("run", crms_status_of(crms_run(data, WORDS, PROCEDURES, 10)), CRMS_BUDGET);
+    printf("shortfall by the manual's numbers\n");
+    print_list("short", data, COPY);
+
+    stock(data, 3);
+    expect("run", crms_status_of(crms_run_with(data, WORDS, PROCEDURES, by_name, sizeof by_name, 10)), CRMS_BUDGET);
+    printf("shortfall by the chain's numbers\n");
+    print_list("short", data, COPY);
+
+    stock(data, 3);
+    expect("replay", crms_status_of(crms_replay_with(data, WORDS, PROCEDURES, by_name, sizeof by_name, run_record, 2, tally)),
+           CRMS_DONE);
+    printf("the same by a file, with %" PRIu32 " operators\n", tally[CRMS_FAMILY_GENSCALAR]);
+    print_list("short", data, COPY);
+
+    expect("run", crms_status_of(crms_run_with(data, WORDS, PROCEDURES, by_name, 15, 10)), CRMS_TABLE);
+    printf("a table of 15 bytes: status %d\n", CRMS_TABLE);
+}
+
 int main(void)
 {
     uint32_t data[WORDS];
@@ -135,5 +196,9 @@ int main(void)
 
     replay(data, 12, CRMS_MALFORMED);
     replay(data, sizeof imports, CRMS_TRAP);
-    return data[3] == CRMS_TRAP_BOTTOM ? EXIT_SUCCESS : EXIT_FAILURE;
+    if (data[3] != CRMS_TRAP_BOTTOM)
+        return EXIT_FAILURE;
+
+    shortfall(data);
+    return EXIT_SUCCESS;
 }

@@ -38,11 +38,13 @@ pub enum Refusal {
     Full = 24,
     /// Replay: no record.
     Malformed = 25,
+    /// Run and replay: the table of operators that was lent.
+    Table = 26,
 }
 
 impl Refusal {
     /// All refusals, by their numbers.
-    pub const ALL: [Refusal; 16] = [
+    pub const ALL: [Refusal; 17] = [
         Refusal::DataLength,
         Refusal::ProcedureLength,
         Refusal::Procedure,
@@ -59,6 +61,7 @@ impl Refusal {
         Refusal::NoValue,
         Refusal::Full,
         Refusal::Malformed,
+        Refusal::Table,
     ];
 
     /// The refusal of a number.
@@ -114,6 +117,7 @@ impl Refusal {
                 "What stands at the place is no record: a bad or cut number, a kind that is neither 0 nor 1, a rank above 15, over \
                  16,384 elements, an element above 8,388,607, or the file ends inside the record."
             }
+            Refusal::Table => "The table of operators is not 16 bytes long, a byte is above 15, or one is repeated.",
         }
     }
 }

@@ -18,6 +18,18 @@ extern "C" {
 
     pub fn crms_run(data: *mut u32, n: usize, regular: *const u8, nr: usize, alternate: *const u8, na: usize, budget: u32) -> u64;
 
+    pub fn crms_run_with(
+        data: *mut u32,
+        n: usize,
+        regular: *const u8,
+        nr: usize,
+        alternate: *const u8,
+        na: usize,
+        table: *const u8,
+        nt: usize,
+        budget: u32,
+    ) -> u64;
+
     pub fn crms_load(
         data: *mut u32,
         n: usize,
@@ -39,6 +51,20 @@ extern "C" {
         nr: usize,
         alternate: *const u8,
         na: usize,
+        file: *const u8,
+        nf: usize,
+        tally: *mut Tally,
+    ) -> u64;
+
+    pub fn crms_replay_with(
+        data: *mut u32,
+        n: usize,
+        regular: *const u8,
+        nr: usize,
+        alternate: *const u8,
+        na: usize,
+        table: *const u8,
+        nt: usize,
         file: *const u8,
         nf: usize,
         tally: *mut Tally,

@@ -2,7 +2,8 @@
 //!
 //! [`lay_out`] makes a fresh data segment, [`run`] does at most a given number of instructions, [`load`] puts a value into a
 //! global, [`replay`] does the loads and runs of a file of imports, [`look`] hands a global's value back, and [`sheet`] tells where
-//! the words of array storage went. A data segment is any `&mut [u32]` of 32 to 16,384 words. A call that is refused says why
+//! the words of array storage went. [`run_with`] and [`replay_with`] are lent a table for code that numbers the operators
+//! ([`Operator`]) in its own way. A data segment is any `&mut [u32]` of 32 to 16,384 words. A call that is refused says why
 //! ([`Refusal`]) and changes nothing; a run that meets a trap says which ([`Trap`]). Nothing is kept between calls and nothing is
 //! allocated.
 //!
@@ -52,9 +53,11 @@
 
 mod faults;
 mod ffi;
+mod operator;
 mod scalar;
 
 pub use faults::{Refusal, Trap};
+pub use operator::Operator;
 pub use scalar::Scalar;
 
 /// Both procedure segments: whole big-endian words, 4 to 32,768 bytes each.
@@ -222,12 +225,28 @@ pub fn run(data: &mut [u32], procedures: Procedures<'_>, budget: u32) -> Result<
     let answer = unsafe {
         ffi::crms_run(data.as_mut_ptr(), data.len(), regular.as_ptr(), regular.len(), alternate.as_ptr(), alternate.len(), budget)
     };
-    let steps = (answer & 0xFFFF_FFFF) as u32;
-    match (answer >> 32) as u32 {
-        2 => Ok(Ran::Done { steps }),
-        3 => Ok(Ran::Trapped { steps, trap: Trap::from_word(data[3]) }),
-        number => Err(refused(number)),
-    }
+    ran(data, answer)
+}
+
+/// [`run`] under a table for code that numbers the operators in its own way: byte i is the place in [`Operator::ALL`] of what
+/// suboperation i of GENSCALAR means ([`Operator::table`] writes it). [`run`] is this under the places in order.
+pub fn run_with(data: &mut [u32], procedures: Procedures<'_>, table: &[u8], budget: u32) -> Result<Ran, Refusal> {
+    let Procedures { regular, alternate } = procedures;
+    // SAFETY: as in `lay_out`.
+    let answer = unsafe {
+        ffi::crms_run_with(
+            data.as_mut_ptr(),
+            data.len(),
+            regular.as_ptr(),
+            regular.len(),
+            alternate.as_ptr(),
+            alternate.len(),
+            table.as_ptr(),
+            table.len(),
+            budget,
+        )
+    };
+    ran(data, answer)
 }
 
 /// Gives the global at address `global` the value of these lengths and element words. No lengths, and one element, are a scalar.
@@ -271,12 +290,29 @@ pub fn replay(data: &mut [u32], procedures: Procedures<'_>, file: &[u8], tally: 
             tally,
         )
     };
-    let place = (answer & 0xFFFF_FFFF) as u32;
-    match (answer >> 32) as u32 {
-        0 => Replayed::Done,
-        3 => Replayed::Trapped { place, trap: Trap::from_word(data[3]) },
-        number => Replayed::Refused { place, refusal: refused(number) },
-    }
+    replayed(data, answer)
+}
+
+/// [`replay`] with every run under a table, as [`run_with`] is. A table that is refused halts it at the first record that runs.
+pub fn replay_with(data: &mut [u32], procedures: Procedures<'_>, table: &[u8], file: &[u8], tally: &mut Tally) -> Replayed {
+    let Procedures { regular, alternate } = procedures;
+    // SAFETY: as in `replay`.
+    let answer = unsafe {
+        ffi::crms_replay_with(
+            data.as_mut_ptr(),
+            data.len(),
+            regular.as_ptr(),
+            regular.len(),
+            alternate.as_ptr(),
+            alternate.len(),
+            table.as_ptr(),
+            table.len(),
+            file.as_ptr(),
+            file.len(),
+            tally,
+        )
+    };
+    replayed(data, answer)
 }
 
 /// What the global at address `global` holds.
@@ -314,6 +350,26 @@ pub fn sheet(data: &[u32], procedures: Procedures<'_>) -> Result<Sheet, Refusal>
     };
     done(status)?;
     Ok(counts)
+}
+
+/// What a run answered, with the trap out of the segment.
+fn ran(data: &[u32], answer: u64) -> Result<Ran, Refusal> {
+    let steps = (answer & 0xFFFF_FFFF) as u32;
+    match (answer >> 32) as u32 {
+        2 => Ok(Ran::Done { steps }),
+        3 => Ok(Ran::Trapped { steps, trap: Trap::from_word(data[3]) }),
+        number => Err(refused(number)),
+    }
+}
+
+/// What a replay answered, with the trap out of the segment.
+fn replayed(data: &[u32], answer: u64) -> Replayed {
+    let place = (answer & 0xFFFF_FFFF) as u32;
+    match (answer >> 32) as u32 {
+        0 => Replayed::Done,
+        3 => Replayed::Trapped { place, trap: Trap::from_word(data[3]) },
+        number => Replayed::Refused { place, refusal: refused(number) },
+    }
 }
 
 fn done(status: u32) -> Result<(), Refusal> {

@@ -1,5 +1,5 @@
 //! Refusals and traps in words: those of docs/FAULTS.md, and the numbers of include/crms.h.
-use crms::{Refusal, Trap};
+use crms::{Operator, Refusal, Trap};
 use std::fs::read_to_string;
 use std::path::Path;
 
@@ -62,6 +62,8 @@ fn the_header_has_the_same_numbers() {
     assert_eq!(enumerators("crms_status"), [&[0, 2, 3], &refusals[..]].concat());
     let traps: Vec<u32> = (0..=0xFFFF).filter(|w| Trap::from_word(*w).meaning().is_some()).collect();
     assert_eq!(enumerators("crms_trap"), traps);
+    let operators = Operator::table(Operator::ALL).map(u32::from);
+    assert_eq!(enumerators("crms_operator"), [&operators[..], &[16]].concat());
 }
 
 #[test]

@@ -66,6 +66,10 @@ impl Fixture {
         crms::run(&mut self.data, Procedures::regular_only(&self.regular), budget)
     }
 
+    pub fn run_with(&mut self, table: &[u8], budget: u32) -> Result<Ran, Refusal> {
+        crms::run_with(&mut self.data, Procedures::regular_only(&self.regular), table, budget)
+    }
+
     pub fn load(&mut self, global: u32, lengths: &[u32], elements: &[u32]) -> Result<(), Refusal> {
         crms::load(&mut self.data, Procedures::regular_only(&self.regular), global, lengths, elements)
     }
@@ -74,6 +78,13 @@ impl Fixture {
     pub fn replay(&mut self, file: &[u8]) -> (Replayed, Tally) {
         let mut tally = Tally { index: 7, ..Tally::default() };
         let answer = crms::replay(&mut self.data, Procedures::regular_only(&self.regular), file, &mut tally);
+        (answer, tally)
+    }
+
+    /// A replay under a table, and what it counts.
+    pub fn replay_with(&mut self, table: &[u8], file: &[u8]) -> (Replayed, Tally) {
+        let mut tally = Tally { index: 7, ..Tally::default() };
+        let answer = crms::replay_with(&mut self.data, Procedures::regular_only(&self.regular), table, file, &mut tally);
         (answer, tally)
     }
 
