@@ -14,6 +14,11 @@ pub const GO: u8 = 0xAD;
 pub const GO_TRUE: u8 = 0xAE;
 pub const GO_FALSE: u8 = 0xAF;
 
+/// The byte of an operator where a table names it.
+pub fn numbered(table: &[u8; 16], operator: u8) -> u8 {
+    0x60 + table.iter().position(|&place| place == operator & 15).expect("each operator is in the table") as u8
+}
+
 /// The first place of a function's code.
 pub const START: u16 = 8;
 

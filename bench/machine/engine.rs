@@ -1,12 +1,13 @@
 //! The proved engine, and the plain machine beside it on the same loop.
 use crate::arrays::{value, Array, Cell, Shape, Value};
 use crate::loops::{Loop, FIRST};
-use crate::machine::Machine;
+use crate::machine::{Machine, MANUAL};
 use std::rc::Rc;
 
 extern "C" {
     fn crms_lay_out(data: *mut u32, n: usize, regular: *const u8, nr: usize, alternate: *const u8, na: usize, segment: u32, function: u32, globals: u32, array_words: u32) -> u32;
     fn crms_run(data: *mut u32, n: usize, regular: *const u8, nr: usize, alternate: *const u8, na: usize, budget: u32) -> u64;
+    fn crms_run_with(data: *mut u32, n: usize, regular: *const u8, nr: usize, alternate: *const u8, na: usize, table: *const u8, nt: usize, budget: u32) -> u64;
     fn crms_load(data: *mut u32, n: usize, regular: *const u8, nr: usize, alternate: *const u8, na: usize, global: u32, lengths: *const u32, rank: usize, elements: *const u32, count: usize) -> u32;
     fn crms_replay(data: *mut u32, n: usize, regular: *const u8, nr: usize, alternate: *const u8, na: usize, file: *const u8, nf: usize, tally: *mut u32) -> u64;
     fn crms_sheet(data: *const u32, n: usize, regular: *const u8, nr: usize, alternate: *const u8, na: usize, counts: *mut u32) -> u32;
@@ -18,11 +19,13 @@ const NONE: [u8; 4] = [0, 0, 0, 1];
 pub struct Engine<'a> {
     pub data: Vec<u32>,
     pub procedures: [&'a [u8]; 2],
+    /// The table of operators that its runs are lent, where one is.
+    pub table: Option<&'a [u8; 16]>,
 }
 
 impl<'a> Engine<'a> {
     pub fn new(l: &'a Loop) -> Self {
-        let mut engine = Engine { data: vec![0; l.words], procedures: [&l.procedures, &NONE] };
+        let mut engine = Engine { data: vec![0; l.words], procedures: [&l.procedures, &NONE], table: l.table.as_ref() };
         let (data, [p, q]) = (&mut engine.data, engine.procedures);
         let done = unsafe { crms_lay_out(data.as_mut_ptr(), data.len(), p.as_ptr(), p.len(), q.as_ptr(), q.len(), 0, 1, l.globals as u32, l.array_words as u32) };
         assert_eq!(done, 0);
@@ -41,7 +44,10 @@ impl<'a> Engine<'a> {
     /// So many instructions, of which none traps.
     pub fn run(&mut self, budget: u32) {
         let (data, [p, q]) = (&mut self.data, self.procedures);
-        let answer = unsafe { crms_run(data.as_mut_ptr(), data.len(), p.as_ptr(), p.len(), q.as_ptr(), q.len(), budget) };
+        let answer = match self.table {
+            None => unsafe { crms_run(data.as_mut_ptr(), data.len(), p.as_ptr(), p.len(), q.as_ptr(), q.len(), budget) },
+            Some(t) => unsafe { crms_run_with(data.as_mut_ptr(), data.len(), p.as_ptr(), p.len(), q.as_ptr(), q.len(), t.as_ptr(), t.len(), budget) },
+        };
         assert_eq!(answer, 2 << 32 | budget as u64);
     }
 
@@ -103,5 +109,6 @@ pub fn plain(l: &Loop) -> Machine<'_> {
     let vector = |v: &Vec<u32>| Cell::Array(Rc::new(Array { shape: Shape::vector(v.len()), ravel: v.clone() }));
     let mut globals: Vec<Cell> = l.loaded.iter().map(vector).collect();
     globals.resize(l.globals, Cell::Undefined);
-    Machine::new([&l.procedures, &NONE], globals, l.words - 8 - l.globals - l.array_words).expect("the bottom function is there")
+    let table = l.table.as_ref().unwrap_or(&MANUAL);
+    Machine::new([&l.procedures, &NONE], table, globals, l.words - 8 - l.globals - l.array_words).expect("the bottom function and a table are there")
 }

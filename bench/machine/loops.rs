@@ -1,13 +1,19 @@
 //! The code that is timed: endless loops, each with what its globals hold at the start.
 use crate::assemble::*;
+use crate::machine::MANUAL;
 use crate::random::Random;
 
 /// The address of the first global.
 pub const FIRST: u16 = 8;
 pub const WORDS: usize = 16_384;
 
+/// A table of operators other than the manual's: the last first.
+pub const REVERSED: [u8; 16] = [15, 14, 13, 12, 11, 10, 9, 8, 7, 6, 5, 4, 3, 2, 1, 0];
+
 pub struct Loop {
     pub procedures: Vec<u8>,
+    /// The table of operators that is lent, where one is.
+    pub table: Option<[u8; 16]>,
     /// The vectors in the first globals.
     pub loaded: Vec<Vec<u32>>,
     pub globals: usize,
@@ -23,20 +29,26 @@ fn on_arrays(main: Code, loaded: Vec<Vec<u32>>) -> Loop {
 /// The same in a segment of so many words.
 fn on_arrays_of(words: usize, main: Code, loaded: Vec<Vec<u32>>) -> Loop {
     let globals = loaded.len();
-    Loop { procedures: segment(&[simple(0, main.jump(GO, START))]), loaded, globals, array_words: words - 8 - globals - 16, words }
+    Loop { procedures: segment(&[simple(0, main.jump(GO, START))]), table: None, loaded, globals, array_words: words - 8 - globals - 16, words }
 }
 
 /// The loop with most words for the stack.
 fn on_scalars(functions: &[Function]) -> Loop {
-    Loop { procedures: segment(functions), loaded: Vec::new(), globals: 0, array_words: 100, words: WORDS }
+    Loop { procedures: segment(functions), table: None, loaded: Vec::new(), globals: 0, array_words: 100, words: WORDS }
 }
 
 /// A local counts to 4,095 and starts again: eight instructions a turn.
 pub fn counting() -> Loop {
+    counting_under(None)
+}
+
+/// The same in the numbers of a table that is lent.
+pub fn counting_under(table: Option<[u8; 16]>) -> Loop {
+    let [sum, less] = [SUM, LESS].map(|operator| numbered(&table.unwrap_or(MANUAL), operator));
     let start = Code::default().constant(0).to_local(1);
     let turn = start.here();
-    let code = start.local(1).constant(1).op(SUM).to_local(1).constant(4095).local(1).op(LESS).jump(GO_TRUE, turn);
-    on_scalars(&[simple(1, code.jump(GO, START))])
+    let code = start.local(1).constant(1).op(sum).to_local(1).constant(4095).local(1).op(less).jump(GO_TRUE, turn);
+    Loop { table, ..on_scalars(&[simple(1, code.jump(GO, START))]) }
 }
 
 /// The same with a global.
@@ -87,7 +99,7 @@ pub fn fragmenting() -> Loop {
         code = code.constant(length).op(INDEXGEN).to_global(FIRST + random.below(24) as u16);
     }
     let procedures = segment(&[simple(0, code.jump(GO, START))]);
-    Loop { procedures, loaded: Vec::new(), globals: 24, array_words: 2_000, words: WORDS }
+    Loop { procedures, table: None, loaded: Vec::new(), globals: 24, array_words: 2_000, words: WORDS }
 }
 
 /// An operator on two vectors, its result dropped: five instructions.

@@ -44,7 +44,7 @@ const TURNS: usize = 25;
 fn main() {
     let aplus = std::env::args().nth(1).and_then(|path| std::fs::read_to_string(path).ok()).unwrap_or_default();
     let random = &mut Random(0x9E37_79B9_7F4A_7C15);
-    let [plain, itself] = [["proved", "plain Rust"], ["replay", "run"]];
+    let plain = ["proved", "plain Rust"];
     let mut sections = [
         ("ns for an instruction", plain, rows::instructions()),
         ("ns for an element", plain, rows::elements(random)),
@@ -52,7 +52,8 @@ fn main() {
         ("ns for a call", plain, rows::calls(random)),
         ("ns for a sheet", plain, rows::sheets(random)),
         ("ns for a replayed load", plain, rows::loads(random)),
-        ("ns for a replayed instruction", itself, rows::replays()),
+        ("ns for a replayed instruction", ["replay", "run"], rows::replays()),
+        ("ns for an instruction under a lent table", ["lent", "manual"], rows::lent()),
     ];
     for _ in 0..ROUNDS {
         sections.iter_mut().flat_map(|(_, _, rows)| rows).for_each(|row| row.take(TURNS));

@@ -1,10 +1,12 @@
 //! What is timed: a row has a window of the proved code and one of what it is held against, taken by turns.
 use crate::assemble::{EQUAL, LESS, PRODUCT, QUOTIENT, SUM};
 use crate::engine::{plain, Engine};
-use crate::loops::{self, Loop};
+use crate::loops::{self, Loop, REVERSED};
+use crate::machine::{is_table, MANUAL};
 use crate::random::Random;
 use crate::windows::{nanoseconds, Times, Windows};
 use crate::{acceptance, files, imports, judges, segments, sheet};
+use std::hint::black_box;
 
 /// About so many nanoseconds in a window.
 const WINDOW: f64 = 0.5e6;
@@ -64,8 +66,9 @@ fn turns(l: Loop, units: f64) -> impl FnMut() -> [f64; 4] {
 
 pub fn instructions() -> Vec<Row> {
     let fragmenting = format!("a fragmenting loop, {} free blocks", free_blocks(&loops::fragmenting()));
-    let rows: [(&str, Loop, Option<f64>); 7] = [
+    let rows: [(&str, Loop, Option<f64>); 8] = [
         ("a scalar loop: a local counts", loops::counting(), Some(8.0)),
+        ("the same under a lent table of operators", loops::counting_under(Some(REVERSED)), Some(8.0)),
         ("a scalar loop: a global counts", loops::counting_global(), Some(8.0)),
         ("a scalar loop: constants added and dropped", loops::constants(), Some(8.0)),
         ("Ackermann, with its calls and returns", loops::ackermann(), Some(12.0)),
@@ -125,15 +128,16 @@ pub fn words(random: &mut Random) -> Vec<Row> {
     sizes.map(row).into()
 }
 
-/// What every run begins with: the tests, and a scratch that is cleared. Plain Rust has the tests alone.
+/// What every run begins with: the tests, of the table of operators too, and a scratch that is cleared. Plain Rust has the tests
+/// alone.
 pub fn calls(random: &mut Random) -> Vec<Row> {
     let row = |(words, arrays, frames)| {
         let p: &'static [u8] = segments::procedures().leak();
         let s = segments::segment(words, arrays, frames, random);
-        let (mut ours, calls) = (Engine { data: s.clone(), procedures: [p, p] }, 65_536 / words);
+        let (mut ours, calls) = (Engine { data: s.clone(), procedures: [p, p], table: None }, 65_536 / words);
         Row::new("a run of no instructions", Some(words), None, move || {
             let proved = nanoseconds(|| (0..calls).for_each(|_| ours.run(0)));
-            let plain = nanoseconds(|| (0..calls).for_each(|_| assert_eq!(acceptance::judge(&s, p, p), 0)));
+            let plain = nanoseconds(|| (0..calls).for_each(|_| assert!(acceptance::judge(&s, p, p) == 0 && is_table(&black_box(MANUAL)))));
             [proved / calls as f64, plain / calls as f64, 0.0, 0.0]
         })
     };
@@ -145,7 +149,7 @@ pub fn sheets(random: &mut Random) -> Vec<Row> {
     let row = |(words, arrays, frames)| {
         let p: &'static [u8] = segments::procedures().leak();
         let s = segments::segment(words, arrays, frames, random);
-        let (ours, calls) = (Engine { data: s.clone(), procedures: [p, p] }, 65_536 / words);
+        let (ours, calls) = (Engine { data: s.clone(), procedures: [p, p], table: None }, 65_536 / words);
         let counts = ours.sheet();
         assert_eq!(sheet::sheet(&s, p, p), Ok(counts));
         Row::new("a sheet", Some(words), None, move || {
@@ -174,34 +178,44 @@ pub fn loads(random: &mut Random) -> Vec<Row> {
     [("1,000 loads of 10 elements", 1_024, 1_000), ("60 loads of 10 elements", 16_384, 60)].map(row).into()
 }
 
-/// Endless loops by a file of one run, beside the same run. What a run of no instructions takes is taken off from both; the target
-/// is for the ratio.
+/// Two ways of the proved engine to run an endless loop so many steps. What a run of no instructions takes is taken off from both.
+fn beside(mut ours: impl FnMut(u32) + 'static, mut theirs: impl FnMut(u32) + 'static) -> impl FnMut() -> [f64; 4] {
+    let n = budget(&mut theirs);
+    move || {
+        [nanoseconds(|| ours(n)), nanoseconds(|| theirs(n)), nanoseconds(|| ours(0)), nanoseconds(|| theirs(0))].map(|time| time / n as f64)
+    }
+}
+
+/// A loop in the numbers of a lent table, beside the same loop in the manual's.
+pub fn lent() -> Vec<Row> {
+    let [l, manual]: [&'static Loop; 2] = [Some(REVERSED), None].map(|table| &*Box::leak(Box::new(loops::counting_under(table))));
+    let (mut ours, mut theirs) = (Engine::new(l), Engine::new(manual));
+    for steps in [0, 3, 5_000, 1] {
+        ours.run(steps);
+        theirs.run(steps);
+        assert!(ours.data == theirs.data, "the words differ");
+    }
+    vec![Row::new("a scalar loop: a local counts", None, None, beside(move |n| ours.run(n), move |n| theirs.run(n)))]
+}
+
+/// Endless loops by a file of one run, beside the same run; the target is for the ratio.
 pub fn replays() -> Vec<Row> {
     let row = |(name, l)| {
         let l: &'static Loop = Box::leak(Box::new(l));
         let (mut ours, mut theirs) = (Engine::new(l), Engine::new(l));
         for steps in [0, 3, 5_000, 1] {
-            replay_run(&mut ours, &files::run(steps), steps);
+            replay_run(&mut ours, steps);
             theirs.run(steps);
             assert!(ours.data == theirs.data, "the words differ");
         }
-        let n = budget(|n| theirs.run(n));
-        let (file, none, share) = (files::run(n), files::run(0), n as f64);
-        Row::new(name, None, Some(1.15), move || {
-            [
-                nanoseconds(|| replay_run(&mut ours, &file, n)) / share,
-                nanoseconds(|| theirs.run(n)) / share,
-                nanoseconds(|| replay_run(&mut ours, &none, 0)) / share,
-                nanoseconds(|| theirs.run(0)) / share,
-            ]
-        })
+        Row::new(name, None, Some(1.15), beside(move |n| replay_run(&mut ours, n), move |n| theirs.run(n)))
     };
     let rows = [("a scalar loop: a local counts", loops::counting()), ("Ackermann, with its calls and returns", loops::ackermann())];
     rows.map(row).into()
 }
 
 /// A file of one run, each of whose instructions is counted.
-fn replay_run(engine: &mut Engine, file: &[u8], steps: u32) {
-    let (answer, tally) = engine.replay(file);
+fn replay_run(engine: &mut Engine, steps: u32) {
+    let (answer, tally) = engine.replay(&files::run(steps));
     assert_eq!((answer, tally.iter().sum()), (0, steps));
 }

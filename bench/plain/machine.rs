@@ -10,8 +10,19 @@ use std::rc::Rc;
 /// Code outside its bounds.
 const OUTSIDE: Trap = (3, 1);
 
+/// The manual's own table of operators: each suboperation means the operator at its place.
+pub const MANUAL: [u8; 16] = [0, 1, 2, 3, 4, 5, 6, 7, 8, 9, 10, 11, 12, 13, 14, 15];
+
+/// Sixteen places, each of them once.
+pub fn is_table(table: &[u8]) -> bool {
+    let seen = table.iter().fold(0, |seen, &place| seen | 1u32.checked_shl(place as u32).unwrap_or(0));
+    table.len() == 16 && seen == 0xFFFF
+}
+
 pub struct Machine<'a> {
     pub procedures: [&'a [u8]; 2],
+    /// Which operator each suboperation of GENSCALAR means.
+    table: [u8; 16],
     pub globals: Vec<Cell>,
     pub stack: Vec<Cell>,
     pub frame: Frame<'a>,
@@ -23,12 +34,13 @@ pub struct Machine<'a> {
 }
 
 impl<'a> Machine<'a> {
-    /// The bottom frame runs function 1; the stack has so many words.
-    pub fn new(procedures: [&'a [u8]; 2], globals: Vec<Cell>, words: usize) -> Option<Self> {
+    /// The bottom frame runs function 1; the stack has so many words. Nothing where that function or a table is not there.
+    pub fn new(procedures: [&'a [u8]; 2], table: &[u8], globals: Vec<Cell>, words: usize) -> Option<Self> {
+        let table = table.try_into().ok().filter(|table: &[u8; 16]| is_table(table))?;
         let called = function(procedures[0], 1)?;
         let stack = vec![Cell::Undefined; called.nlocals];
         let frame = Frame { called, at: 8, start: 0, temporaries: stack.len() };
-        Some(Machine { procedures, globals, stack, frame, older: Vec::new(), flags: 0, most: words.checked_sub(2)? })
+        Some(Machine { procedures, table, globals, stack, frame, older: Vec::new(), flags: 0, most: words.checked_sub(2)? })
     }
 
     /// At most so many instructions: how many finished, and the trap that stopped them.
@@ -64,8 +76,11 @@ impl<'a> Machine<'a> {
                 self.push(Cell::Scalar(sign << 31 | magnitude))?;
                 at + 2
             }
-            0x68..=0x6B | 0x6E..=0x6F => {
-                self.dyadic(first as u32 & 15)?;
+            0x60..=0x6F => {
+                match self.table[first as usize & 15] {
+                    op @ (8..=11 | 14 | 15) => self.dyadic(op as u32)?,
+                    _ => return Err((3, 11)),
+                }
                 at + 1
             }
             0x81..=0x8F | 0x91 => {
