@@ -1,5 +1,4 @@
 use borrow.Author.Needs.{needs}
-use mathlib.Core.Path.{sym}
 use Rattle.operator.specs.Lent.{named}
 use Rattle.operator.proofs.lent.named.Statement.{statement}
 use Rattle.operator.proofs.lent.named.Tie as tie

@@ -1,6 +1,4 @@
 use borrow.Author.Needs.{needs}
-use mathlib.Core.Path.{_∙_}
-use native.Mathlib.Omega.{arith}
 use borrow.Author.Tests.{lt-ltb, le-ltb}
 use Rattle.operator.specs.Lent.{operatorUnder}
 use Rattle.operator.proofs.lent.operator_under.Statement.{statement}
