@@ -34,7 +34,7 @@ use Rattle.manual.specs.Scalars as scalars
 use Rattle.manual.specs.Scalars.{valueOf}
 use Rattle.manual.specs.Values as values
 use Rattle.manual.specs.Program.{Program, underTable}
-use Rattle.manual.specs.Instructions.{Running, running, codeIn, scalarPlan, planOf, planDecoded, planAt}
+use Rattle.manual.specs.Instructions.{running, codeIn, scalarPlan, planOf, planDecoded, planAt}
 use Rattle.manual.specs.Cases.{OfPlan}
 use Rattle.manual.proofs.Lists.{stops, goes}
 use Rattle.effects.specs.declared.Outcome.the-variants.{Finished}

@@ -6,7 +6,7 @@ use mathlib.Core.List.{List, [], _∷_, _++_}
 use lib.ListN.{set}
 use Rattle.operator.specs.Lent.{manualTable}
 use Rattle.manual.specs.Program.{program}
-use Rattle.operations.specs.declared.Run.the-variants.{Done, Refused}
+use Rattle.operations.specs.declared.Run.the-variants.{Refused}
 use Rattle.operations.specs.Run.{Ended, ran}
 use Rattle.audit.specs.Table.{coded, laid, ranAfter, OnTop}
 

@@ -22,7 +22,7 @@ use Rattle.segment.specs.Machine.{Frame}
 use Rattle.segment.specs.View.{view}
 use Rattle.acceptance.specs.Frames.{frameSegment}
 use Rattle.manual.specs.Seen.{Seen, seenOf}
-use Rattle.manual.specs.Program.{Program, program, underManual, underTable}
+use Rattle.manual.specs.Program.{Program, program, underManual}
 use Rattle.manual.specs.Instructions.{Running, running, codeIn, scalarPlan, planOf, planDecoded}
 use Rattle.legality.specs.Legal.{functionWord}
 use Rattle.step_theorems.specs.Planned.{frameSelector, planned}

@@ -10,7 +10,6 @@ mod listing;
 mod text;
 
 use asked::Asked;
-use libc::STDOUT_FILENO;
 use line_tool::command::is;
 use text::number;
 use text::say;

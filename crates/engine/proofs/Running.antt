@@ -1,12 +1,10 @@
 -- The table of run: what is answered, and the segment after it, where the segment is refused, and where it is not.
 use Prim.Native.Nat.{ℕ, _≤_}
-use mathlib.Core.Path.{_≡_, sym, ap, subst, _∙_}
-use mathlib.Core.Bool.{false≢true}
+use mathlib.Core.Path.{_≡_, sym, ap, subst}
 use mathlib.Core.List.{List}
 use lib.ListN.{length, set}
 use borrow.Author.Tests.{ne-eqb}
-use Rattle.descriptor.proofs.Truth.{by-eq}
-use Rattle.operator.proofs.Once.{other-length}
+use Rattle.operator_theorems.proofs.Theorem.{sixteen}
 use Rattle.acceptance.proofs.Structure.{table-sound}
 use Rattle.manual.specs.Program.{Program}
 use Rattle.effects.specs.declared.Ran.{Ran}
@@ -31,7 +29,7 @@ module _ (s : List ℕ) (p : Program) (passed : runRefusal s p ≡ 0) where
   short-enough = table-sound s (p .regular) (p .alternate) (tests .accepted) .longest
 
   pub sixteen-places : length (p .table) ≡ 16
-  sixteen-places = by-eq (length (p .table)) 16 (λ e. e) (λ other. absurd (false≢true (other-length (p .table) other ∙ tests .table)))
+  sixteen-places = sixteen (p .table) (tests .table) .0
 
 -- ---- the table
 

@@ -6,7 +6,7 @@ use mathlib.Core.List.{List}
 use native.Mathlib.Omega.{arith}
 use lib.Dec.{eqb}
 use borrow.Author.Tests.{eqb-false}
-use Rattle.operator.specs.Lent.{tableTest, manualTable}
+use Rattle.operator.specs.Lent.{tableTest}
 use Rattle.procedure.specs.Refusal.{procedureRefusal}
 use Rattle.acceptance.specs.Refusal.{lengthTest, dataRefusal, refusal}
 use Rattle.manual.specs.Program.{Program, underManual}

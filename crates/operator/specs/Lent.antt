@@ -34,11 +34,11 @@ tableTest table = eqb (length table) 16 && eachOnce [] table
 unfoldable pub operatorUnder : List ℕ → ℕ → Suboperation
 operatorUnder table number = cond (ltb number 16) (operatorOf (getD table number 0)) Undefined
 
-abbrev pub orElse : Suboperation → Operator → Operator
-orElse (Defined o) manuals = o
-orElse Undefined manuals = manuals
+abbrev pub orManual : Suboperation → Operator → Operator
+orManual (Defined o) manuals = o
+orManual Undefined manuals = manuals
 
 -- The operator that a table names for the suboperation which is `op` in the manual. A byte that is no place, as no table has that passes
 -- test 26, leaves the manual's.
 unfoldable pub named : List ℕ → Operator → Operator
-named table op = orElse (operatorUnder table (operatorNumber op)) op
+named table op = orManual (operatorUnder table (operatorNumber op)) op

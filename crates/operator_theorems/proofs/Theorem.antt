@@ -14,7 +14,7 @@ use Rattle.operator.specs.declared.Operator.the-variants as O
 use Rattle.operator.specs.declared.Suboperation.{Suboperation}
 use Rattle.operator.specs.declared.Suboperation.the-variants.{Defined, Undefined}
 use Rattle.operator.specs.Table.{operators, operatorOf, operatorNumber}
-use Rattle.operator.specs.Lent.{manualTable, eachOnce, tableTest, operatorUnder, orElse, named}
+use Rattle.operator.specs.Lent.{manualTable, eachOnce, tableTest, operatorUnder, orManual, named}
 use Rattle.descriptor.proofs.Truth.{both, by-le}
 use Rattle.descriptor.proofs.Computed.{everywhere}
 use Rattle.operator.proofs.Lookup.{past-table}
@@ -56,7 +56,7 @@ number-of n op e =
     (λ low. sym (numbered n low) ∙ ap numberIn e)
 
 -- a place has an operator
-defined : (n : ℕ) → n < 16 → (op : Operator) (sub : Suboperation) → operatorOf n ≡ sub → sub ≡ Defined (orElse sub op)
+defined : (n : ℕ) → n < 16 → (op : Operator) (sub : Suboperation) → operatorOf n ≡ sub → sub ≡ Defined (orManual sub op)
 defined n h op (Defined o) e = refl
 defined n h op Undefined e = let z : 16 ≡ n = ap numberIn (sym e) ∙ numbered n h in absurd (omega (arith, z, h))
 
@@ -70,7 +70,7 @@ module _ (table : List ℕ) where
   -- ---- under one that passes
 
   module _ (passes : tableTest table ≡ true) where
-    sixteen : (length table ≡ 16) × (eachOnce [] table ≡ true)
+    pub sixteen : (length table ≡ 16) × (eachOnce [] table ≡ true)
     unfolding tableTest
     sixteen = let h = both (eqb (length table) 16) (eachOnce [] table) passes in (eqb-true (length table) 16 (h .0), h .1)
 
@@ -105,7 +105,7 @@ manual-means n =
 
 manual-names : (op : Operator) → named manualTable op ≡ op
 unfolding named
-manual-names op = ap (λ (sub : Suboperation). orElse sub op) (manual-means (operatorNumber op) ∙ placed op .stands)
+manual-names op = ap (λ (sub : Suboperation). orManual sub op) (manual-means (operatorNumber op) ∙ placed op .stands)
 
 manual-passes : tableTest manualTable ≡ true
 unfolding tableTest
