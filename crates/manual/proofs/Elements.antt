@@ -6,7 +6,7 @@ use mathlib.Core.List.{List, [], _∷_}
 use native.Mathlib.Nat.{mul-le-mul-right, suc-mul}
 use native.Mathlib.Omega.{arith}
 use lib.Dec.{ltb, leb, eqb}
-use lib.ListN.{length, length-append, length-take}
+use lib.ListN.{getD, length, length-append, length-take}
 use borrow.Author.Tests.{leb-true, ltb-true, eqb-true}
 use Rattle.scalar.specs.declared.Whole.{Whole}
 use Rattle.scalar.specs.declared.Whole.the-variants as W
@@ -30,6 +30,12 @@ same-lists (x ∷ a) (y ∷ b) h =
 pub no-lengths : (l : List ℕ) → length l ≡ 0 → product l ≡ 1
 no-lengths [] h = refl
 no-lengths (x ∷ l) h = absurd (omega arith)
+
+-- A vector has as many elements as its one length.
+pub one-length : (l : List ℕ) → length l ≤ 1 → (length l ≡ 0 → ⊥) → getD l 0 0 ≡ product l
+one-length [] h some = absurd (some refl)
+one-length (x ∷ []) h some = omega arith
+one-length (x ∷ y ∷ l) h some = absurd (omega arith)
 
 repeated-long : (n : ℕ) (l : List ℕ) → 0 < length l → n ≤ length (repeated n l)
 repeated-long zero l h = omega arith
@@ -55,7 +61,7 @@ offset-below origin W.Fraction l h = absurd (false≢true h)
 offset-below origin W.Character l h = absurd (false≢true h)
 
 -- a place in a row, with a place in the rows behind it
-row-below : (i l p r : ℕ) → i < l → r < p → i * p + r < l * p
+pub row-below : (i l p r : ℕ) → i < l → r < p → i * p + r < l * p
 row-below i l p r h k = omega (arith, mul-le-mul-right {m = suc i} {n = l} p h, suc-mul i p)
 
 pub place-below : (origin : ℕ) (ws ls : List ℕ) → length ws ≡ length ls → inRanges origin ws ls ≡ true → ravelOffset origin ws ls < product ls

@@ -12,3 +12,4 @@ pub mod Decoding
 pub mod Cases
 pub mod Traps
 pub mod Comparisons
+pub mod Joins

@@ -1,6 +1,6 @@
 -- The traps of the operators on values, and of subscripts: those of an operator on pairs are of any list that has them and those
 -- of each pair, and all are in the table.
-use Prim.Native.Nat.{ℕ, _+_, _^_}
+use Prim.Native.Nat.{ℕ, _^_}
 use mathlib.Core.Path.{refl}
 use mathlib.Core.Bool.{true, false, not, _&&_, _||_}
 use mathlib.Core.List.{List, [], _∷_, map}
@@ -18,10 +18,11 @@ use Rattle.scalar.specs.declared.Truth.the-variants as T
 use Rattle.scalar.specs.Reading.{wholeOf, truthOf}
 use Rattle.scalar.specs.Operators.{monadicOf, dyadicOf}
 use Rattle.manual.specs.OrTrap.{OrTrap}
-use Rattle.manual.specs.Values.{Value, rank, size, isSingle, same, any, answered, collect, each, monadic, conform, zip, spread, extent, pairwise, dyadic, shortOf, shorts, truth, single, truthOfValue, catenate, indexGenerator, reshape, isFraction, inRanges, ravelPlace}
+use Rattle.manual.specs.Values.{Value, rank, size, isSingle, same, any, answered, collect, each, monadic, conform, zip, spread, extent, pairwise, dyadic, shortOf, shorts, truth, single, truthOfValue, joinedShape, catenate, indexGenerator, reshape, isFraction, inRanges, ravelPlace}
 use Rattle.manual.specs.Scalars.{valueOf, scalarWords, subscripted}
 use Rattle.manual.specs.Traps.{listed}
 use Rattle.manual.proofs.Lists.{Within, stops-within, goes-within, chosen-within, InTheTable, Listed, stops-listed, goes-listed}
+use Rattle.manual.proofs.Joins.{joined-cases}
 use Rattle.manual.proofs.Operators.{monadic-answers, dyadic-answers}
 
 -- ---- operands, and operators on pairs of elements, by the traps of each pair
@@ -103,7 +104,7 @@ truth-listed v = goes-listed (single v) _ (single-listed v) (λ w. read (truthOf
 pub catenate-listed : (a b : Value) → Listed (catenate a b)
 unfolding catenate listed
 catenate-listed a b =
-    stops-listed (ltb 1 (rank a) || ltb 1 (rank b)) _ _ _ refl (stops-listed (leb (2 ^ 16) (size a + size b)) _ _ _ refl tt)
+    goes-listed (joinedShape (a .shape) (b .shape)) _ (joined-cases (λ shape. Unit {0}) InTheTable refl (a .shape) (b .shape) refl (λ few. tt) (λ p q w few. tt)) (λ shape. tt)
 
 pub generator-listed : (origin : ℕ) (v : Value) → Listed (indexGenerator origin v)
 unfolding indexGenerator

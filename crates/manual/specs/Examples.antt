@@ -157,6 +157,18 @@ pub record Making : Type 0 where
   pub noLengths : plan (value (0 ∷ []) [] ∷ vector ∷ []) (I.Array R.Reshape) ≡ gives (replaces 2 (word 10) ∷ jumps 9 ∷ [])
   pub nothingToTake : plan (number 2 ∷ value (0 ∷ []) [] ∷ []) (I.Array R.Reshape) ≡ trap 6 0
   pub catenate : plan (number 5 ∷ vector ∷ []) (I.Array R.Catenate) ≡ gives (replaces 2 (made (4 ∷ []) (5 ∷ 10 ∷ 20 ∷ 30 ∷ [])) ∷ jumps 9 ∷ [])
+  -- two ward tables; a row added below and above; a table of no rows; a row of no elements; a scalar, a table of three ranks, a wider row, one
+  -- element, too many rows
+  pub wards : plan (matrix ∷ value (1 ∷ 2 ∷ []) (5 ∷ 6 ∷ []) ∷ []) (I.Array R.Catenate) ≡ gives (replaces 2 (made (3 ∷ 2 ∷ []) (1 ∷ 2 ∷ 3 ∷ 4 ∷ 5 ∷ 6 ∷ [])) ∷ jumps 9 ∷ [])
+  pub rowBelow : plan (matrix ∷ value (2 ∷ []) (5 ∷ 6 ∷ []) ∷ []) (I.Array R.Catenate) ≡ gives (replaces 2 (made (3 ∷ 2 ∷ []) (1 ∷ 2 ∷ 3 ∷ 4 ∷ 5 ∷ 6 ∷ [])) ∷ jumps 9 ∷ [])
+  pub rowAbove : plan (value (2 ∷ []) (5 ∷ 6 ∷ []) ∷ matrix ∷ []) (I.Array R.Catenate) ≡ gives (replaces 2 (made (3 ∷ 2 ∷ []) (5 ∷ 6 ∷ 1 ∷ 2 ∷ 3 ∷ 4 ∷ [])) ∷ jumps 9 ∷ [])
+  pub noRows : plan (value (0 ∷ 2 ∷ []) [] ∷ matrix ∷ []) (I.Array R.Catenate) ≡ gives (replaces 2 (made (2 ∷ 2 ∷ []) (1 ∷ 2 ∷ 3 ∷ 4 ∷ [])) ∷ jumps 9 ∷ [])
+  pub noColumns : plan (value (0 ∷ []) [] ∷ value (65534 ∷ 0 ∷ []) [] ∷ []) (I.Array R.Catenate) ≡ gives (replaces 2 (made (65535 ∷ 0 ∷ []) []) ∷ jumps 9 ∷ [])
+  pub besideScalar : plan (number 5 ∷ matrix ∷ []) (I.Array R.Catenate) ≡ trap 5 0
+  pub besideCube : plan (matrix ∷ value (1 ∷ 1 ∷ 2 ∷ []) (5 ∷ 6 ∷ []) ∷ []) (I.Array R.Catenate) ≡ trap 5 0
+  pub otherWidth : plan (vector ∷ matrix ∷ []) (I.Array R.Catenate) ≡ trap 6 0
+  pub oneElement : plan (matrix ∷ value (1 ∷ []) (5 ∷ []) ∷ []) (I.Array R.Catenate) ≡ trap 6 0
+  pub manyRows : plan (value (65535 ∷ 0 ∷ []) [] ∷ value (0 ∷ []) [] ∷ []) (I.Array R.Catenate) ≡ trap 6 0
   pub indexGenerator : plan (number 3 ∷ []) (I.Array R.IndexGenerator) ≡ gives (replaces 1 (made (3 ∷ []) (1 ∷ 2 ∷ 3 ∷ [])) ∷ jumps 9 ∷ [])
   -- row 2, column 1 at origin 1; of a scalar; by an array; the wrong number of subscripts; an undefined one; one out of range
   pub index : plan (matrix ∷ number 2 ∷ number 1 ∷ []) (I.Index 2) ≡ gives (replaces 3 (word 3) ∷ jumps 9 ∷ [])
@@ -253,7 +265,7 @@ pushing = record {
 
 pub making : Making
 unfolding planOf seenOf scalars.monadic scalars.dyadic scalars.shape scalars.ravel scalars.reshape scalars.catenate scalars.indexGenerator
-    scalars.index values.each values.monadic values.dyadic values.conform values.pairwise values.catenate values.upFrom
+    scalars.index values.each values.monadic values.dyadic values.conform values.pairwise values.joinedShape values.catenate values.upFrom
     values.indexGenerator values.cycle values.reshape values.ravelPlace S.identity S.negative S.floor S.magnitudeOf S.notOf S.sumSign S.sumSize
     S.plus S.minus S.sum S.difference S.logicalProduct S.logicalSum side isBelow isEqual S.less S.equal units integer float rounded result wholeUnits wholeOf truthUnits truthOf
     size
@@ -288,6 +300,16 @@ making = record {
   noLengths = refl;
   nothingToTake = refl;
   catenate = refl;
+  wards = refl;
+  rowBelow = refl;
+  rowAbove = refl;
+  noRows = refl;
+  noColumns = refl;
+  besideScalar = refl;
+  besideCube = refl;
+  otherWidth = refl;
+  oneElement = refl;
+  manyRows = refl;
   indexGenerator = refl;
   index = refl;
   indexOfScalar = refl;

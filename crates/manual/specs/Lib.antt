@@ -12,4 +12,5 @@ pub mod Instructions
 pub mod Traps
 pub mod Comparisons
 pub mod Cases
+pub mod Joins
 pub mod Examples

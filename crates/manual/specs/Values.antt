@@ -138,12 +138,32 @@ shapeOf v = vector (v .shape)
 abbrev pub ravelOf : Value → Value
 ravelOf v = vector (v .ravel)
 
--- The join of two values.
+-- Document 02, request 6: a matrix has rows, "and a vector counts as one row beside a matrix of that width". A scalar is no row.
+abbrev pub hasRows : List ℕ → Bool
+hasRows shape = leb 1 (length shape) && leb (length shape) 2
+
+abbrev pub rows : List ℕ → ℕ
+rows shape = cond (eqb (length shape) 2) (getD shape 0 0) 1
+
+abbrev pub width : List ℕ → ℕ
+width shape = getD shape (length shape - 1) 0
+
+-- The first length of a join, and those after it: "the sum of the lengths of the operands is not less than 2 ^ 16" is (6,0), and
+-- so are "rows beside a matrix that together pass 65,535".
+abbrev pub lengthened : ℕ → List ℕ → OrTrap (List ℕ)
+lengthened n lengths = stopIf (leb (2 ^ 16) n) 6 0 (gives (n ∷ lengths))
+
+-- The shape of a join: elements are counted where neither operand is above rank one, else rows of one width.
+unfoldable pub joinedShape : List ℕ → List ℕ → OrTrap (List ℕ)
+joinedShape a b =
+    cond (leb (length a) 1 && leb (length b) 1) (lengthened (product a + product b) [])
+    (stopIf (not (hasRows a && hasRows b)) 5 0
+    (stopIf (not (eqb (width a) (width b))) 6 0
+    (lengthened (rows a + rows b) (width a ∷ []))))
+
+-- "The elements are the first operand's ravel and then the second's", for vectors and matrices alike.
 unfoldable pub catenate : Value → Value → OrTrap Value
-catenate a b =
-    stopIf (ltb 1 (rank a) || ltb 1 (rank b)) 5 0
-    (stopIf (leb (2 ^ 16) (size a + size b)) 6 0
-    (gives (vector (a .ravel ++ b .ravel))))
+catenate a b = andThen (joinedShape (a .shape) (b .shape)) (λ shape. gives (value shape (a .ravel ++ b .ravel)))
 
 -- n numbers that follow one another.
 unfoldable pub upFrom : ℕ → ℕ → List ℕ
