@@ -1,8 +1,8 @@
 -- The results of SHAPE, RAVEL, CATENATE, INDEXGEN and RESHAPE fit where their operands do.
-use Prim.Native.Nat.{ℕ, zero, suc, _+_, _^_, _<_, _≤_}
-use mathlib.Core.Path.{_≡_, refl, sym, ap}
+use Prim.Native.Nat.{ℕ, zero, suc, _+_, _-_, _^_, _<_, _≤_}
+use mathlib.Core.Path.{_≡_, refl, sym, ap, ap₂, _∙_}
 use mathlib.Core.Bool.{Bool, true, false, not, _&&_, _||_}
-use mathlib.Core.List.{List, _++_}
+use mathlib.Core.List.{List}
 use native.Mathlib.Omega.{arith}
 use lib.Dec.{ltb, leb, eqb}
 use lib.ListN.{length, length-append}
@@ -13,31 +13,42 @@ use Rattle.scalar.specs.declared.Whole.the-variants as W
 use Rattle.scalar.specs.Reading.{wholeOf}
 use Rattle.segment.specs.Blocks.{product}
 use Rattle.manual.specs.OrTrap.{gives}
-use Rattle.manual.specs.Values.{Value, vector, rank, size, isSingle, first, any, each, shortOf, shorts, single, shapeOf, ravelOf, catenate, upFrom, indexGenerator, repeated, cycle, reshape}
+use Rattle.manual.specs.Values.{Value, vector, rank, size, isSingle, first, any, each, shortOf, shorts, single, shapeOf, ravelOf, joinedShape, catenate, upFrom, indexGenerator, repeated, cycle, reshape}
 use Rattle.manual.proofs.Tests.{none-holds}
 use Rattle.manual.proofs.Elements.{length-cycle}
+use Rattle.manual.proofs.Joins.{joined-cases, rows-size}
 use Rattle.scalar_theorems.specs.Validity.{Valid}
-use Rattle.plan_theorems.proofs.Given.{Given, passed, chained}
-use Rattle.plan_theorems.proofs.Lists.{All, all-append, all-take, all-map}
-use Rattle.plan_theorems.proofs.Values.{Length, valid-length, ValueFits}
+use Rattle.plan_theorems.proofs.Given.{AnyTrap, Given, passed, chained}
+use Rattle.plan_theorems.proofs.Lists.{All, all-append, all-take, all-getD, all-map}
+use Rattle.plan_theorems.proofs.Values.{Length, valid-length, ValueFits, Stored}
 use Rattle.plan_theorems.proofs.Operators.{Elements, collect-map}
 
 pub vector-fits : (l : List ℕ) → length l < 2 ^ 16 → All Valid l → ValueFits (vector l)
-vector-fits l n h = record { rank = omega arith; size = omega arith; short = n; lengths = (omega arith, tt); scalars = h }
+vector-fits l n h = record { rank = omega arith; size = omega arith; lengths = (omega arith, tt); scalars = h }
 
 pub shape-fits : (v : Value) → ValueFits v → ValueFits (shapeOf v)
 shape-fits v h = vector-fits (v .shape) (omega (arith, h .rank)) (all-map Length Valid valid-length (v .shape) (h .lengths))
 
-pub ravel-fits : (v : Value) → ValueFits v → ValueFits (ravelOf v)
-ravel-fits v h = vector-fits (v .ravel) (h .short) (h .scalars)
+pub ravel-fits : (v : Value) → Stored v → ValueFits (ravelOf v)
+ravel-fits v h = vector-fits (v .ravel) (h .short) (h .fits .scalars)
+
+-- The shape of a join: its lengths, and as many elements as both operands have.
+abbrev JoinedFits : List ℕ → List ℕ → List ℕ → Type 0
+JoinedFits a b shape = ((length shape ≤ 15) × (product shape ≡ product a + product b)) × All Length shape
 
 pub catenate-fits : (a b : Value) → ValueFits a → ValueFits b → Given ValueFits (catenate a b)
 unfolding catenate
 catenate-fits a b h k =
-    passed ValueFits (ltb 1 (rank a) || ltb 1 (rank b)) 5 0 _ (λ r.
-    passed ValueFits (leb (2 ^ 16) (size a + size b)) 6 0 _ (λ e.
-    vector-fits (a .ravel ++ b .ravel) (omega (arith, leb-false (2 ^ 16) (size a + size b) e, length-append (a .ravel) (b .ravel)))
-    (all-append Valid (a .ravel) (b .ravel) (h .scalars) (k .scalars))))
+    chained (JoinedFits (a .shape) (b .shape)) ValueFits (joinedShape (a .shape) (b .shape)) _
+    (joined-cases (JoinedFits (a .shape) (b .shape)) AnyTrap tt (a .shape) (b .shape) tt
+    (λ few. ((omega arith, omega arith), (omega arith, tt)))
+    (λ p q w few. ((omega arith, rows-size (a .shape) (b .shape) p q w), (omega arith, (all-getD Length (a .shape) (length (a .shape) - 1) (omega arith) (h .lengths), tt)))))
+    (λ shape f. record {
+      rank = f .0 .0;
+      size = f .0 .1 ∙ ap₂ _+_ (h .size) (k .size) ∙ sym (length-append (a .ravel) (b .ravel));
+      lengths = f .1;
+      scalars = all-append Valid (a .ravel) (b .ravel) (h .scalars) (k .scalars);
+    })
 
 -- ---- numbers read from scalars
 
@@ -90,7 +101,6 @@ reshape-fits a b h k =
     record {
       rank = omega (arith, u .1, ltb-false 15 (size a) (none-holds (ltb 1 (rank a)) (ltb 15 (size a)) r .1));
       size = sym n;
-      short = omega (arith, n, leb-false (2 ^ 16) (product lengths) e);
       lengths = all-map (λ w. w < 2 ^ 16) Length (λ w l. omega (arith, l)) lengths (u .0);
       scalars = cycle-all (product lengths) (b .ravel) (k .scalars);
     })))))

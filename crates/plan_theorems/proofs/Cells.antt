@@ -27,15 +27,15 @@ use Rattle.scalar_theorems.specs.Validity.{Valid}
 use Rattle.segment.specs.Lent.{Words}
 use Rattle.plan_theorems.proofs.Given.{Given}
 use Rattle.plan_theorems.proofs.Lists.{All, all-count, count-all, all-getD}
-use Rattle.plan_theorems.proofs.Values.{Length, valid-length, ValueFits, scalar-fits}
+use Rattle.plan_theorems.proofs.Values.{Length, valid-length, Stored, scalar-stored}
 
 abbrev pub CellFits : Cell → Type 0
 CellFits undefined = Unit {0}
 CellFits (indirect t) = Unit {0}
-CellFits (value shape ravel) = ValueFits (values.value shape ravel)
+CellFits (value shape ravel) = Stored (values.value shape ravel)
 CellFits invalid = Unit {0}
 
-pub value-given : (c : Cell) → CellFits c → Given ValueFits (valueOf c)
+pub value-given : (c : Cell) → CellFits c → Given Stored (valueOf c)
 value-given undefined h = tt
 value-given (indirect t) h = tt
 value-given (value shape ravel) h = h
@@ -44,7 +44,7 @@ value-given invalid h = tt
 pub word-valid : (c : Cell) → CellFits c → Valid (cellWord c)
 word-valid undefined h = valid-length 0 (omega arith)
 word-valid (indirect t) h = valid-length 0 (omega arith)
-word-valid (value shape ravel) h = all-getD Valid ravel 0 (valid-length 0 (omega arith)) (h .scalars)
+word-valid (value shape ravel) h = all-getD Valid ravel 0 (valid-length 0 (omega arith)) (h .fits .scalars)
 word-valid invalid h = valid-length 0 (omega arith)
 
 part-words : (s : List ℕ) → Words s → (a n : ℕ) → All (λ w. w < 2 ^ 32) (part s a n)
@@ -59,26 +59,28 @@ array-address w a e h =
     array-of w h ∙ ap (λ (b : SegmentAddress). arrayWord (b .0)) (sym q)
 
 module _ {s owners : List ℕ} (o : Owned s owners) (words : Words s) where
-  array-fits : (x size : ℕ) → Inside s x size → whole s x ≡ true → ValueFits (values.value (shapeAt s x) (elementsAt s x))
+  array-fits : (x size : ℕ) → Inside s x size → whole s x ≡ true → Stored (values.value (shapeAt s x) (elementsAt s x))
   unfolding whole shapeAt elementsAt
   array-fits x size i e =
       let t = both-hold (leb 1 (rankAt s x)) (eqb (sizeAt s x) (2 + rankAt s x + product (shapeAt s x)) && leb (x + sizeAt s x) (length s)) e .1 in
       let z = eqb-true (sizeAt s x) (2 + rankAt s x + product (shapeAt s x)) (both-hold (eqb (sizeAt s x) (2 + rankAt s x + product (shapeAt s x))) (leb (x + sizeAt s x) (length s)) t .0) in
       let n = part-length s (x + 2 + rankAt s x) (product (shapeAt s x)) in
       record {
-        rank = omega (arith, part-length s (x + 2) (rankAt s x));
-        size = sym n;
+        fits = record {
+          rank = omega (arith, part-length s (x + 2) (rankAt s x));
+          size = sym n;
+          lengths = count-all Length (shapeAt s x) (i .lengths);
+          scalars = count-all Valid (elementsAt s x) (λ w k. record {
+            word = all-count (λ v. v < 2 ^ 32) (elementsAt s x) (part-words s words (x + 2 + rankAt s x) (product (shapeAt s x))) w k;
+            scalar = i .scalars w k;
+          });
+        };
         short = omega (arith, n, z);
-        lengths = count-all Length (shapeAt s x) (i .lengths);
-        scalars = count-all Valid (elementsAt s x) (λ w k. record {
-          word = all-count (λ v. v < 2 ^ 32) (elementsAt s x) (part-words s words (x + 2 + rankAt s x) (product (shapeAt s x))) w k;
-          scalar = i .scalars w k;
-        });
       }
 
   kind-fits : (w : ℕ) → w < 2 ^ 32 → 0 < count w owners → (k : Kind) → kindOf w ≡ k → IfArray w k → CellFits (readKind s w k)
   unfolding isScalar
-  kind-fits w l c (K.Scalar k) e h = scalar-fits w (record { word = l; scalar = ap scalarKind e })
+  kind-fits w l c (K.Scalar k) e h = scalar-stored w (record { word = l; scalar = ap scalarKind e })
   kind-fits w l c (K.Array a) e h = go (whole s (a .0)) refl
     where
       go : (b : Bool) → whole s (a .0) ≡ b → CellFits (cond b (value (shapeAt s (a .0)) (elementsAt s (a .0))) invalid)

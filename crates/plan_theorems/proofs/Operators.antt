@@ -1,5 +1,5 @@
 -- The results of the scalar operators fit where their operands do.
-use Prim.Native.Nat.{ℕ, zero, suc, _^_, _<_, _≤_}
+use Prim.Native.Nat.{ℕ, zero, suc, _≤_}
 use mathlib.Core.Path.{_≡_, refl, sym, _∙_, ap}
 use mathlib.Core.Bool.{Bool, true, false, cond, not, _&&_}
 use mathlib.Core.List.{List, [], _∷_, map}
@@ -59,14 +59,13 @@ unfolding monadic each
 monadic-fits op v h =
     chained (Elements Valid (length (v .ravel))) ValueFits (each (λ w. answered (monadicOf op w)) (v .ravel)) _
     (collect-map Valid Valid (λ w. answered (monadicOf op w)) (λ w k. answered-fits Valid (monadicOf op w) (λ r e. valid-results .monadic op w r k e)) (v .ravel) (h .scalars))
-    (λ ravel k. record { rank = h .rank; size = h .size ∙ sym (k .1); short = omega (arith, h .short, k .1); lengths = h .lengths; scalars = k .0 })
+    (λ ravel k. record { rank = h .rank; size = h .size ∙ sym (k .1); lengths = h .lengths; scalars = k .0 })
 
 -- The shape of a result, and both operands repeated to its number of elements.
 record Conforms (a b : Value) (shape : List ℕ) : Type 0 where
   rank : length shape ≤ 15
   lengths : All Length shape
   size : product shape ≡ extent (a .ravel) (b .ravel)
-  short : extent (a .ravel) (b .ravel) < 2 ^ 16
   left : (length (a .ravel) ≡ 1) ⊎ (length (a .ravel) ≡ extent (a .ravel) (b .ravel))
   right : (length (b .ravel) ≡ 1) ⊎ (length (b .ravel) ≡ extent (a .ravel) (b .ravel))
 
@@ -80,10 +79,10 @@ module _ (a b : Value) (h : ValueFits a) (k : ValueFits b) where
   either : (t : Bool) → length (a .ravel) ≡ 1 → (t ≡ true → length (b .ravel) ≡ 1) → Conforms a b (cond t (a .shape) (b .shape))
   either true e f =
       let n = extent-left (a .ravel) (b .ravel) e in
-      record { rank = h .rank; lengths = h .lengths; size = omega (arith, h .size, e, n, f refl); short = omega (arith, n, k .short); left = inl e; right = inr (sym n) }
+      record { rank = h .rank; lengths = h .lengths; size = omega (arith, h .size, e, n, f refl); left = inl e; right = inr (sym n) }
   either false e f =
       let n = extent-left (a .ravel) (b .ravel) e in
-      record { rank = k .rank; lengths = k .lengths; size = k .size ∙ sym n; short = omega (arith, n, k .short); left = inl e; right = inr (sym n) }
+      record { rank = k .rank; lengths = k .lengths; size = k .size ∙ sym n; left = inl e; right = inr (sym n) }
 
   longer : (length (a .ravel) ≡ 1 → ⊥) → (length (b .ravel) ≡ 1) ⊎ (length (b .ravel) ≡ length (a .ravel)) → Conforms a b (a .shape)
   longer e f =
@@ -92,7 +91,6 @@ module _ (a b : Value) (h : ValueFits a) (k : ValueFits b) where
         rank = h .rank;
         lengths = h .lengths;
         size = h .size ∙ sym n;
-        short = omega (arith, n, h .short);
         left = inr (sym n);
         right = ⊎-elim (λ q. inl q) (λ q. inr (q ∙ sym n)) f;
       }
@@ -124,4 +122,4 @@ dyadic-fits op a b h k =
     chained (Elements Valid n) ValueFits (collect (zip (λ x y. answered (dyadicOf op x y)) (spread n (a .ravel)) (spread n (b .ravel)))) _
     (collect-zip Valid (λ x y. answered (dyadicOf op x y)) (λ x y p q. answered-fits Valid (dyadicOf op x y) (λ r e. valid-results .dyadic op x y r p q e)) n
     (spread n (a .ravel)) (spread n (b .ravel)) (spread-fits n (a .ravel) (c .left) (h .scalars)) (spread-fits n (b .ravel) (c .right) (k .scalars)))
-    (λ ravel r. record { rank = c .rank; size = c .size ∙ sym (r .1); short = omega (arith, r .1, c .short); lengths = c .lengths; scalars = r .0 }))
+    (λ ravel r. record { rank = c .rank; size = c .size ∙ sym (r .1); lengths = c .lengths; scalars = r .0 }))

@@ -13,14 +13,14 @@ use Rattle.plan_theorems.proofs.Lists.{all-getD}
 use Rattle.plan_theorems.proofs.Values.{valid-length, ValueFits, scalar-fits}
 use Rattle.plan_theorems.proofs.Operators.{monadic-fits, dyadic-fits}
 use Rattle.plan_theorems.proofs.Arrays.{shape-fits, ravel-fits, catenate-fits, index-fits, reshape-fits}
-use Rattle.plan_theorems.proofs.Sees.{Sees, operand-fits}
+use Rattle.plan_theorems.proofs.Sees.{Sees, operand-stored, operand-fits}
 
 module _ {s : List ℕ} {f : Running} {v : Seen} (h : Sees s (variablesOf (headerOf f)) v) where
   pub result-fits : {i : Instruction} {n : ℕ} {r : Value} → Result f v i n r → ValueFits r
   result-fits (ofMonadic {op} {a} p e) = given ValueFits _ _ (monadic-fits op a (operand-fits h 0 p)) e
   result-fits (ofDyadic {op} {a} {b} p q e) = given ValueFits _ _ (dyadic-fits op a b (operand-fits h 0 p) (operand-fits h 1 q)) e
   result-fits (ofShape {a} p) = shape-fits a (operand-fits h 0 p)
-  result-fits (ofRavel {a} p) = ravel-fits a (operand-fits h 0 p)
+  result-fits (ofRavel {a} p) = ravel-fits a (operand-stored h 0 p)
   result-fits (ofReshape {a} {b} p q e) = given ValueFits _ _ (reshape-fits a b (operand-fits h 0 p) (operand-fits h 1 q)) e
   result-fits (ofCatenate {a} {b} p q e) = given ValueFits _ _ (catenate-fits a b (operand-fits h 0 p) (operand-fits h 1 q)) e
   result-fits (ofIndexGenerator {a} p e) = given ValueFits _ _ (index-fits (v .origin) a (h .origin)) e

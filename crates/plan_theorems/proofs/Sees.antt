@@ -27,7 +27,7 @@ use Rattle.effects.specs.Alike.{HasFrame, Resolved}
 use Rattle.effects_theorems.proofs.Variables.{operand-owner}
 use Rattle.effects_theorems.proofs.Theorems.{effects-theorems}
 use Rattle.plan_theorems.proofs.Given.{given}
-use Rattle.plan_theorems.proofs.Values.{ValueFits}
+use Rattle.plan_theorems.proofs.Values.{ValueFits, Stored}
 use Rattle.plan_theorems.proofs.Cells.{CellFits, value-given, read-fits}
 
 -- All that a plan's effects are judged by. The current frame has so many variables.
@@ -60,8 +60,11 @@ sees s g short variables result runs =
     operand-fits i false e = tt
 
 -- what is known of an operand's value, and of the variable that an address leads to
+pub operand-stored : {s : List ℕ} {variables : ℕ} {v : Seen} → Sees s variables v → (i : ℕ) {a : Value} → Operand v i a → Stored a
+operand-stored {v = v} h i e = given Stored (valueOf (v .operand i)) _ (value-given (v .operand i) (h .operand i)) e
+
 pub operand-fits : {s : List ℕ} {variables : ℕ} {v : Seen} → Sees s variables v → (i : ℕ) {a : Value} → Operand v i a → ValueFits a
-operand-fits {v = v} h i e = given ValueFits (valueOf (v .operand i)) _ (value-given (v .operand i) (h .operand i)) e
+operand-fits h i e = operand-stored h i e .fits
 
 pub resolved : {s : List ℕ} {v : Seen} (f : Running) → Sees s (variablesOf (headerOf f)) v → (a : Address) {x : Variable} → Reaches f v a x → Resolved s x
 resolved f h (A.Local n) e = h .local n _ e

@@ -26,16 +26,23 @@ Length w = w ≤ 8388607
 pub valid-length : (w : ℕ) → Length w → Valid w
 valid-length w h = valid-small w (omega arith) (omega arith) (λ z. omega arith)
 
--- The value of a word or of a block: its lengths are integers, its elements scalars, and a block's SIZE has sixteen bits.
+-- A value that a word or a block can hold: its lengths are integers, its elements scalars.
 pub record ValueFits (v : Value) : Type 0 where
   pub rank : length (v .shape) ≤ 15
   pub size : product (v .shape) ≡ length (v .ravel)
-  pub short : length (v .ravel) < 2 ^ 16
   pub lengths : All Length (v .shape)
   pub scalars : All Valid (v .ravel)
 
 pub scalar-fits : (w : ℕ) → Valid w → ValueFits (scalar w)
-scalar-fits w h = record { rank = omega arith; size = refl; short = omega arith; lengths = tt; scalars = (h, tt) }
+scalar-fits w h = record { rank = omega arith; size = refl; lengths = tt; scalars = (h, tt) }
+
+-- The value that a word or a block holds: SIZE has sixteen bits.
+pub record Stored (v : Value) : Type 0 where
+  pub fits : ValueFits v
+  pub short : length (v .ravel) < 2 ^ 16
+
+pub scalar-stored : (w : ℕ) → Valid w → Stored (scalar w)
+scalar-stored w h = record { fits = scalar-fits w h; short = omega arith }
 
 -- elements that are there have a first
 first-of : (P : ℕ → Type 0) (l : List ℕ) → 0 < length l → All P l → P (first l)
