@@ -2,7 +2,7 @@
 -- A reader must believe: an answer is read so. Assumes nothing.
 use Prim.Native.Nat.{ℕ}
 use mathlib.Core.Path.{_≡_}
-use mathlib.Core.List.{List}
+use mathlib.Core.List.{List, [], _∷_}
 use lib.ListN.{length}
 use Rattle.descriptor.specs.Fields.{isCharacter}
 use Rattle.operator.specs.declared.Monadic.{Monadic}
@@ -14,6 +14,8 @@ use Rattle.elements.specs.declared.Finished.{Finished}
 use Rattle.elements.specs.declared.Finished.the-variants as F
 use Rattle.elements.specs.declared.Shape.{Shape}
 use Rattle.elements.specs.declared.Shape.the-variants as S
+use Rattle.elements.specs.declared.Joined.{Joined}
+use Rattle.elements.specs.declared.Joined.the-variants as J
 use Rattle.elements.specs.declared.Found.{Found}
 use Rattle.elements.specs.declared.Found.the-variants as P
 
@@ -27,6 +29,12 @@ abbrev pub shapeNamed : Shape → List ℕ → List ℕ → OrTrap (List ℕ)
 shapeNamed S.First a b = gives a
 shapeNamed S.Second a b = gives b
 shapeNamed (S.Trap class number) a b = trap class number
+
+-- The lengths that an answer names.
+abbrev pub joinNamed : Joined → OrTrap (List ℕ)
+joinNamed (J.Vector n) = gives (n ∷ [])
+joinNamed (J.Matrix n w) = gives (n ∷ w ∷ [])
+joinNamed (J.Trap class number) = trap class number
 
 -- The place that an answer names.
 abbrev pub placeNamed : Found → OrTrap ℕ

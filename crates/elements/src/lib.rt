@@ -4,6 +4,7 @@ pub mod copies;
 pub mod dyadic;
 mod extension;
 mod integers;
+pub mod joins;
 pub mod kinds;
 pub mod monadic;
 pub mod shapes;
@@ -20,6 +21,13 @@ pub enum Finished {
 pub enum Shape {
     First,
     Second,
+    Trap(u8, u8),
+}
+
+// The lengths of a join, or a trap.
+pub enum Joined {
+    Vector(u32),
+    Matrix(u32, u32),
     Trap(u8, u8),
 }
 
