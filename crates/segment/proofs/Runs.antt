@@ -1,5 +1,5 @@
 -- Runs of words: how long they are, which word stands where, and what an undefined one is seen as.
-use Prim.Native.Nat.{ℕ, zero, suc, _+_, _-_, _<_}
+use Prim.Native.Nat.{ℕ, zero, suc, _+_, _-_, _≤_, _<_}
 use mathlib.Core.Path.{_≡_, refl, ap}
 use mathlib.Core.List.{List, [], _∷_}
 use native.Mathlib.Omega.{arith}
@@ -20,6 +20,13 @@ pub getD-part : (s : List ℕ) (a n i z : ℕ) → i < n → getD (part s a n) i
 getD-part s a zero i z h = absurd (omega arith)
 getD-part s a (suc n) zero z h = let e : a + 0 ≡ a = omega arith in rw e
 getD-part s a (suc n) (suc i) z h = let e : a + suc i ≡ a + 1 + i = omega arith in rw e (getD-part s (a + 1) n i z (omega arith))
+
+pub part-same : (s s′ : List ℕ) (a n : ℕ) → ((i : ℕ) → a ≤ i → i < a + n → getD s′ i 0 ≡ getD s i 0) → part s′ a n ≡ part s a n
+part-same s s′ a zero e = refl
+part-same s s′ a (suc n) e =
+    let h : getD s′ a 0 ≡ getD s a 0 = e a (omega arith) (omega arith) in
+    let r : part s′ (a + 1) n ≡ part s (a + 1) n = part-same s s′ (a + 1) n (λ i l u. e i (omega arith) (omega arith)) in
+    cc
 
 pub downward-length : (s : List ℕ) (a n : ℕ) → length (downward s a n) ≡ n
 downward-length s a zero = refl

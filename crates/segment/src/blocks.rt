@@ -9,6 +9,12 @@ use super::minus;
 use super::word;
 use descriptor::address::SegmentAddress;
 
+// So many words of the segment from an address up.
+pub struct Part {
+    pub start: SegmentAddress,
+    pub count: usize,
+}
+
 pub fn free_at(seg: &[u32], block: SegmentAddress) -> bool
     ensures { λ r. ⌜ r ≡ layout.freeAt (now (seg .entry)) (block .0) ⌝ }
 {

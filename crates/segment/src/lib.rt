@@ -1,10 +1,12 @@
 // The layout of a data segment in a lent slice of words: the state words, the stack and its frames, the blocks of array
 // storage. Access is total: a read past the end is 0, and a write there does nothing.
 ghost use mathlib.Core.Path.{_≡_};
-ghost use Prim.Native.Nat.{_+_, _-_, _*_, _^_};
+ghost use mathlib.Core.Logic.{_⊎_};
+ghost use Prim.Native.Nat.{_+_, _-_, _*_, _^_, _≤_};
 ghost use lib.ListN.{getD, set, length};
 ghost use lib.Seq.{sets};
 ghost use Rattle.segment.specs.State as fields;
+ghost use Rattle.segment.specs.Blocks.{part};
 
 pub mod blocks;
 pub mod stack;
@@ -46,6 +48,18 @@ fn copy(from: &[u32], to: &mut [u32])
     let mut i = 0;
     while i < from.len() {
         to[i] = from[i];
+        i += 1;
+    }
+}
+
+// The n words from `from` up are copied to those from `to` up. Neither run has a word of the other.
+pub fn copy_part(seg: &mut [u32], from: usize, to: usize, n: usize)
+    requires { ⌜ (from + n ≤ length (now seg)) × (to + n ≤ length (now seg)) × ((from + n ≤ to) ⊎ (to + n ≤ from)) ⌝ }
+    ensures { λ _. ⌜ now (seg .exit) ≡ sets (now (seg .entry)) to (part (now (seg .entry)) from n) ⌝ }
+{
+    let mut i = 0;
+    while i < n {
+        seg[to + i] = seg[from + i];
         i += 1;
     }
 }

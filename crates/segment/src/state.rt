@@ -1,6 +1,6 @@
 // The eight state words: where the parts of the segment lie, the flags and the trap.
 ghost use mathlib.Core.Path.{_≡_};
-ghost use Prim.Native.Nat.{_<_, _^_};
+ghost use Prim.Native.Nat.{_+_, _-_, _<_, _^_};
 ghost use lib.Dec.{eqb};
 ghost use Rattle.segment.specs.State as fields;
 use super::halves;
@@ -21,6 +21,14 @@ pub fn ltop(seg: &[u32]) -> StackAddress
     ensures { λ r. ⌜ r .0 ≡ fields.ltop (now (seg .entry)) ⌝ }
 {
     StackAddress::of(low(word(seg, 0)) as u32)
+}
+
+// LTOP, counted from the segment's start.
+pub fn top_cell(seg: &[u32]) -> SegmentAddress
+    ensures { λ r. ⌜ (r .0 ≡ fields.sbase (now (seg .entry)) + fields.ltop (now (seg .entry))) × (r .0 < 2 ^ 17 - 1) ⌝ }
+{
+    let w = word(seg, 0);
+    SegmentAddress::of(high(w) as u32 + low(w) as u32)
 }
 
 pub fn lbase(seg: &[u32]) -> StackAddress
