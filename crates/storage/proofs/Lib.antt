@@ -2,4 +2,5 @@
 pub mod Requests
 pub mod Releases
 pub mod Placing
+pub mod Written
 pub mod Counts

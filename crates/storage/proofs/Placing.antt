@@ -1,6 +1,6 @@
 -- An array placed, by what its request found.
 use Prim.Native.Nat.{ℕ, _^_, _<_}
-use mathlib.Core.Path.{_≡_, refl, ap}
+use mathlib.Core.Path.{_≡_, refl, sym, ap, _∙_}
 use mathlib.Core.Bool.{Bool, true, false, cond}
 use mathlib.Core.List.{List}
 use native.Mathlib.Omega.{arith}
@@ -11,10 +11,10 @@ use Rattle.descriptor.specs.Kinds.{segment}
 use Rattle.descriptor.specs.declared.address.SegmentAddress.{SegmentAddress}
 use Rattle.segment.specs.Blocks.{need}
 use Rattle.storage.specs.declared.request.Found.the-variants.{At, Full}
-use Rattle.storage.specs.Request.{request, requestAt}
+use Rattle.storage.specs.Request.{find, give, given, request, requestAt}
 use Rattle.storage.specs.Arrays.{fill, place, placeAt}
 use Rattle.storage.specs.Found.{found}
-use Rattle.storage.proofs.Requests.{request-kept, request-small}
+use Rattle.storage.proofs.Requests.{request-kept, request-small, request-some, requestAt-none, found-none, found-some}
 
 -- the two answers told apart
 full-zero : (a : ℕ) → found a ≡ Full → a ≡ 0
@@ -49,3 +49,23 @@ module _ (s shape elements : List ℕ) where
 
     pub place-small : length shape < 2 ^ 16
     place-small = omega (arith, request-small s (need shape elements) (at-some _ block at .0))
+
+-- the same by the free block that the search found, and where the block given starts
+module _ (s shape elements : List ℕ) (size f : ℕ) (sized : size ≡ need shape elements) (first : f ≡ find s size) where
+  found-at : find s (need shape elements) ≡ f
+  found-at = sym (first ∙ ap (find s) sized)
+
+  pub place-none : f ≡ 0 → (Full ≡ found (placeAt s shape elements)) × (s ≡ place s shape elements)
+  unfolding place placeAt
+  place-none none =
+      let zero : find s (need shape elements) ≡ 0 = found-at ∙ none in
+      (found-none s (need shape elements) zero, simp (eq-eqb _ _ (requestAt-none s (need shape elements) zero)))
+
+  pub place-given : (f ≡ 0 → ⊥) → (block : SegmentAddress) → block .0 ≡ given s f size → {t : List ℕ} → t ≡ fill (give s f size) (block .0) shape elements
+      → (At block ≡ found (placeAt s shape elements)) × (t ≡ place s shape elements)
+  unfolding placeAt
+  place-given some block at {t} filled =
+      let found-some-at : find s (need shape elements) ≡ 0 → ⊥ = λ zero. some (sym found-at ∙ zero) in
+      let answer : At block ≡ found (requestAt s (need shape elements)) = found-some s (need shape elements) block found-some-at (at ∙ rw (found-at, sized)) in
+      let words : give s f size ≡ request s (need shape elements) = sym (request-some s (need shape elements) found-some-at ∙ rw (found-at, sized)) in
+      (answer, filled ∙ ap (λ (w : List ℕ). fill w (block .0) shape elements) words ∙ place-at s shape elements block (sym answer))

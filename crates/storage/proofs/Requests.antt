@@ -6,6 +6,7 @@ use mathlib.Core.List.{List}
 use native.Mathlib.Omega.{arith}
 use lib.Dec.{leb, eqb}
 use borrow.Author.Tests.{leb-true, eqb-true, eqb-false, le-leb, lt-leb, eq-eqb, ne-eqb}
+use Rattle.descriptor.proofs.Truth.{by-le}
 use Rattle.descriptor.specs.declared.address.SegmentAddress.{SegmentAddress}
 use Rattle.segment.specs.State.{setRover}
 use Rattle.segment.specs.Blocks.{sizeAt, nextAt}
@@ -69,6 +70,13 @@ module _ (s : List ℕ) (f size : ℕ) where
   pub give-whole : sizeAt s f < size + 3 → give s f size ≡ setRover (givenWhole s f (sizeAt s f - size) size) (nextAt s f)
   unfolding give
   give-whole tight = simp (lt-leb _ _ tight)
+
+-- it lies in the free block
+pub given-inside : (s : List ℕ) (f size block : ℕ) → block ≡ given s f size → size ≤ sizeAt s f → (f ≤ block) × (block + size ≤ f + sizeAt s f)
+given-inside s f size block e room =
+    by-le (size + 3) (sizeAt s f)
+    (λ big. omega (arith, e, given-split s f size big, room))
+    (λ tight. omega (arith, e, given-whole s f size tight, room))
 
 -- no block is given at 0
 given-some : (s : List ℕ) (f size : ℕ) → (f ≡ 0 → ⊥) → given s f size ≡ 0 → ⊥

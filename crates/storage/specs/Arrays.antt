@@ -11,10 +11,12 @@ use Rattle.segment.specs.Blocks.{countAt, need}
 use Rattle.storage.specs.Request.{request, requestAt}
 use Rattle.storage.specs.Release.{release}
 
--- The words of an array of count 1 in the block at `a`: count and rank, the lengths, the elements.
+-- The words of an array of count 1 in the block at `a`: count and rank, the lengths; and the elements after them.
+abbrev pub head : List ℕ → ℕ → List ℕ → List ℕ
+head s a shape = sets (set s (a + 1) (1 * 2 ^ 16 + length shape)) (a + 2) shape
+
 unfoldable pub fill : List ℕ → ℕ → List ℕ → List ℕ → List ℕ
-fill s a shape elements =
-    sets (sets (set s (a + 1) (1 * 2 ^ 16 + length shape)) (a + 2) shape) (a + 2 + length shape) elements
+fill s a shape elements = sets (head s a shape) (a + 2 + length shape) elements
 
 -- A new array: a request, and the block given is filled. The segment stays as it is where no block is found.
 unfoldable pub placeAt : List ℕ → List ℕ → List ℕ → ℕ

@@ -2,6 +2,7 @@
 ghost use mathlib.Core.Path.{_≡_};
 ghost use Prim.Native.Nat.{_+_, _<_, _^_};
 ghost use lib.ListN.{length};
+ghost use lib.Seq.{sets};
 ghost use Rattle.segment.specs.State.{sbase};
 ghost use Rattle.storage.specs.Arrays as arrays;
 ghost use Rattle.storage.specs.Found.{found};
@@ -32,14 +33,35 @@ pub fn place(seg: &mut [u32], shape: &[u32], elements: &[u32]) -> Found
     }
 }
 
+// The block becomes an array of this shape and these elements.
 fn fill(seg: &mut [u32], block: SegmentAddress, shape: &[u32], elements: &[u32])
     requires { ⌜ length (now shape) < 2 ^ 16 ⌝ }
     ensures { λ _. ⌜ now (seg .exit) ≡ arrays.fill (now (seg .entry)) (block .0) (now (shape .entry)) (now (elements .entry)) ⌝ }
 {
+    head(seg, block, shape);
+    put_all(seg, block.index() + 2 + shape.len(), elements);
+}
+
+// Its count is 1; its rank and its lengths are those of the shape.
+pub fn head(seg: &mut [u32], block: SegmentAddress, shape: &[u32])
+    requires { ⌜ length (now shape) < 2 ^ 16 ⌝ }
+    ensures { λ _. ⌜ now (seg .exit) ≡ arrays.head (now (seg .entry)) (block .0) (now (shape .entry)) ⌝ }
+{
     let at = block.index();
     put(seg, at + 1, halves(1, shape.len() as u16));
-    put_all(seg, at + 2, shape);
-    put_all(seg, at + 2 + shape.len(), elements);
+    put_each(seg, at + 2, shape);
+}
+
+// The words from `at` up are those of a short list: one by one they take less than a copy.
+fn put_each(seg: &mut [u32], at: usize, words: &[u32])
+    requires { ⌜ (at < 2 ^ 33) × (length (now words) < 2 ^ 16) ⌝ }
+    ensures { λ _. ⌜ now (seg .exit) ≡ sets (now (seg .entry)) at (now (words .entry)) ⌝ }
+{
+    let mut i = 0;
+    while i < words.len() {
+        put(seg, at + i, words[i]);
+        i += 1;
+    }
 }
 
 // One cell more holds the word w.

@@ -6,6 +6,7 @@ mod ring;
 
 pub use arrays::drop_cells;
 pub use arrays::drop_word;
+pub use arrays::head;
 pub use arrays::place;
 pub use arrays::share;
 pub use request::Found;

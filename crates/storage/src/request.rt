@@ -32,7 +32,7 @@ pub fn request(seg: &mut [u32], size: usize) -> Found
 }
 
 // The first free block with room, from ROVER along NEXT; 0 where there is none. Each block is looked at once.
-fn find(seg: &[u32], size: usize) -> SegmentAddress
+pub fn find(seg: &[u32], size: usize) -> SegmentAddress
     ensures { λ r. ⌜ r .0 ≡ requests.find (now (seg .entry)) size ⌝ }
     ensures { λ r. ⌜ r .0 < 2 ^ 16 ⌝ }
 {
@@ -54,7 +54,7 @@ fn find(seg: &[u32], size: usize) -> SegmentAddress
 }
 
 // The free block at f serves the request: where the block given starts.
-fn give(seg: &mut [u32], f: SegmentAddress, size: u16) -> SegmentAddress
+pub fn give(seg: &mut [u32], f: SegmentAddress, size: u16) -> SegmentAddress
     requires { ⌜ (f .0 < 2 ^ 16) × (size ≤ sizeAt (now seg) (f .0)) ⌝ }
     ensures { λ r. ⌜ r .0 ≡ requests.given (now (seg .entry)) (f .0) size ⌝ }
     ensures { λ _. ⌜ now (seg .exit) ≡ requests.give (now (seg .entry)) (f .0) size ⌝ }

@@ -1,5 +1,5 @@
 -- What an array holds and what a cell is seen as, over words that are the same.
-use Prim.Native.Nat.{ℕ, zero, suc, _+_, _%_, _^_, _<_}
+use Prim.Native.Nat.{ℕ, _+_, _%_, _^_, _<_}
 use mathlib.Core.Path.{_≡_, refl, sym, _∙_}
 use mathlib.Core.Bool.{true, false}
 use mathlib.Core.List.{List}
@@ -7,7 +7,7 @@ use mathlib.Core.Logic.{⊎-elim}
 use native.Mathlib.Omega.{arith}
 use lib.ListN.{getD}
 use Rattle.descriptor.specs.Fields.{isArray, address, arrayWord}
-use Rattle.segment.specs.Blocks.{rankAt, part, product, shapeAt, elementsAt}
+use Rattle.segment.specs.Blocks.{rankAt, product, shapeAt, elementsAt}
 use Rattle.segment.specs.Cells.{cell, cellOfKind, value}
 use Rattle.descriptor.specs.declared.Kind.{Kind}
 use Rattle.descriptor.specs.declared.Kind.the-variants as K
@@ -16,14 +16,8 @@ use Rattle.descriptor.proofs.Arrays.{IfArray, array-kind, kind-array}
 pub use Rattle.descriptor.proofs.Arrays.{array-of}
 use Rattle.storage.specs.Owned.{Inside}
 use Rattle.descriptor.proofs.Truth.{decide}
+use Rattle.segment.proofs.Runs.{part-same}
 use Rattle.storage_theorems.proofs.Walks.{Same}
-
-pub part-same : (s s′ : List ℕ) (a n : ℕ) → Same s s′ a (a + n) → part s′ a n ≡ part s a n
-part-same s s′ a zero e = refl
-part-same s s′ a (suc n) e =
-    let h : getD s′ a 0 ≡ getD s a 0 = e a (omega arith) (omega arith) in
-    let r : part s′ (a + 1) n ≡ part s (a + 1) n = part-same s s′ (a + 1) n (λ i l u. e i (omega arith) (omega arith)) in
-    cc
 
 -- an array keeps its inside with its rank and the words behind
 module _ (s s′ : List ℕ) (x z : ℕ) (h : Inside s x z) (r : getD s′ (x + 1) 0 % 2 ^ 16 ≡ getD s (x + 1) 0 % 2 ^ 16)

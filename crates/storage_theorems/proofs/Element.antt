@@ -14,12 +14,13 @@ use Rattle.segment.specs.Blocks.{countAt, rankAt, part, product, shapeAt, eleme
 use Rattle.storage.specs.Heap.{count}
 use Rattle.segment.specs.Cells.{cell, value}
 use Rattle.storage.specs.Owned.{ArrayIn, Inside, Owned, CellsKept}
+use Rattle.segment.proofs.Runs.{part-same}
 use Rattle.storage_theorems.specs.Words.{Inner}
 use Rattle.storage_theorems.proofs.Counts.{hit-cases}
 use Rattle.storage_theorems.proofs.Arrays.{array-inner, array-apart}
 use Rattle.storage_theorems.proofs.Stores.{store-heap}
 use Rattle.storage_theorems.specs.Element.{setElement, ElementSet}
-use Rattle.storage_theorems.proofs.Cells.{part-same, value-same, inside-same, cell-array, cell-same}
+use Rattle.storage_theorems.proofs.Cells.{value-same, inside-same, cell-array, cell-same}
 use Rattle.storage_theorems.proofs.Owners.{array-place}
 
 -- a store among words that are read as a list

@@ -6,22 +6,16 @@ use mathlib.Core.Logic.{_≢_, ⊎-elim}
 use native.Mathlib.Omega.{arith}
 use lib.ListN.{getD, length, length-set}
 use lib.Seq.{set-out, getD-set-same, getD-set-other, lt-length-set}
-use Rattle.segment.specs.State.{rover, setRover}
+use Rattle.segment.specs.State.{rover}
 use Rattle.segment.specs.Blocks.{nextAt, lastAt}
 use Rattle.storage.specs.Ring.{setNext, setLast, setPrevFree, markFree, moveRover}
 use Rattle.storage.specs.Heap.{hit}
 use Rattle.storage.proofs.Releases.{moveRover-on, moveRover-off}
+use Rattle.segment.proofs.Fields.{setRover-other, setRover-rover, setRover-length, setRover-base}
+use Rattle.storage.proofs.Written.{setNext-other, setLast-other}
 use Rattle.storage_theorems.proofs.Counts.{order, hit-cases}
 
 module _ (s : List ℕ) (a v : ℕ) where
-  pub setNext-length : length (setNext s a v) ≡ length s
-  unfolding setNext
-  setNext-length = simp length-set
-
-  pub setNext-other : (i : ℕ) → i ≢ a + 1 → getD (setNext s a v) i 0 ≡ getD s i 0
-  unfolding setNext
-  setNext-other i h = rw getD-set-other
-
   pub setNext-next : a + 1 < length s → nextAt (setNext s a v) a ≡ v
   unfolding setNext
   setNext-next h = rw getD-set-same (omega arith)
@@ -33,14 +27,6 @@ module _ (s : List ℕ) (a v : ℕ) where
       (λ (l : a + 1 < length s). ⊎-elim (λ (e : (x ≡ a) × (hit x a ≡ 1)). rw (e .0, getD-set-same) (omega arith))
       (λ (e : (x ≡ a → ⊥) × (hit x a ≡ 0)). let d : x + 1 ≢ a + 1 = λ q. e .0 (omega arith) in rw getD-set-other) (hit-cases x a))
       (order (length s) (a + 1))
-
-  pub setLast-length : length (setLast s a v) ≡ length s
-  unfolding setLast
-  setLast-length = simp length-set
-
-  pub setLast-other : (i : ℕ) → i ≢ a + 1 → getD (setLast s a v) i 0 ≡ getD s i 0
-  unfolding setLast
-  setLast-other i h = rw getD-set-other
 
   pub setLast-last : a + 1 < length s → v < 2 ^ 16 → lastAt (setLast s a v) a ≡ v
   unfolding setLast
@@ -59,23 +45,6 @@ setNext-next-other s a v x h = ap (λ (w : ℕ). w / 2 ^ 16) (setNext-other s a 
 
 pub setLast-last-other : (s : List ℕ) (a v x : ℕ) → x ≢ a → lastAt (setLast s a v) x ≡ lastAt s x
 setLast-last-other s a v x h = ap (λ (w : ℕ). w % 2 ^ 16) (setLast-other s a v (x + 1) (λ q. h (omega arith)))
-
--- reads and lengths after a field's store
-pub setRover-other : (s : List ℕ) (v i : ℕ) → i ≢ 1 → getD (setRover s v) i 0 ≡ getD s i 0
-unfolding setRover
-setRover-other s v i h = rw getD-set-other
-
-pub setRover-rover : (s : List ℕ) (v : ℕ) → 1 < length s → v < 2 ^ 16 → rover (setRover s v) ≡ v
-unfolding setRover
-setRover-rover s v h k = rw getD-set-same (omega arith)
-
-pub setRover-length : (s : List ℕ) (v : ℕ) → length (setRover s v) ≡ length s
-unfolding setRover
-setRover-length s v = simp length-set
-
-pub setRover-base : (s : List ℕ) (v : ℕ) → 1 < length s → v < 2 ^ 16 → getD (setRover s v) 1 0 / 2 ^ 16 ≡ getD s 1 0 / 2 ^ 16
-unfolding setRover
-setRover-base s v h k = rw getD-set-same (omega arith)
 
 -- reads after the stores of a release
 pub setPrevFree-length : (s : List ℕ) (a : ℕ) → length (setPrevFree s a) ≡ length s

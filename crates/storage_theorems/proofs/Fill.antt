@@ -10,17 +10,13 @@ use Rattle.segment.specs.State.{blockptr}
 use Rattle.segment.specs.Blocks.{rankAt, part, product, shapeAt, elementsAt, need}
 use Rattle.storage.specs.Arrays.{fill}
 use Rattle.storage.specs.Heap.{Block, Heap}
+use Rattle.segment.proofs.Copies.{sets-other}
+use Rattle.segment.proofs.Runs.{part-same}
+use Rattle.storage.proofs.Written.{head-other}
 use Rattle.storage_theorems.specs.Words.{Inner}
 use Rattle.storage_theorems.proofs.Stores.{store-heap}
-use Rattle.storage_theorems.proofs.Cells.{part-same}
 
 -- runs of stores
-pub sets-other : (vs s : List ℕ) (i j : ℕ) → (j < i) ⊎ (i + length vs ≤ j) → getD (sets s i vs) j 0 ≡ getD s j 0
-sets-other [] s i j h = refl
-sets-other (v ∷ vs) s i j h =
-    let n : j ≢ i = ⊎-elim (λ q. omega (arith, q)) (λ q. omega (arith, q)) h in
-    sets-other vs (set s i v) (suc i) j (⊎-elim (λ q. inl (omega (arith, q))) (λ q. inr (omega (arith, q))) h) ∙ rw getD-set-other
-
 pub sets-part : (vs s : List ℕ) (i : ℕ) → i + length vs ≤ length s → part (sets s i vs) i (length vs) ≡ vs
 sets-part [] s i h = refl
 sets-part (v ∷ vs) s i h =
@@ -48,10 +44,8 @@ module _ (s : List ℕ) (x : ℕ) (sh el : List ℕ) where
   pub fill-other : (i : ℕ) → (i ≤ x) ⊎ (x + need sh el ≤ i) → getD (fill s x sh el) i 0 ≡ getD s i 0
   unfolding fill
   fill-other i h =
-      let n : i ≢ x + 1 = ⊎-elim (λ q. omega (arith, q)) (λ q. omega (arith, q)) h in
       sets-other el _ (x + 2 + length sh) i (⊎-elim (λ q. inl (omega (arith, q))) (λ q. inr (omega (arith, q))) h)
-      ∙ sets-other sh _ (x + 2) i (⊎-elim (λ q. inl (omega (arith, q))) (λ q. inr (omega (arith, q))) h)
-      ∙ rw getD-set-other
+      ∙ head-other s x sh i (⊎-elim (λ q. inl (omega (arith, q))) (λ q. inr (omega (arith, q))) h)
 
   module _ (fits : x + need sh el ≤ length s) where
     pub fill-second : getD (fill s x sh el) (x + 1) 0 ≡ 1 * 2 ^ 16 + length sh

@@ -10,10 +10,11 @@ use lib.Seq.{getD-set-same, getD-set-other}
 use Rattle.segment.specs.Blocks.{nextAt, lastAt, dummy}
 use Rattle.storage.specs.Ring.{setNext, hook, insert}
 use Rattle.storage.specs.Heap.{Block, Walk, over, frees, hit, count, Link, Links}
+use Rattle.storage.proofs.Written.{setNext-length, setNext-other, setLast-length, setLast-other}
 use Rattle.storage_theorems.specs.Words.{Inner}
 use Rattle.storage_theorems.proofs.Counts.{hit-same, hit-eq, count-append}
 use Rattle.storage_theorems.proofs.Ring.{links-split, links-join, links-last, links-fields, snoc-cases}
-use Rattle.storage_theorems.proofs.Fields.{setNext-length, setNext-other, setNext-next, setNext-last, setLast-length, setLast-other, setLast-last, setLast-next, setNext-next-other, setLast-last-other}
+use Rattle.storage_theorems.proofs.Fields.{setNext-next, setNext-last, setLast-last, setLast-next, setNext-next-other, setLast-last-other}
 use Rattle.storage_theorems.proofs.Inner.{walk-second, walk-inner}
 
 module _ (s : List ℕ) (a w l n : ℕ) where

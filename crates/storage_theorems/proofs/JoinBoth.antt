@@ -11,6 +11,7 @@ use Rattle.segment.specs.Blocks.{sizeAt, nextAt, lastAt}
 use Rattle.storage.specs.Ring.{unlink}
 use Rattle.storage.specs.Release.{joinBoth}
 use Rattle.storage.specs.Heap.{Block, Walk, over, frees, hit, count, Links, Heap, free, array}
+use Rattle.storage.proofs.Written.{unlink-length, unlink-other}
 use Rattle.storage_theorems.specs.Words.{Inner, Quiet, Leaves}
 use Rattle.storage_theorems.proofs.Walks.{over-le, walk-same, walk-replace, walk-at}
 use Rattle.storage_theorems.proofs.Counts.{hit-cases, hit-same, hit-eq, hit-not, frees-count, over-append, frees-within, frees-either}
@@ -19,7 +20,7 @@ use Rattle.storage_theorems.proofs.Search.{members-once, free-ring}
 use Rattle.storage_theorems.proofs.Merge.{merged, merged-length, merged-other, merged-first, merged-end, merged-base, merged-moves, merged-rover}
 use Rattle.storage_theorems.proofs.Inner.{inner-cases, inner-apart, inner-swap}
 use Rattle.storage_theorems.proofs.Heaps.{heap-make}
-use Rattle.storage_theorems.proofs.Unlink.{unlink-ring, unlink-length, unlink-other, unlink-walk}
+use Rattle.storage_theorems.proofs.Unlink.{unlink-ring, unlink-walk}
 
 module _ {s : List ℕ} {t : List ℕ} (xs : List Block) (j z k m : ℕ) (ys : List Block) (g : Heap s (xs ++ free j ∷ array z k ∷ free m ∷ ys) t) where
   abbrev p : ℕ

@@ -5,31 +5,24 @@ use mathlib.Core.Bool.{false}
 use mathlib.Core.List.{List, _∷_, _++_}
 use mathlib.Core.Logic.{_≢_, _⊎_, inl, inr, ⊎-elim}
 use native.Mathlib.Omega.{arith}
-use lib.ListN.{getD, length, length-set}
+use lib.ListN.{getD, length}
 use lib.Seq.{getD-set-same, getD-set-other, lt-length-set}
 use Rattle.segment.specs.State.{sbase, rover, blockptr, setRover}
 use Rattle.segment.specs.Blocks.{nextAt}
 use Rattle.storage.specs.Ring.{clearPrevFree}
 use Rattle.storage.specs.Request.{split}
 use Rattle.storage.specs.Heap.{Block, Walk, over, frees, count, Links, Heap, free, array}
+use Rattle.segment.proofs.Fields.{setRover-other, setRover-rover, setRover-length, setRover-base}
+use Rattle.storage.proofs.Written.{split-length, split-other}
 use Rattle.storage_theorems.specs.Words.{Quiet, Leaves}
 use Rattle.storage_theorems.proofs.Walks.{over-le, walk-replace, walk-clear}
 use Rattle.storage_theorems.proofs.Counts.{hit-cases, hit-same, frees-append, frees-count, over-append, frees-cases}
 use Rattle.storage_theorems.proofs.Ring.{links-same, ring-next}
 use Rattle.storage_theorems.proofs.Search.{member-within}
-use Rattle.storage_theorems.proofs.Fields.{setRover-other, setRover-rover, setRover-length, setRover-base}
 use Rattle.storage_theorems.proofs.Inner.{inner-cases}
 use Rattle.storage_theorems.proofs.Heaps.{heap-make}
 
 module _ (s : List ℕ) (f rest size : ℕ) where
-  pub split-length : length (split s f rest size) ≡ length s
-  unfolding split clearPrevFree
-  split-length = simp length-set
-
-  pub split-other : (i : ℕ) → (i ≢ f) × (i ≢ f + rest - 1) × (i ≢ f + rest) × (i ≢ f + rest + size) → getD (split s f rest size) i 0 ≡ getD s i 0
-  unfolding split clearPrevFree
-  split-other i h = simp (getD-set-other, h .0, h .1, h .2, h .3)
-
   module _ (r3 : 3 ≤ rest) (n3 : 3 ≤ size) (fit : f + rest + size < length s) where
     pub split-first : getD (split s f rest size) f 0 ≡ 2 ^ 31 + rest
     unfolding split clearPrevFree

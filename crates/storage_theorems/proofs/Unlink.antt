@@ -5,13 +5,14 @@ use mathlib.Core.Bool.{Bool}
 use mathlib.Core.List.{List, [], _∷_, _++_}
 use mathlib.Core.Logic.{_≢_, ⊎-elim}
 use native.Mathlib.Omega.{arith}
-use lib.ListN.{getD, length}
+use lib.ListN.{length}
 use Rattle.segment.specs.Blocks.{nextAt, lastAt}
 use Rattle.storage.specs.Ring.{setNext, setLast, unlink}
 use Rattle.storage.specs.Heap.{Block, Walk, over, frees, hit, count, Links}
+use Rattle.storage.proofs.Written.{setNext-length, setNext-other, setLast-other}
 use Rattle.storage_theorems.proofs.Counts.{hit-same, hit-eq, count-append}
 use Rattle.storage_theorems.proofs.Ring.{links-split, links-join, links-fields, snoc-cases}
-use Rattle.storage_theorems.proofs.Fields.{setNext-length, setNext-other, setNext-next, setNext-last, setLast-length, setLast-other, setLast-last, setLast-next, setNext-next-other, setLast-last-other}
+use Rattle.storage_theorems.proofs.Fields.{setNext-next, setNext-last, setLast-last, setLast-next, setNext-next-other, setLast-last-other}
 use Rattle.storage_theorems.proofs.Inner.{walk-second}
 
 pub unlink-is : (s : List ℕ) (f b l : ℕ) → nextAt s f ≡ b → lastAt s f ≡ l → unlink s f ≡ setLast (setNext s l b) b l
@@ -57,14 +58,6 @@ unlink-ring s f b vs h one lim = ⊎-elim none some (snoc-cases vs)
 
 -- reads after an unlink
 module _ (s : List ℕ) (f : ℕ) where
-  pub unlink-length : length (unlink s f) ≡ length s
-  unfolding unlink
-  unlink-length = setLast-length _ _ _ ∙ setNext-length _ _ _
-
-  pub unlink-other : (i : ℕ) → (i ≢ lastAt s f + 1) × (i ≢ nextAt s f + 1) → getD (unlink s f) i 0 ≡ getD s i 0
-  unfolding unlink
-  unlink-other i h = setLast-other _ _ _ i (h .1) ∙ setNext-other _ _ _ i (h .0)
-
   pub unlink-walk : (a : ℕ) (p : Bool) (bs : List Block) → Walk s a p bs → 0 < count (lastAt s f) (over a bs ∷ frees a bs)
       → 0 < count (nextAt s f) (over a bs ∷ frees a bs)
       → Walk (unlink s f) a p bs

@@ -5,32 +5,25 @@ use mathlib.Core.Bool.{false}
 use mathlib.Core.List.{List, _∷_, _++_}
 use mathlib.Core.Logic.{_≢_, inl, inr, ⊎-elim}
 use native.Mathlib.Omega.{arith}
-use lib.ListN.{getD, length, length-set}
+use lib.ListN.{getD, length}
 use lib.Seq.{getD-set-same, getD-set-other, lt-length-set}
 use Rattle.segment.specs.State.{sbase, rover, blockptr, setRover}
 use Rattle.segment.specs.Blocks.{nextAt, lastAt}
 use Rattle.storage.specs.Ring.{clearPrevFree, unlink}
 use Rattle.storage.specs.Request.{givenWhole}
 use Rattle.storage.specs.Heap.{Block, prevFreeBit, Walk, over, frees, hit, count, Links, Heap, free, array}
+use Rattle.segment.proofs.Fields.{setRover-other, setRover-rover, setRover-length, setRover-base}
+use Rattle.storage.proofs.Written.{unlink-length, unlink-other, whole-length, whole-other}
 use Rattle.storage_theorems.specs.Words.{Quiet, Leaves}
 use Rattle.storage_theorems.proofs.Walks.{over-le, walk-replace, walk-clear}
 use Rattle.storage_theorems.proofs.Counts.{hit-cases, hit-same, hit-eq, frees-count, over-append, frees-cases}
 use Rattle.storage_theorems.proofs.Ring.{links-same, links-last}
 use Rattle.storage_theorems.proofs.Search.{members-once, member-within, free-ring}
-use Rattle.storage_theorems.proofs.Fields.{setRover-other, setRover-rover, setRover-length, setRover-base}
 use Rattle.storage_theorems.proofs.Inner.{inner-cases, inner-apart}
 use Rattle.storage_theorems.proofs.Heaps.{heap-make}
-use Rattle.storage_theorems.proofs.Unlink.{unlink-ring, unlink-length, unlink-other, unlink-walk}
+use Rattle.storage_theorems.proofs.Unlink.{unlink-ring, unlink-walk}
 
 module _ (s : List ℕ) (f slop size : ℕ) where
-  pub whole-length : length (givenWhole s f slop size) ≡ length s
-  unfolding givenWhole clearPrevFree
-  whole-length = simp length-set (unlink-length s f)
-
-  pub whole-other : (i : ℕ) → (i ≢ f) × (i ≢ f + size + slop) → getD (givenWhole s f slop size) i 0 ≡ getD (unlink s f) i 0
-  unfolding givenWhole clearPrevFree
-  whole-other i h = simp (getD-set-other, h .0, h .1)
-
   module _ (n3 : 3 ≤ size) (fit : f + size + slop < length s) where
     pub whole-first : getD (givenWhole s f slop size) f 0 ≡ slop * 2 ^ 16 + size
     unfolding givenWhole clearPrevFree
