@@ -6,12 +6,7 @@ use mathlib.Core.List.{List, [], _∷_, _++_}
 use lib.ListN.{length, take, drop, set, replicate, length-replicate, length-drop}
 use lib.Seq.{sets, length-take-le}
 use borrow.Rule.Slice.PartMut.{putMid}
-use Rattle.segment.proofs.Copies.{filled}
-
--- a run written in two parts
-sets-append : (us vs s : List ℕ) (i e : ℕ) → i + length us ≡ e → sets s i (us ++ vs) ≡ sets (sets s i us) e vs
-sets-append [] vs s i e ends = let same : i ≡ e = omega arith in rw same
-sets-append (u ∷ us) vs s i e ends = sets-append us vs (set s i u) (suc i) e (omega arith)
+use Rattle.segment.proofs.Copies.{filled, sets-append}
 
 -- the part from i to e filled with one word
 pub filled-with : (s ys : List ℕ) (n c i e : ℕ) → i + n ≡ e → e ≤ length s → ys ≡ replicate (length (take (e - i) (drop i s))) c →

@@ -15,14 +15,13 @@ use Rattle.segment.specs.Cells.{Cell, undefined, cell}
 use Rattle.storage.specs.Heap.{count}
 use Rattle.segment.specs.Machine.{Machine, mapMachine, cellsOfFrames, allCells}
 use Rattle.segment.specs.View.{framesFrom, words, owners, view}
-use Rattle.segment.proofs.Runs.{undefined-cell}
+use Rattle.segment.proofs.Runs.{undefined-cell, part-same}
 use Rattle.manual.specs.Effects as manual
 use Rattle.manual.proofs.Machines.{map-run}
+use Rattle.segment.proofs.Copies.{sets-other}
 use Rattle.storage_theorems.proofs.Counts.{count-append}
 use Rattle.storage_theorems.specs.Elsewhere.{Elsewhere}
-use Rattle.storage_theorems.proofs.Cells.{part-same}
 use Rattle.storage_theorems.proofs.Owners.{reown}
-use Rattle.storage_theorems.proofs.Fill.{sets-other}
 use Rattle.storage_theorems.proofs.Steps.{plain, downward-same, downward-split}
 use Rattle.storage_theorems.proofs.Elsewhere.{own-elsewhere, cell-elsewhere}
 use Rattle.effects.specs.Perform.{enter}

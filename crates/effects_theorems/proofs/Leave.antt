@@ -17,12 +17,11 @@ use Rattle.storage.specs.Heap.{count}
 use Rattle.storage.specs.Owned.{Owned, CellsKept, OwnedStep}
 use Rattle.segment.specs.Machine.{Machine, mapMachine, cellsOfFrames, allCells}
 use Rattle.segment.specs.View.{framesFrom, words, owners, view}
-use Rattle.segment.proofs.Runs.{downward-length, undefined-cell, getD-downward}
+use Rattle.segment.proofs.Runs.{downward-length, undefined-cell, getD-downward, part-same}
 use Rattle.manual.specs.Effects as manual
 use Rattle.manual.proofs.Machines.{map-drop, map-current, map-older}
 use Rattle.storage_theorems.proofs.Counts.{count-append}
 use Rattle.storage_theorems.specs.Elsewhere.{Elsewhere}
-use Rattle.storage_theorems.proofs.Cells.{part-same}
 use Rattle.storage_theorems.proofs.Owners.{reown}
 use Rattle.storage_theorems.proofs.Steps.{kept-on, step-none, downward-same, downward-split, drops-own}
 use Rattle.storage_theorems.proofs.Elsewhere.{own-elsewhere, cell-elsewhere}

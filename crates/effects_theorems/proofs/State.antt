@@ -14,9 +14,9 @@ use Rattle.segment.specs.Machine.{Machine, mapMachine}
 use Rattle.segment.specs.View.{framesFrom, words, view}
 use Rattle.manual.specs.Effects as manual
 use Rattle.manual.proofs.Machines.{jump-cells, map-jump}
+use Rattle.segment.proofs.Runs.{part-same}
 use Rattle.storage_theorems.proofs.Counts.{order}
 use Rattle.storage_theorems.specs.Elsewhere.{Elsewhere}
-use Rattle.storage_theorems.proofs.Cells.{part-same}
 use Rattle.storage_theorems.proofs.Steps.{downward-same}
 use Rattle.storage_theorems.proofs.Elsewhere.{own-elsewhere, cell-elsewhere}
 use Rattle.effects.specs.Sound.{Sound}

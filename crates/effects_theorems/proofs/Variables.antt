@@ -16,11 +16,10 @@ use Rattle.segment.specs.Cells.{Cell, undefined, cell}
 use Rattle.storage.specs.Heap.{count}
 use Rattle.segment.specs.Machine.{Machine, mapMachine, allCells, depthOfFrames}
 use Rattle.segment.specs.View.{framesFrom, words, owners, view}
-use Rattle.segment.proofs.Runs.{downward-length, part-length, undefined-cell, getD-downward}
+use Rattle.segment.proofs.Runs.{downward-length, part-length, undefined-cell, getD-downward, part-same}
 use Rattle.manual.specs.Effects.{indexIn, look, putFrames, put, InFrames, AddressableIn}
 use Rattle.manual.proofs.Cellwise.{index-in, global-in, put-here, put-below, look-put, map-look, in-map}
 use Rattle.storage_theorems.proofs.Counts.{order, hit-same, hit-cases}
-use Rattle.storage_theorems.proofs.Cells.{part-same}
 use Rattle.storage_theorems.proofs.Steps.{downward-same}
 use Rattle.storage_theorems.proofs.Element.{part-set}
 use Rattle.effects.specs.Sources.{addressOf, heldAt, operandAt}

@@ -11,10 +11,9 @@ use Rattle.segment.specs.Stack.{lastLbaseAt, codeWordAt, downward}
 use Rattle.storage.specs.Owned.{CellsKept}
 use Rattle.segment.specs.Machine.{Frame, cellsOfFrames, depthOfFrames}
 use Rattle.segment.specs.View.{framesFrom, words}
-use Rattle.segment.proofs.Runs.{downward-length}
+use Rattle.segment.proofs.Runs.{downward-length, part-same}
 use Rattle.storage_theorems.proofs.Counts.{order}
 use Rattle.storage_theorems.proofs.Walks.{Same}
-use Rattle.storage_theorems.proofs.Cells.{part-same}
 use Rattle.storage_theorems.proofs.Steps.{downward-same}
 use Rattle.effects.specs.Sound.{Chain, bottom, upon}
 

@@ -8,8 +8,8 @@ use lib.ListN.{getD, set, length, replicate, length-set, length-replicate}
 use lib.Seq.{sets, getD-set-same}
 use Rattle.segment.specs.Blocks.{part}
 use Rattle.segment.specs.Stack.{downward}
-use Rattle.storage_theorems.proofs.Fill.{sets-other}
 use Rattle.descriptor.proofs.Truth.{by-le}
+use Rattle.segment.proofs.Copies.{sets-other}
 
 pub run-in : (n : ℕ) (s : List ℕ) (i c : ℕ) → i + n ≤ length s → (j : ℕ) → i ≤ j → j < i + n → getD (sets s i (replicate n c)) j 0 ≡ c
 run-in zero s i c h j l u = absurd (omega arith)

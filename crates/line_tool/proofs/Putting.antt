@@ -1,6 +1,6 @@
 -- Loops that put a text into a buffer, and texts put one after the other.
 use Prim.Native.Nat.{ℕ, suc, _+_, _-_, _*_, _/_, _%_, _≤_, _<_, min, max}
-use native.Mathlib.Nat.{le-of-suc-le-suc, not-suc-le-zero, le-of-lt, mod-eq-of-lt, add-zero, add-suc, suc-add, eq-zero-or-pos}
+use native.Mathlib.Nat.{le-of-suc-le-suc, not-suc-le-zero, le-of-lt, mod-eq-of-lt, eq-zero-or-pos}
 use native.Mathlib.Numerals.{add-one}
 use native.Mathlib.Omega.{arith}
 use mathlib.Core.Logic.{⊎-elim}
@@ -9,7 +9,7 @@ use mathlib.Core.List.{List, [], _∷_, _++_, append-nil}
 use borrow.Author.Tests.{lt-ltb, le-ltb}
 use lib.ListN.{length, getD, set, take, drop, length-set, length-append, length-drop, drop-of-length-le}
 use lib.Seq.{sets, length-sets, set-split, drop-cons, drop-length, drop-at, append-snoc, length-take-le, take-all}
-use Rattle.segment.proofs.Copies.{sets-out}
+use Rattle.segment.proofs.Copies.{sets-out, sets-append}
 use Rattle.line_tool.specs.Bytes.{pair, pairs}
 use Rattle.line_tool.specs.Writing.{Wrote, wrote, writes, digits, decimal}
 
@@ -96,10 +96,6 @@ digits-none left e = rw e (rw e at (left .so-far))
 
 -- ---- one text after another
 
-pub sets-append : (l : List ℕ) (i : ℕ) (a b : List ℕ) → sets l i (a ++ b) ≡ sets (sets l i a) (i + length a) b
-sets-append l i [] b = rw (add-zero i)
-sets-append l i (x ∷ a) b = rw (add-suc i (length a), ← suc-add i (length a)) (sets-append (set l i x) (suc i) a b)
-
 -- past the end one place is as good as another
 sets-past : (l b : List ℕ) (i j : ℕ) → length l ≤ i → length l ≤ j → sets l i b ≡ sets l j b
 sets-past l b i j h k = sets-out b l i h ∙ sym (sets-out b l j k)
@@ -107,10 +103,10 @@ sets-past l b i j h k = sets-out b l i h ∙ sym (sets-out b l j k)
 sets-after : (o : List ℕ) (at : ℕ) (a b : List ℕ) (r : ℕ) → r ≡ max at (min (at + length a) (length o)) → sets (sets o at a) r b ≡ sets o at (a ++ b)
 sets-after o at a b r e =
     ⊎-elim
-    (λ (h : at + length a - length o ≡ 0). let s : r ≡ at + length a = omega arith in rw s (sym (sets-append o at a b)))
+    (λ (h : at + length a - length o ≡ 0). let s : r ≡ at + length a = omega arith in rw s (sym (sets-append a b o at (at + length a) refl)))
     (λ (h : 0 < at + length a - length o).
     sets-past (sets o at a) b r (at + length a) (rw (length-sets o at a) (omega arith)) (rw (length-sets o at a) (omega arith))
-    ∙ sym (sets-append o at a b))
+    ∙ sym (sets-append a b o at (at + length a) refl))
     (eq-zero-or-pos (at + length a - length o))
 
 writes-after : (o : List ℕ) (at : ℕ) (a b : List ℕ) (r : ℕ) (out : List ℕ) → wrote r out ≡ writes o at a → writes out r b ≡ writes o at (a ++ b)

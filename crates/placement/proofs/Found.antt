@@ -10,10 +10,10 @@ use Rattle.segment.specs.State.{rover, blockptr, setRover}
 use Rattle.segment.specs.Blocks.{sizeAt, nextAt}
 use Rattle.storage.specs.Request.{find, split, givenWhole, give, given, request, requestAt}
 use Rattle.storage.specs.Heap.{Block, over, frees, hit, count, Links, Heap, free}
+use Rattle.segment.proofs.Fields.{setRover-other}
 use Rattle.storage_theorems.proofs.Ways.{given-split, given-whole, give-split, give-whole, requestAt-none, request-some, requestAt-some}
 use Rattle.storage_theorems.proofs.Walks.{over-le}
 use Rattle.storage_theorems.proofs.Counts.{order, hit-cases, hit-same, count-append, over-append, frees-count, free-split}
-use Rattle.storage_theorems.proofs.Fields.{setRover-other}
 use Rattle.storage_theorems.proofs.Search.{here, there, nowhere, ring-once, free-ring, find-is, find-cases, members-once}
 use Rattle.storage_theorems.proofs.Search as search
 use Rattle.storage_theorems.proofs.Split.{split-first, split-given, split-links, split-rover}

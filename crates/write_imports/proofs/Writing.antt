@@ -9,7 +9,7 @@ use lib.ListN.{length, getD, take, drop, length-append, drop-of-length-le}
 use lib.Dec.{ltb}
 use lib.Seq.{sets, sets-eq, length-sets, drop-cons, take-at}
 use Rattle.imports.specs.Records as file
-use Rattle.line_tool.proofs.Putting.{sets-append}
+use Rattle.segment.proofs.Copies.{sets-append}
 use Rattle.imports.proofs.ReadBack.{numbers-append}
 use Rattle.imports.specs.Encoding.{encodeGroups, encodeNumber, encodeNumbers, encodeRecord}
 
@@ -46,7 +46,7 @@ wrote s p = record { stands = s; place = p }
 module _ {before : List ℕ} {at : ℕ} {a after : List ℕ} {to : ℕ} (w : Wrote before at a after to) where
   pub then : {b later : List ℕ} {end : ℕ} → Wrote after to b later end → Wrote before at (a ++ b) later end
   then {b} v = record {
-    stands = v .stands ∙ rw (w .stands, w .place) (sym (sets-append before at a b));
+    stands = v .stands ∙ rw (w .stands, w .place) (sym (sets-append a b before at (at + length a) refl));
     place = rw (length-append a b) (omega (arith, v .place, w .place));
   }
 
@@ -82,7 +82,7 @@ module _ {numbers before : List ℕ} {at : ℕ} where
         let bytes-so : sets out to (encodeNumber n ++ rest) ≡ sets before at (encodeNumbers numbers) = rw next at (g .bytes) in
         let place-so : to + length (encodeNumber n ++ rest) ≡ at + length (encodeNumbers numbers) = rw next at (g .place) in
         record {
-          bytes = rw (s, p) (sym (sets-append out to (encodeNumber n) rest) ∙ bytes-so);
+          bytes = rw (s, p) (sym (sets-append (encodeNumber n) rest out to (to + length (encodeNumber n)) refl) ∙ bytes-so);
           place = omega (arith, p, place-so, length-append (encodeNumber n) rest);
           as-long = rw s (length-sets out to (encodeNumber n)) ∙ g .as-long;
           room = omega (arith, p, number-short n, g .room);
