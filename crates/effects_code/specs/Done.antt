@@ -3,11 +3,13 @@
 use Prim.Native.Nat.{ℕ}
 use mathlib.Core.Path.{_≡_}
 use mathlib.Core.Bool.{true, cond}
-use mathlib.Core.List.{List}
+use mathlib.Core.List.{List, _++_}
 use lib.ListN.{set}
 use Rattle.descriptor.specs.declared.Target.{Target}
 use Rattle.storage.specs.Arrays.{share, dropWord, dropWords}
-use Rattle.manual.specs.Effects.{Effect, storesElement}
+use Rattle.segment.specs.declared.blocks.Part.{Part}
+use Rattle.segment.specs.Parts.{partOf}
+use Rattle.manual.specs.Effects.{Effect, made, replaces, storesElement}
 use Rattle.effects.specs.Sources.{addressOf, heldAt}
 use Rattle.effects.specs.Perform.{bottomOf, finish, blockOf, unshare, perform, isFull}
 use Rattle.effects.specs.Seen.{whole}
@@ -27,6 +29,10 @@ fullOrDone s e = cond (isFull s e) D.Full D.Done
 
 unfoldable pub attempt : List ℕ → Effect → List ℕ
 attempt s e = cond (isFull s e) s (perform s e)
+
+-- A new array with the elements of two parts of the segment takes the place of n operands.
+abbrev pub joining : ℕ → List ℕ → List ℕ → Part → Part → Effect
+joining n shape s first second = replaces n (made shape (partOf s first ++ partOf s second))
 
 -- The block is that of the array that the variable holds, and it can be read.
 pub record Held (s : List ℕ) (t : Target) (block : ℕ) : Type 0 where

@@ -13,7 +13,6 @@ use super::taking::drop_from;
 use super::taking::frame;
 use super::taking::frame_cell;
 use super::taking::top;
-use super::taking::top_cell;
 use descriptor::Descriptor;
 use descriptor::address::SegmentAddress;
 use descriptor::address::StackAddress;
@@ -24,6 +23,7 @@ use segment::put;
 use segment::state::lbase;
 use segment::state::set_lbase;
 use segment::state::set_ltop;
+use segment::state::top_cell;
 use segment::word;
 use storage::share;
 

@@ -1,6 +1,7 @@
 // Effects on the operands: a result is placed before they are released, and takes their place.
 ghost use mathlib.Core.Path.{_≡_};
-ghost use Prim.Native.Nat.{_+_, _-_, _<_, _^_};
+ghost use Prim.Native.Nat.{_+_, _-_, _≤_, _<_, _^_};
+ghost use lib.ListN.{length};
 ghost use Rattle.segment.specs.State as fields;
 ghost use Rattle.storage.specs.Arrays as arrays;
 ghost use Rattle.manual.specs.Effects as manual;
@@ -11,17 +12,20 @@ use descriptor::Descriptor;
 use descriptor::address::CodeAddress;
 use descriptor::address::SegmentAddress;
 use descriptor::address::StackAddress;
+use segment::blocks::Part;
 use segment::high;
 use segment::low;
 use segment::minus;
 use segment::put;
 use segment::stack::set_pctr;
 use segment::state::set_ltop;
+use segment::state::top_cell;
 use segment::word;
 use storage::Found;
 use storage::drop_word;
 use storage::place;
 use storage::share;
+use storage_joins::place_joined;
 
 // `w`, a word that names no array, takes the place of n operands.
 pub fn replace_by_word(seg: &mut [u32], n: u32, w: u32)
@@ -53,6 +57,33 @@ pub fn replace_by_array(seg: &mut [u32], n: u32, shape: &[u32], ravel: &[u32]) -
     }
     let b = bottom(seg, n);
     match place(seg, shape, ravel) {
+        Found::Full => Done::Full,
+        Found::At(block) => {
+            take(seg, b, n, Descriptor::array(block).word());
+            Done::Done
+        }
+    }
+}
+
+// A new array with the elements of two parts of the segment takes the place of n operands.
+pub fn replace_by_joined(
+    seg: &mut [u32],
+    n: u32,
+    shape: &[u32],
+    first: Part,
+    second: Part,
+    scratch: &mut [u32],
+) -> Done
+    requires { ⌜ effect.bottomOf (now seg) n < 2 ^ 17 - 1 ⌝ }
+    requires { ⌜ (first .count ≤ 16384) × (second .count ≤ 16384) × (length (now scratch) ≡ 16384) ⌝ }
+    ensures { λ r. ⌜ r ≡ answers.fullOrDone (now (seg .entry)) (answers.joining n (now (shape .entry)) (now (seg .entry)) first second) ⌝ }
+    ensures { λ _. ⌜ now (seg .exit) ≡ answers.attempt (now (seg .entry)) (answers.joining n (now (shape .entry)) (now (seg .entry)) first second) ⌝ }
+{
+    if 16384 < 2 + shape.len() + (first.count + second.count) {
+        return Done::Full;
+    }
+    let b = bottom(seg, n);
+    match place_joined(seg, shape, first, second, scratch) {
         Found::Full => Done::Full,
         Found::At(block) => {
             take(seg, b, n, Descriptor::array(block).word());
@@ -129,13 +160,7 @@ fn bottom(seg: &[u32], n: u32) -> SegmentAddress
     SegmentAddress::of(minus(top_cell(seg).number() + 1, n))
 }
 
-// LTOP and LBASE, counted from the segment's start.
-pub fn top_cell(seg: &[u32]) -> SegmentAddress
-    ensures { λ r. ⌜ (r .0 ≡ fields.sbase (now (seg .entry)) + fields.ltop (now (seg .entry))) × (r .0 < 2 ^ 17 - 1) ⌝ }
-{
-    SegmentAddress::of(base(seg) as u32 + top(seg) as u32)
-}
-
+// LBASE, counted from the segment's start.
 pub fn frame_cell(seg: &[u32]) -> SegmentAddress
     ensures { λ r. ⌜ (r .0 ≡ fields.sbase (now (seg .entry)) + fields.lbase (now (seg .entry))) × (r .0 < 2 ^ 17 - 1) ⌝ }
 {

@@ -23,7 +23,6 @@ use effects_code::taking;
 use effects_code::taking::finish;
 use effects_code::taking::replace_by_share;
 use effects_code::taking::replace_by_word;
-use effects_code::taking::top_cell;
 use operands::reading::count;
 use operands::reading::operand_at;
 use operands::reading::room;
@@ -38,6 +37,7 @@ use segment::state::lbase;
 use segment::state::ltop;
 use segment::state::sbase;
 use segment::state::set_ltop;
+use segment::state::top_cell;
 use segment::word;
 
 // What a variable holds, word i, or one that it refers to: a scalar or an array.

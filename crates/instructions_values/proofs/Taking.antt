@@ -26,7 +26,7 @@ use Rattle.instructions_values.specs.declared.operand_values.Both.the-va
 use Rattle.instructions_values.specs.Parts.{Readable, fromFirst, fromBoth, FirstFound, BothFound}
 
 module _ (s : List ℕ) where
-  readable-found : (w : ℕ) (v : Operand) → operandOf s w ≡ found.Value v → Readable s v
+  pub readable-found : (w : ℕ) (v : Operand) → operandOf s w ≡ found.Value v → Readable s v
   readable-found w v e = record { array = λ block same. array-whole s w block (e ∙ ap found.Value same) }
 
   operand-found : (i : ℕ) → i < temporaries s → (o : Found) → operandOf s (operandAt s i) ≡ o → valueOf ((seen s) .operand i) ≡ valueSeen s o
@@ -47,6 +47,7 @@ module _ (s : List ℕ) (n : ℕ) where
   first-trap class number ends =
       record {
         all = λ v e. let z : _≡_ {A = ℕ} 0 1 = cc in absurd (omega arith);
+        operand = λ v e. let z : _≡_ {A = ℕ} 0 1 = cc in absurd (omega arith);
         readable = λ v e. let z : _≡_ {A = ℕ} 0 1 = cc in absurd (omega arith);
         goes = λ v e next. let z : _≡_ {A = ℕ} 0 1 = cc in absurd (omega arith);
         stops = λ c k e next. ends next ∙ (cc);
@@ -68,6 +69,7 @@ module _ (s : List ℕ) (n : ℕ) where
     first-found v e =
         record {
           all = λ u f. all;
+          operand = λ u f. let same : v ≡ u = cc in e ∙ ap found.Value same;
           readable = λ u f. let same : v ≡ u = cc in readable-found s (operandAt s 0) u (e ∙ ap found.Value same);
           goes = λ u f next. let same : v ≡ u = cc in from-first (found.Value v) e next ∙ ap (λ (w : Operand). next (held s w)) same;
           stops = λ class number f next. let z : _≡_ {A = ℕ} 0 1 = cc in absurd (omega arith);
@@ -91,6 +93,7 @@ module _ (s : List ℕ) where
   both-trap : (class number : ℕ) → ((next : Value → Value → Plan) → fromBoth (seen s) next ≡ trap class number) → BothFound s (B.Trap class number)
   both-trap class number ends =
       record {
+        operands = λ a b e. let z : _≡_ {A = ℕ} 0 1 = cc in absurd (omega arith);
         readable = λ a b e. let z : _≡_ {A = ℕ} 0 1 = cc in absurd (omega arith);
         goes = λ a b e next. let z : _≡_ {A = ℕ} 0 1 = cc in absurd (omega arith);
         stops = λ c k e next. ends next ∙ (cc);
@@ -112,6 +115,7 @@ module _ {s : List ℕ} {r : First} (f : FirstFound s 2 r) where
     pub both-found : {b : Operand} → operandOf s (operandAt s 1) ≡ found.Value b → BothFound s (B.Values a b)
     both-found {b} second =
         record {
+          operands = λ u w g. let same : a ≡ u = cc in let other : b ≡ w = cc in record { first = f .operand u (e ∙ ap F.Value same); second = second ∙ ap found.Value other };
           readable = λ u w g. let same : a ≡ u = cc in let other : b ≡ w = cc in (f .readable u (e ∙ ap F.Value same), readable-found s (operandAt s 1) w (second ∙ ap found.Value other));
           goes = λ u w g next. let same : a ≡ u = cc in let other : b ≡ w = cc in from-both (found.Value b) second next ∙ ap (λ (x : Operand). next (held s x) (held s b)) same ∙ ap (λ (x : Operand). next (held s u) (held s x)) other;
           stops = λ class number g next. let z : _≡_ {A = ℕ} 0 1 = cc in absurd (omega arith);

@@ -1,7 +1,7 @@
 -- SHAPE, RAVEL, CATENATE, INDEXGEN and RESHAPE by the ways through them.
 use Prim.Native.Nat.{ℕ, _+_, _^_, _<_, _≤_, min}
 use native.Mathlib.Omega.{arith}
-use mathlib.Core.Path.{_≡_, refl, _∙_}
+use mathlib.Core.Path.{_≡_, refl, ap, _∙_}
 use mathlib.Core.Bool.{Bool, true, false, not, _&&_}
 use mathlib.Core.List.{List, [], _∷_, _++_}
 use lib.Dec.{eqb}
@@ -10,19 +10,24 @@ use borrow.Author.Tests.{lt-ltb, le-ltb, le-leb, lt-leb, eq-eqb, ne-eqb, eqb-tru
 use Rattle.descriptor.specs.Fields.{isCharacter}
 use Rattle.scalar.specs.Reading.{wholeOf}
 use Rattle.segment.specs.Blocks.{product}
+use Rattle.segment.specs.declared.blocks.Part.{Part}
+use Rattle.segment.specs.Parts.{partOf}
+use Rattle.segment.proofs.Runs.{part-length}
 use Rattle.manual.specs.OrTrap.{gives, trap, andThen, stopIf}
-use Rattle.manual.specs.Values.{Value, value, vector, rank, size, any, single, shortOf, shorts, catenate, upFrom, indexGenerator, cycle, reshape}
+use Rattle.manual.specs.Values.{Value, value, vector, rank, size, any, single, shortOf, shorts, joinedShape, catenate, upFrom, indexGenerator, cycle, reshape}
 use Rattle.manual.specs.Scalars.{replaceBy}
 use Rattle.manual.proofs.Elements.{no-lengths, length-cycle}
 use Rattle.elements.proofs.Filling.{length-upFrom}
 use Rattle.operands.specs.declared.reading.Value.{Value as Operand}
 use Rattle.operands.specs.declared.reading.Value.the-variants.{Scalar, Array}
-use Rattle.operands.specs.Operands.{held}
+use Rattle.operands.specs.Operands.{held, Stands}
+use Rattle.effects.specs.Sources.{operandAt}
 use Rattle.effects.specs.declared.Outcome.the-variants.{Trapped}
 use Rattle.effects.specs.Carried.{did, carry}
 use Rattle.instructions_values.specs.Parts.{Readable, shaped}
 use Rattle.instructions_values.proofs.Carrying.{carried-long}
 use Rattle.instructions_values.proofs.Few.{lengths-few, elements-few}
+use Rattle.instructions_values.proofs.Taking.{readable-found}
 
 -- ---- what a value has
 
@@ -35,25 +40,21 @@ module _ (s : List ℕ) where
   size-few short (Scalar w) r = omega arith
   size-few short (Array block) r = elements-few s (block .0) (r .array block refl) short _ refl
 
--- ---- a vector that is too long
-
-pub vector-long : (s : List ℕ) (n : ℕ) (words : List ℕ) (next : ℕ) → 16384 < length words → did (Trapped 1 2) s ≡ carry s (replaceBy next n (gives (vector words)))
-vector-long s n words next more = carried-long s n (length words ∷ []) words next (omega arith)
-
 -- ---- CATENATE
 
 module _ (a b : Value) where
-  pub catenate-first : 1 < rank a → trap 5 0 ≡ catenate a b
+  pub catenate-refused : (class number : ℕ) → trap class number ≡ joinedShape (a .shape) (b .shape) → trap class number ≡ catenate a b
   unfolding catenate
-  catenate-first high = simp (lt-ltb 1 (rank a) high)
+  catenate-refused class number e = rw (← e)
 
-  pub catenate-second : rank a ≤ 1 → 1 < rank b → trap 5 0 ≡ catenate a b
+  pub catenate-joined : (lengths : List ℕ) → gives lengths ≡ joinedShape (a .shape) (b .shape) → gives (value lengths (a .ravel ++ b .ravel)) ≡ catenate a b
   unfolding catenate
-  catenate-second low high = simp (le-ltb 1 (rank a) low, lt-ltb 1 (rank b) high)
+  catenate-joined lengths e = rw (← e)
 
-  pub catenate-joined : rank a ≤ 1 → rank b ≤ 1 → size a + size b < 2 ^ 16 → catenate a b ≡ gives (vector (a .ravel ++ b .ravel))
-  unfolding catenate
-  catenate-joined low lower few = simp (le-ltb 1 (rank a) low, le-ltb 1 (rank b) lower, lt-leb (2 ^ 16) (size a + size b) few)
+-- an operand's elements are no more than the segment's words
+pub part-few : (s : List ℕ) → length s ≤ 16384 → (i : ℕ) (v : Operand) → Stands s i v → (p : Part) → partOf s p ≡ held s v .ravel → p .count ≤ 16384
+part-few s short i v stands p same =
+    omega (arith, size-few s short v (readable-found s (operandAt s i) v stands), part-length s (p .start .0) (p .count), ap length same)
 
 -- ---- INDEXGEN
 
@@ -72,7 +73,7 @@ module _ (origin : ℕ) (v : Value) where
     generator-numbers n e = rw (← one, ← e)
 
 pub numbers-long : (s : List ℕ) (origin n next : ℕ) → 16384 < n → did (Trapped 1 2) s ≡ carry s (replaceBy next 1 (gives (vector (upFrom origin n))))
-numbers-long s origin n next more = vector-long s 1 (upFrom origin n) next (rw length-upFrom more)
+numbers-long s origin n next more = carried-long s 1 (length (upFrom origin n) ∷ []) (upFrom origin n) next (omega (arith, length-upFrom origin n))
 
 -- ---- RESHAPE
 

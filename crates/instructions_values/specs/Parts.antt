@@ -21,7 +21,7 @@ use Rattle.effects.specs.Seen.{whole, temporaries, seen}
 use Rattle.elements.specs.Answers.{Paired, pairwiseBy}
 use Rattle.operands.specs.declared.reading.Value.{Value}
 use Rattle.operands.specs.declared.reading.Value.the-variants.{Array}
-use Rattle.operands.specs.Operands.{held}
+use Rattle.operands.specs.Operands.{held, Stands}
 use Rattle.instructions_values.specs.declared.operand_values.First.{First}
 use Rattle.instructions_values.specs.declared.operand_values.First.the-variants as F
 use Rattle.instructions_values.specs.declared.operand_values.Both.{Both}
@@ -39,6 +39,11 @@ arrayAt s block = held s (Array block)
 -- A value whose parts can be read off the segment: a scalar always, an array where its block is whole.
 pub record Readable (s : List ℕ) (v : Value) : Type 0 where
   pub array : (block : SegmentAddress) → v ≡ Array block → whole s (block .0) ≡ true
+
+-- The values of both of two operands.
+pub record Operands (s : List ℕ) (a b : Value) : Type 0 where
+  pub first : Stands s 0 a
+  pub second : Stands s 1 b
 
 abbrev pub originOf : List ℕ → ℕ
 originOf s = iorg (flags s)
@@ -60,11 +65,13 @@ fromBoth sees next = fromFirst sees 2 (λ a. andThen (valueOf (sees .operand 1))
 -- What the code finds: values that can be read, from which every such plan goes on; or the trap that every one is.
 pub record FirstFound (s : List ℕ) (n : ℕ) (r : First) : Type 0 where
   pub all : (v : Value) → r ≡ F.Value v → n ≤ temporaries s
+  pub operand : (v : Value) → r ≡ F.Value v → Stands s 0 v
   pub readable : (v : Value) → r ≡ F.Value v → Readable s v
   pub goes : (v : Value) → r ≡ F.Value v → (next : values.Value → Plan) → fromFirst (seen s) n next ≡ next (held s v)
   pub stops : (class number : ℕ) → r ≡ F.Trap class number → (next : values.Value → Plan) → fromFirst (seen s) n next ≡ trap class number
 
 pub record BothFound (s : List ℕ) (r : Both) : Type 0 where
+  pub operands : (a b : Value) → r ≡ B.Values a b → Operands s a b
   pub readable : (a b : Value) → r ≡ B.Values a b → Readable s a × Readable s b
   pub goes : (a b : Value) → r ≡ B.Values a b → (next : values.Value → values.Value → Plan) → fromBoth (seen s) next ≡ next (held s a) (held s b)
   pub stops : (class number : ℕ) → r ≡ B.Trap class number → (next : values.Value → values.Value → Plan) → fromBoth (seen s) next ≡ trap class number

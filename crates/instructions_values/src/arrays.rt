@@ -1,5 +1,6 @@
 // SHAPE, RAVEL, CATENATE, INDEXGEN, RESHAPE.
 ghost use mathlib.Core.Path.{_≡_};
+ghost use mathlib.Core.List.{_++_};
 ghost use Prim.Native.Nat.{_≤_, _<_};
 ghost use lib.ListN.{length};
 ghost use Rattle.segment.specs.Blocks as layout;
@@ -8,7 +9,7 @@ ghost use Rattle.manual.specs.Values as values;
 ghost use Rattle.manual.specs.Scalars as plan;
 ghost use Rattle.operands.specs.Operands.{held};
 ghost use Rattle.effects.specs.Carried.{CarriesOut};
-ghost use Rattle.instructions_values.specs.Parts.{Readable, ReplacesBy, originOf, shaped, filled};
+ghost use Rattle.instructions_values.specs.Parts.{Readable, Operands, Carries, ReplacesBy, madeOf, originOf, shaped, filled};
 use super::operand_values::Both;
 use super::operand_values::First;
 use super::operand_values::both_values;
@@ -17,18 +18,24 @@ use super::ravels::copy_ravel;
 use super::ravels::copy_shape;
 use super::ravels::cycle_ravel;
 use super::ravels::rank_of;
+use super::ravels::shape_of;
 use super::ravels::single;
 use super::ravels::size_of;
 use super::results::replace_by_new;
 use super::results::replace_by_vector;
 use descriptor::address::CodeAddress;
 use effects::Outcome;
+use effects_code::Done;
 use effects_code::taking::jump;
+use effects_code::taking::replace_by_joined;
 use effects_code::taking::replace_by_word;
 use elements::Finished;
+use elements::Joined;
 use elements::copies::up_from;
+use elements::joins::joined;
 use elements::shapes;
 use operands::reading::Value;
+use operands::reading::elements_part;
 use scalar::Answer;
 use segment::state::iorg;
 
@@ -65,32 +72,48 @@ pub fn catenate(seg: &mut [u32], next: CodeAddress, scratch: &mut [u32]) -> Outc
 {
     match both_values(seg) {
         Both::Trap(class, number) => Outcome::Trapped(class, number),
-        Both::Values(a, b) => {
-            if 1 < rank_of(seg, a) {
-                return Outcome::Trapped(5, 0);
-            }
-            if 1 < rank_of(seg, b) {
-                return Outcome::Trapped(5, 0);
-            }
-            join(seg, a, b, next, scratch)
-        }
+        Both::Values(a, b) => join(seg, a, b, next, scratch),
     }
 }
 
 fn join(seg: &mut [u32], a: Value, b: Value, next: CodeAddress, scratch: &mut [u32]) -> Outcome
-    requires { ⌜ Readable (now seg) a × Readable (now seg) b × (length (now seg) ≤ 16384) × (length (now scratch) ≡ 16384) ⌝ }
-    requires { ⌜ (values.rank (held (now seg) a) ≤ 1) × (values.rank (held (now seg) b) ≤ 1) ⌝ }
+    requires { ⌜ Operands (now seg) a b × (length (now seg) ≤ 16384) × (length (now scratch) ≡ 16384) ⌝ }
     ensures { λ r. ⌜ ReplacesBy (now (seg .entry)) r (now (seg .exit)) (next .0) 2 (λ s. values.catenate (held s a) (held s b)) ⌝ }
 {
-    let m = size_of(seg, a);
-    let n = size_of(seg, b);
-    // two arrays of one segment have fewer than 65,536 elements together; no block is longer than the scratch
-    if scratch.len() < m + n {
-        return Outcome::Trapped(1, 2);
+    match joined(shape_of(seg, a), shape_of(seg, b)) {
+        Joined::Trap(class, number) => Outcome::Trapped(class, number),
+        Joined::Vector(n) => {
+            let lengths = [n];
+            join_as(seg, &lengths, a, b, next, scratch)
+        }
+        Joined::Matrix(rows, width) => {
+            let lengths = [rows, width];
+            join_as(seg, &lengths, a, b, next, scratch)
+        }
     }
-    copy_ravel(seg, a, scratch);
-    copy_ravel(seg, b, &mut scratch[m..]);
-    replace_by_vector(seg, 2, &scratch[..m + n], next)
+}
+
+// The elements go straight from where the operands hold them into the new array: no trap but (1,2) is left.
+fn join_as(
+    seg: &mut [u32],
+    lengths: &[u32],
+    a: Value,
+    b: Value,
+    next: CodeAddress,
+    scratch: &mut [u32],
+) -> Outcome
+    requires { ⌜ Operands (now seg) a b × (length (now seg) ≤ 16384) × (length (now scratch) ≡ 16384) ⌝ }
+    ensures { λ r. ⌜ Carries (now (seg .entry)) r (now (seg .exit)) (λ s. madeOf (next .0) 2 (now (lengths .entry)) (gives (held s a .ravel ++ held s b .ravel))) ⌝ }
+{
+    let first = elements_part(seg, 0, a);
+    let second = elements_part(seg, 1, b);
+    match replace_by_joined(seg, 2, lengths, first, second, scratch) {
+        Done::Full => Outcome::Trapped(1, 2),
+        Done::Done => {
+            jump(seg, next);
+            Outcome::Finished
+        }
+    }
 }
 
 pub fn index_generator(seg: &mut [u32], next: CodeAddress, scratch: &mut [u32]) -> Outcome
@@ -117,7 +140,8 @@ fn generate(seg: &mut [u32], n: usize, next: CodeAddress, scratch: &mut [u32]) -
         return Outcome::Trapped(1, 2);
     }
     up_from(iorg(seg), &mut scratch[..n]);
-    replace_by_vector(seg, 1, &scratch[..n], next)
+    let lengths = [n as u32];
+    replace_by_new(seg, 1, &lengths, &scratch[..n], next)
 }
 
 pub fn reshape(seg: &mut [u32], next: CodeAddress, scratch: &mut [u32]) -> Outcome

@@ -22,6 +22,17 @@ pub fn rank_of(seg: &[u32], v: Value) -> usize
     }
 }
 
+// Its lengths, as a part of the segment.
+pub fn shape_of(seg: &[u32], v: Value) -> &[u32]
+    requires { ⌜ Readable (now seg) v ⌝ }
+    ensures { λ r. ⌜ now r ≡ held (now (seg .entry)) v .shape ⌝ }
+{
+    match v {
+        Value::Scalar(_) => &seg[..0],
+        Value::Array(block) => lengths_of(seg, block),
+    }
+}
+
 // How many elements it has.
 pub fn size_of(seg: &[u32], v: Value) -> usize
     requires { ⌜ Readable (now seg) v ⌝ }

@@ -1,20 +1,26 @@
--- The operand by its word is what the manual reads of the cell, and an array operand's block is whole.
-use Prim.Native.Nat.{ℕ}
-use mathlib.Core.Path.{_≡_, refl}
+-- The operand by its word is what the manual reads of the cell, an array operand's block is whole, and where its elements stand.
+use Prim.Native.Nat.{ℕ, _+_, _-_}
+use mathlib.Core.Path.{_≡_, refl, ap, _∙_}
 use mathlib.Core.Bool.{Bool, true, false, cond}
 use mathlib.Core.List.{List}
+use lib.ListN.{length}
 use Rattle.descriptor.specs.declared.address.SegmentAddress.{SegmentAddress}
 use Rattle.descriptor.specs.declared.Kind.{Kind}
 use Rattle.descriptor.specs.declared.Kind.the-variants as K
 use Rattle.descriptor.specs.Kinds.{kindOf}
-use Rattle.segment.specs.Blocks.{shapeAt, elementsAt}
+use Rattle.segment.specs.State.{sbase, ltop}
+use Rattle.segment.specs.Blocks.{rankAt, part, product, shapeAt, elementsAt}
 use Rattle.segment.specs.Cells.{value, invalid}
+use Rattle.segment.proofs.Runs.{part-length}
+use Rattle.effects.specs.Sources.{operandAt}
 use Rattle.effects.specs.Seen.{whole, readKind, read}
 use Rattle.manual.specs.Scalars.{valueOf}
 use Rattle.manual.specs.Loads as loads
+use Rattle.operands.specs.declared.reading.Value.{Value}
 use Rattle.operands.specs.declared.reading.Value.the-variants as values
 use Rattle.operands.specs.declared.reading.Operand.the-variants as operands
-use Rattle.operands.specs.Operands.{operandOfKind, operandOf, isUndefinedKind, isUndefinedWord, valueSeen}
+use Rattle.operands.specs.Operands.{operandOfKind, operandOf, isUndefinedKind, isUndefinedWord, held, Stands, valueSeen}
+use Rattle.operands.proofs.Whole.{Whole, whole-facts}
 
 module _ (s : List ℕ) (w : ℕ) where
   value-of-kind : (k : Kind) → valueOf (readKind s w k) ≡ valueSeen s (operandOfKind s w k)
@@ -61,3 +67,33 @@ module _ (s : List ℕ) (w : ℕ) where
   pub array-whole : (block : SegmentAddress) → operandOf s w ≡ operands.Value (values.Array block) → whole s (block .0) ≡ true
   unfolding operandOf
   array-whole block e = array-of-kind (kindOf w) block e
+
+  scalar-of-kind : (k : Kind) (x : ℕ) → operandOfKind s w k ≡ operands.Value (values.Scalar x) → w ≡ x
+  scalar-of-kind (K.Scalar k) x e = cc
+  scalar-of-kind (K.Array a) x e = by-whole (whole s (a .0)) e
+    where
+      by-whole : (b : Bool) → cond b (operands.Value (values.Array a)) operands.Other ≡ operands.Value (values.Scalar x) → w ≡ x
+      by-whole true e = cc
+      by-whole false e = cc
+  scalar-of-kind (K.Indirect t) x e = cc
+  scalar-of-kind K.Undefined x e = cc
+  scalar-of-kind K.Invalid x e = cc
+
+  pub scalar-word : (x : ℕ) → operandOf s w ≡ operands.Value (values.Scalar x) → w ≡ x
+  unfolding operandOf
+  scalar-word x e = scalar-of-kind (kindOf w) x e
+
+-- ---- where an operand's elements stand
+
+module _ (s : List ℕ) (i : ℕ) (v : Value) (stands : Stands s i v) where
+  pub stands-whole : (block : SegmentAddress) → v ≡ values.Array block → Whole s (block .0)
+  stands-whole block same = whole-facts s (block .0) (array-whole s (operandAt s i) block (stands ∙ ap operands.Value same))
+
+  pub cell-part : (start x : ℕ) → v ≡ values.Scalar x → start ≡ sbase s + ltop s - i → part s start 1 ≡ held s v .ravel
+  cell-part start x same here = rw (here, scalar-word s (operandAt s i) x (stands ∙ ap operands.Value same), same)
+
+  pub block-part : (start count : ℕ) (block : SegmentAddress) → v ≡ values.Array block → start ≡ block .0 + 2 + rankAt s (block .0)
+      → count ≡ length (elementsAt s (block .0)) → part s start count ≡ held s v .ravel
+  unfolding elementsAt
+  block-part start count block same here all =
+      rw (same, here, all, part-length s (block .0 + 2 + rankAt s (block .0)) (product (shapeAt s (block .0))))

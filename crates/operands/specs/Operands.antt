@@ -1,12 +1,14 @@
 -- An operand by its word: a scalar, the array of a block, or no value. proofs/ValuesSeen has the laws that this is the manual's
 -- reading of the cell. Assumes nothing.
 use Prim.Native.Nat.{ℕ}
+use mathlib.Core.Path.{_≡_}
 use mathlib.Core.Bool.{Bool, true, false, cond}
 use mathlib.Core.List.{List, [], _∷_}
 use Rattle.descriptor.specs.declared.Kind.{Kind}
 use Rattle.descriptor.specs.declared.Kind.the-variants as K
 use Rattle.descriptor.specs.Kinds.{kindOf}
 use Rattle.segment.specs.Blocks.{shapeAt, elementsAt}
+use Rattle.effects.specs.Sources.{operandAt}
 use Rattle.effects.specs.Seen.{whole}
 use Rattle.manual.specs.OrTrap.{OrTrap, gives, trap}
 use Rattle.manual.specs.Values as values
@@ -39,6 +41,10 @@ isUndefinedWord w = isUndefinedKind (kindOf w)
 abbrev pub held : List ℕ → Value → values.Value
 held s (Scalar w) = values.value [] (w ∷ [])
 held s (Array a) = values.value (shapeAt s (a .0)) (elementsAt s (a .0))
+
+-- It is the value of the i-th operand from the top, from 0.
+abbrev pub Stands : List ℕ → ℕ → Value → Type 0
+Stands s i v = operandOf s (operandAt s i) ≡ O.Value v
 
 abbrev pub valueSeen : List ℕ → Operand → OrTrap values.Value
 valueSeen s (O.Value v) = gives (held s v)

@@ -1,17 +1,19 @@
 // The operands of an instruction: the temporaries of the current frame, counted from the top.
 ghost use mathlib.Core.Path.{_≡_};
 ghost use mathlib.Core.Bool.{true, cond};
-ghost use Prim.Native.Nat.{_+_, _-_};
+ghost use Prim.Native.Nat.{_+_, _-_, _≤_};
 ghost use lib.ListN.{length};
 ghost use Rattle.segment.specs.State as fields;
 ghost use Rattle.segment.specs.Blocks as layout;
+ghost use Rattle.segment.specs.Parts.{partOf};
 ghost use Rattle.effects.specs.Sources.{operandAt};
 ghost use Rattle.effects.specs.Seen.{temporaries, whole};
-ghost use Rattle.operands.specs.Operands.{operandOf, isUndefinedWord};
+ghost use Rattle.operands.specs.Operands.{operandOf, held, Stands, isUndefinedWord};
 use descriptor::Descriptor;
 use descriptor::Kind;
 use descriptor::address::SegmentAddress;
 use elements::shapes::product;
+use segment::blocks::Part;
 use segment::blocks::elements;
 use segment::blocks::rank;
 use segment::blocks::shape;
@@ -20,6 +22,7 @@ use segment::minus;
 use segment::state::lbase;
 use segment::state::ltop;
 use segment::state::sbase;
+use segment::state::top_cell;
 use segment::word;
 
 pub enum Value {
@@ -114,6 +117,26 @@ pub fn elements_of(seg: &[u32], block: SegmentAddress) -> &[u32]
     ensures { λ r. ⌜ now r ≡ layout.elementsAt (now (seg .entry)) (block .0) ⌝ }
 {
     elements(seg, block)
+}
+
+// Where the elements of the i-th operand stand in the segment: a scalar is its own cell, an array's lie in its block.
+pub fn elements_part(seg: &[u32], i: u32, v: Value) -> Part
+    requires { ⌜ Stands (now seg) i v × (length (now seg) ≤ 16384) ⌝ }
+    ensures { λ r. ⌜ partOf (now (seg .entry)) r ≡ held (now (seg .entry)) v .ravel ⌝ }
+{
+    match v {
+        Value::Scalar(_) => Part {
+            start: SegmentAddress::of(minus(top_cell(seg).number(), i)),
+            count: 1,
+        },
+        Value::Array(block) => {
+            let rank = rank(seg, block);
+            Part {
+                start: SegmentAddress::of(block.number() + 2 + rank as u32),
+                count: elements_of(seg, block).len(),
+            }
+        }
+    }
 }
 
 pub fn is_undefined(w: u32) -> bool

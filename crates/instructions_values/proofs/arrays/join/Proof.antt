@@ -1,69 +1,55 @@
-use Prim.Native.Nat.{ℕ}
-use native.Mathlib.Omega.{arith}
-use mathlib.Core.List.{List, _++_}
 use mathlib.Core.Path.{sym, ap, _∙_}
-use lib.ListN.{length-append}
-use Rattle.manual.specs.OrTrap.{OrTrap, gives}
+use Rattle.manual.specs.OrTrap.{OrTrap}
 use Rattle.manual.specs.Scalars as plan
 use Rattle.manual.specs.Values as values
-use Rattle.operands.specs.Operands.{held}
+use Rattle.effects.specs.Sources.{operandAt}
 use Rattle.effects.specs.Carried.{carry}
-use Rattle.instructions_values.proofs.Fronts.{front-count, front-few, front-at, front-more, fronts-joined}
-use Rattle.instructions_values.proofs.Vectors.{size-few, vector-long, catenate-joined}
+use Rattle.operands.specs.Operands.{held}
+use Rattle.instructions_values.proofs.Taking.{readable-found, refused-by}
+use Rattle.instructions_values.proofs.Vectors.{catenate-refused, catenate-joined}
 use borrow.Author.Needs.{needs}
 use Rattle.instructions_values.proofs.arrays.join.Statement.{statement}
 use Rattle.instructions_values.proofs.arrays.join.Tie as tie
 
-size-of-requires : tie.Need-size-of-requires
-size-of-requires c κs = search needs
+shape-of-requires : tie.Need-shape-of-requires
+shape-of-requires c κs = readable-found (c .before .before .before .args .seg .now) (operandAt (c .before .before .before .args .seg .now) 0) (c .before .before .before .args .a) (c .before .before .before .pre .0 .first)
 
-size-of-requires-2 : tie.Need-size-of-requires-2
-size-of-requires-2 c κs = search needs
+shape-of-requires-2 : tie.Need-shape-of-requires-2
+shape-of-requires-2 c κs = readable-found (c .before .before .before .before .args .seg .now) (operandAt (c .before .before .before .before .args .seg .now) 1) (c .before .before .before .before .args .b) (c .before .before .before .before .pre .0 .second)
 
-add-if1 : tie.Need-add-if1
-add-if1 c = omega (arith, size-few (c .before .before .before .before .before .before .args .seg .now) (c .before .before .before .before .before .before .pre .0 .2) (c .before .before .before .before .before .before .args .a) (c .before .before .before .before .before .before .pre .0 .0), size-few (c .before .before .before .before .before .before .args .seg .now) (c .before .before .before .before .before .before .pre .0 .2) (c .before .before .before .before .before .before .args .b) (c .before .before .before .before .before .before .pre .0 .1))
+joined-requires : tie.Need-joined-requires
+joined-requires c κs = search needs
+
+enum-known-class : tie.Need-enum-known-class
+enum-known-class c = search needs
+
+enum-known-n : tie.Need-enum-known-n
+enum-known-n c = search needs
+
+slice-aggregate-join-as : tie.Need-slice-aggregate-join-as
+slice-aggregate-join-as c = search needs
+
+join-as-requires : tie.Need-join-as-requires
+join-as-requires c κs = search needs
+
+enum-known-rows : tie.Need-enum-known-rows
+enum-known-rows c = search needs
+
+slice-aggregate-join-as-2 : tie.Need-slice-aggregate-join-as-2
+slice-aggregate-join-as-2 c = search needs
+
+join-as-requires-2 : tie.Need-join-as-requires-2
+join-as-requires-2 c κs = search needs
 
 same-length : tie.Need-same-length
 same-length c = search needs
 
 returns : tie.Need-returns
 returns c =
-    let a = c .before .before .before .before .before .before .before .args in
-    rw (catenate-joined (held (a .seg .now) (a .a)) (held (a .seg .now) (a .b)) (c .before .before .before .before .before .before .before .pre .1 .0) (c .before .before .before .before .before .before .before .pre .1 .1) (omega (arith, size-few (c .before .before .before .before .before .before .before .args .seg .now) (c .before .before .before .before .before .before .before .pre .0 .2) (c .before .before .before .before .before .before .before .args .a) (c .before .before .before .before .before .before .before .pre .0 .0), size-few (c .before .before .before .before .before .before .before .args .seg .now) (c .before .before .before .before .before .before .before .pre .0 .2) (c .before .before .before .before .before .before .before .args .b) (c .before .before .before .before .before .before .before .pre .0 .1)))) (vector-long (a .seg .now) 2 (held (a .seg .now) (a .a) .ravel ++ held (a .seg .now) (a .b) .ravel) (a .next .0) (simp length-append (omega arith)))
-
-copy-ravel-requires : tie.Need-copy-ravel-requires
-copy-ravel-requires c κs = search needs
-
-mul-copy-ravel : tie.Need-mul-copy-ravel
-mul-copy-ravel c = search needs
-
-sub-copy-ravel : tie.Need-sub-copy-ravel
-sub-copy-ravel c = search needs
-
-part-copy-ravel-start : tie.Need-part-copy-ravel-start
-part-copy-ravel-start c = search needs
-
-part-copy-ravel-end : tie.Need-part-copy-ravel-end
-part-copy-ravel-end c = search needs
-
-copy-ravel-requires-2 : tie.Need-copy-ravel-requires-2
-copy-ravel-requires-2 c κs = search needs
-
-add-replace-by-vector : tie.Need-add-replace-by-vector
-add-replace-by-vector c = search needs
-
-slice-reshare-prefix-replace-by-vector : tie.Need-slice-reshare-prefix-replace-by-vector
-slice-reshare-prefix-replace-by-vector c = search needs
-
-slice-aggregate-replace-by-vector : tie.Need-slice-aggregate-replace-by-vector
-slice-aggregate-replace-by-vector c =
-    let both = fronts-joined _ _ _ _ _ _ (front-at _ _ _ (c .before .before .before .before .before .before .before .before .before .copy-ravel .ensures) _ (c .before .before .before .before .before .before .before .before .before .before .before .before .before .before .before .size-of .ensures)) (front-more _ _ _ (front-at _ _ _ (c .before .before .before .before .copy-ravel2 .ensures) _ (c .before .before .before .before .before .before .before .before .before .before .before .before .before .size-of2 .ensures)) _) in
-    front-count _ _ _ both
-
-replace-by-vector-requires : tie.Need-replace-by-vector-requires
-replace-by-vector-requires c κs =
-    let both = fronts-joined _ _ _ _ _ _ (front-at _ _ _ (c .before .before .before .before .before .before .before .before .before .copy-ravel .ensures) _ (c .before .before .before .before .before .before .before .before .before .before .before .before .before .before .before .size-of .ensures)) (front-more _ _ _ (front-at _ _ _ (c .before .before .before .before .copy-ravel2 .ensures) _ (c .before .before .before .before .before .before .before .before .before .before .before .before .before .size-of2 .ensures)) _) in
-    (omega arith, front-few _ _ _ both 16384 (simp length-append (omega arith)))
+    let a = c .before .before .before .before .before .before .before .before .before .args in
+    let shape = rw (c .before .before .before .before .before .shape-of .ensures, c .before .before .before .before .shape-of2 .ensures) at (c .before .before .before .joined .ensures) in
+    let refused = catenate-refused (held (a .seg .now) (a .a)) (held (a .seg .now) (a .b)) _ _ (rw (c .before .class .given .1) at shape) in
+    ap (carry (a .seg .now)) (sym (refused-by (a .next .0) 2 refused))
 
 same-length-2 : tie.Need-same-length-2
 same-length-2 c = search needs
@@ -73,29 +59,43 @@ same-length-3 c = search needs
 
 returns-2 : tie.Need-returns-2
 returns-2 c =
-    let a = c .before .before .before .before .before .before .before .before .before .before .before .before .before .before .before .before .before .before .before .before .before .before .args in
-    let both = fronts-joined _ _ _ _ _ _ (front-at _ _ _ (c .before .before .before .before .before .before .before .before .before .before .before .before .copy-ravel .ensures) _ (c .before .before .before .before .before .before .before .before .before .before .before .before .before .before .before .before .before .before .size-of .ensures)) (front-more _ _ _ (front-at _ _ _ (c .before .before .before .before .before .before .before .copy-ravel2 .ensures) _ (c .before .before .before .before .before .before .before .before .before .before .before .before .before .before .before .before .size-of2 .ensures)) _) in
-    (c .before .before .replace-by-vector .ensures) ∙ ap (λ (words : List ℕ). carry (a .seg .now) (plan.replaceBy (a .next .0) 2 (gives (values.vector words)))) (both .first) ∙ ap (λ (r : OrTrap values.Value). carry (a .seg .now) (plan.replaceBy (a .next .0) 2 r)) (sym (catenate-joined (held (a .seg .now) (a .a)) (held (a .seg .now) (a .b)) (c .before .before .before .before .before .before .before .before .before .before .before .before .before .before .before .before .before .before .before .before .before .before .pre .1 .0) (c .before .before .before .before .before .before .before .before .before .before .before .before .before .before .before .before .before .before .before .before .before .before .pre .1 .1) (omega (arith, size-few (c .before .before .before .before .before .before .before .before .before .before .before .before .before .before .before .before .before .before .before .before .before .before .args .seg .now) (c .before .before .before .before .before .before .before .before .before .before .before .before .before .before .before .before .before .before .before .before .before .before .pre .0 .2) (c .before .before .before .before .before .before .before .before .before .before .before .before .before .before .before .before .before .before .before .before .before .before .args .a) (c .before .before .before .before .before .before .before .before .before .before .before .before .before .before .before .before .before .before .before .before .before .before .pre .0 .0), size-few (c .before .before .before .before .before .before .before .before .before .before .before .before .before .before .before .before .before .before .before .before .before .before .args .seg .now) (c .before .before .before .before .before .before .before .before .before .before .before .before .before .before .before .before .before .before .before .before .before .before .pre .0 .2) (c .before .before .before .before .before .before .before .before .before .before .before .before .before .before .before .before .before .before .before .before .before .before .args .b) (c .before .before .before .before .before .before .before .before .before .before .before .before .before .before .before .before .before .before .before .before .before .before .pre .0 .1)))))
+    let a = c .before .before .before .before .before .before .before .before .before .before .before .before .before .before .before .before .before .args in
+    let shape = rw (c .before .before .before .before .before .before .before .before .before .before .before .before .before .shape-of .ensures, c .before .before .before .before .before .before .before .before .before .before .before .before .shape-of2 .ensures) at (c .before .before .before .before .before .before .before .before .before .before .before .joined .ensures) in
+    let made = catenate-joined (held (a .seg .now) (a .a)) (held (a .seg .now) (a .b)) _ (rw (c .before .before .before .before .before .before .before .before .before .n .given .1) at shape) in
+    c .before .before .before .before .join-as .ensures ∙ ap (λ (r : OrTrap values.Value). carry (a .seg .now) (plan.replaceBy (a .next .0) 2 r)) made
+
+same-length-4 : tie.Need-same-length-4
+same-length-4 c = search needs
+
+same-length-5 : tie.Need-same-length-5
+same-length-5 c = search needs
+
+returns-3 : tie.Need-returns-3
+returns-3 c =
+    let a = c .before .before .before .before .before .before .before .before .before .before .before .before .before .before .before .before .before .args in
+    let shape = rw (c .before .before .before .before .before .before .before .before .before .before .before .before .before .shape-of .ensures, c .before .before .before .before .before .before .before .before .before .before .before .before .shape-of2 .ensures) at (c .before .before .before .before .before .before .before .before .before .before .before .joined .ensures) in
+    let made = catenate-joined (held (a .seg .now) (a .a)) (held (a .seg .now) (a .b)) _ (rw (c .before .before .before .before .before .before .before .before .before .rows .given .1) at shape) in
+    c .before .before .before .before .join-as2 .ensures ∙ ap (λ (r : OrTrap values.Value). carry (a .seg .now) (plan.replaceBy (a .next .0) 2 r)) made
 
 pub join-spec : {M : Type 1} → statement M
 join-spec =
     tie.close
     (tie.spec
-    size-of-requires
-    size-of-requires-2
-    add-if1
+    shape-of-requires
+    shape-of-requires-2
+    joined-requires
+    enum-known-class
+    enum-known-n
+    slice-aggregate-join-as
+    join-as-requires
+    enum-known-rows
+    slice-aggregate-join-as-2
+    join-as-requires-2
     same-length
     returns
-    copy-ravel-requires
-    mul-copy-ravel
-    sub-copy-ravel
-    part-copy-ravel-start
-    part-copy-ravel-end
-    copy-ravel-requires-2
-    add-replace-by-vector
-    slice-reshare-prefix-replace-by-vector
-    slice-aggregate-replace-by-vector
-    replace-by-vector-requires
     same-length-2
     same-length-3
-    returns-2)
+    returns-2
+    same-length-4
+    same-length-5
+    returns-3)
