@@ -19,7 +19,8 @@ V G K L .. E ..    load global G with an array of rank K, its lengths and its el
 K G                look at global G
 w I I ..           no call: words of the data segment
 An answer is the status; of a run the steps and the trap, of a look the scalar, or lengths | elements. A hash of the lent data
-words ends it, so that a wrong word shows. In listings of code G8 loads global 8 and L-1 local -1."""
+words ends it, so that a wrong word shows. In listings of code 5 is a SHORTCONST, word 5 a CONSTANT_SCALAR; G8 loads global 8 and
+L-1 local -1; to G8 is an ASSIGN_NORESULT."""
 
 lines = []       # of stdin
 expected = []    # for each line of stdout the line that it answers and the answer, or None where none is written here
@@ -73,7 +74,7 @@ def half(name, first, number):
 
 
 def const(n):
-    return half(f"SHORTCONST {n}", 0x40, abs(n) | (n < 0) << 12)
+    return half(str(n), 0x40, abs(n) | (n < 0) << 12)
 
 
 def L(v):
@@ -102,7 +103,7 @@ def assign(variable):
 
 
 def store(variable):
-    return memref("ASSIGN_NORESULT", 17, variable)
+    return memref("to", 17, variable)
 
 
 def refer(variable):
@@ -119,13 +120,13 @@ SUM DIFFERENCE PRODUCT QUOTIENT LOGICAL_PRODUCT LOGICAL_SUM LESS EQUAL""".split(
  SUM, DIFFERENCE, PRODUCT, QUOTIENT, AND, OR, LESS, EQUAL) = (operator(name, k) for k, name in enumerate(SCALARS))
 UNDEFINED, EAT1, INTERCHANGE, SETORIGIN, GETORIGIN, SHAPE, RESHAPE, RAVEL, CATENATE, INDEXGEN = (
     op(name, 0xA0 + k) for k, name in enumerate(
-        "UNDEFINED EAT1 INTERCHANGE SETORIGIN GETORIGIN SHAPE RESHAPE RAVEL CATENATE INDEX_GENERATOR".split()))
+        "UNDEFINED EAT1 INTERCHANGE SETORIGIN GETORIGIN SHAPE RESHAPE RAVEL CATENATE INDEXGEN".split()))
 BRANCH, RETURN = op("BRANCH", 0xAC), op("RETURN", 0xB0)
 NO_OPERATION, BREAKPOINT, ATTENTION = op("NO_OPERATION", 0xB2), op("BREAKPOINT", 0xB3), op("ATTENTION", 0xB4)
 
 
 def lit(word):
-    return op(f"CONSTANT_SCALAR {word:08x}", 0xAA, *word.to_bytes(4, "big"))
+    return op(f"word {word:x}", 0xAA, *word.to_bytes(4, "big"))
 
 
 def vector(*words):
@@ -621,12 +622,13 @@ trial("(5,0): INDEX of a scalar", const(0), const(5), index(1), trap="(5,0)")
 trial("(5,0): INDEX by a list", G(8), G(8), index(1), trap="(5,0)", loads=[three])
 trial("(5,0): INDEX by undefined", UNDEFINED, G(8), index(1), trap="(5,0)", loads=[three])
 trial("(5,0): ASSIGN_INDEXED of a list", G(8), const(0), put(1, G(8)), trap="(5,0)", loads=[three])
-trial("(5,0): CATENATE of a table", G(8), G(9), CATENATE, trap="(5,0)", loads=[three, square])
+trial("(5,0): CATENATE of a table and a scalar", const(5), G(9), CATENATE, trap="(5,0)", loads=[square])
 trial("(5,0): RESHAPE by a table", G(8), G(9), RESHAPE, trap="(5,0)", loads=[three, square])
 trial("(5,0): RESHAPE by 16 lengths", const(5), G(8), RESHAPE, trap="(5,0)", loads=[(8, [16], [1] * 16)])
 trial("(5,0): BRANCH by a table", G(9), BRANCH, trap="(5,0)", loads=[square])
 trial("(6,0): lists of 3 and 2", G(8), G(9), SUM, trap="(6,0)", loads=[three, (9, [2], [1, 2])])
 trial("(6,0): tables of 2 by 2 and 1 by 2", G(8), G(9), SUM, trap="(6,0)", loads=[(8, [1, 2], [1, 2]), square])
+trial("(6,0): CATENATE of a table of width 2 and a list of 3", G(8), G(9), CATENATE, trap="(6,0)", loads=[three, square])
 trial("(6,0): SETORIGIN of two", G(8), SETORIGIN, trap="(6,0)", loads=[(8, [2], [1, 1])])
 trial("(6,0): INDEXGEN of none", G(8), INDEXGEN, trap="(6,0)", loads=[(8, [0], [])])
 trial("(6,0): GO_TRUE of three", G(8), go_true(8), trap="(6,0)", loads=[three])
@@ -802,7 +804,7 @@ look(9, listed(1, 2, 3, 4))
 look(10, listed(5))
 trial("CATENATE: the top first", const(5), G(8), CATENATE, store(G(9)), loads=[(8, [2], [1, c("A")])])
 look(9, listed(1, c("A"), 5))
-trial("INDEX_GENERATOR, SETORIGIN, GETORIGIN", const(3), INDEXGEN, store(G(8)), const(1), SETORIGIN, store(G(9)), GETORIGIN, store(G(10)),
+trial("INDEXGEN, SETORIGIN, GETORIGIN", const(3), INDEXGEN, store(G(8)), const(1), SETORIGIN, store(G(9)), GETORIGIN, store(G(10)),
       lit(f(3.0)), INDEXGEN, store(G(11)))
 look(8, listed(0, 1, 2))
 look(9, scalar(0))
@@ -873,6 +875,92 @@ load(9, [4, 3], range(12))
 look(9, array([4, 3], range(12)))
 trial("a list of 65,535 is (1,2) however long a segment is", lit(65535), INDEXGEN, trap="(1,2)", globals_=8, storage=16000)
 lend(words=64)
+
+
+# ---- joins
+
+remark("JOINS, by paper 6 of document 02: G8, which is on top, then G9")
+regular(Function(G(9), G(8), CATENATE, store(G(10))))
+
+
+def join(first, second, answer, storage=40):
+    """Two values, each its lengths and its elements, and the lengths of what they make, or a trap."""
+    lay_out(0, 1, 4, storage)
+    for g, (lengths, elements) in ((8, first), (9, second)):
+        load(g, lengths, elements)
+    # "the first operand's ravel and then the second's"
+    joined_by(answer, first[1] + second[1])
+
+
+def joined_by(answer, elements):
+    """Both operands are pushed, then joined: the lengths and elements of the result, or a trap that changes no word but word 3."""
+    run(2, "2 after 2")
+    if type(answer) is str:
+        before = len(expected) - 1
+        run(1, f"3 after 0 {answer}")
+        run(0, "2 after 0")
+        alike.append((before, len(expected) - 1))
+    else:
+        run(2, "2 after 2")
+        look(10, array(answer, elements))
+
+
+def sized(*lengths, first=1):
+    """A value with these lengths, its elements the numbers from `first` on."""
+    return list(lengths), list(range(first, first + math.prod(lengths)))
+
+
+remark("ranks 0 to 3 beside ranks 0 to 3")
+BY_RANK = (([2], [3], "(5,0)", "(5,0)"),
+           ([3], [4], [3, 2], "(5,0)"),
+           ("(5,0)", [3, 2], [4, 2], "(5,0)"),
+           ("(5,0)", "(5,0)", "(5,0)", "(5,0)"))
+shapes = ((), (2,), (2, 2), (2, 1, 1))
+for k, answers in enumerate(BY_RANK):
+    for m, answer in enumerate(answers):
+        join(sized(*shapes[k]), sized(*shapes[m], first=5), answer)
+remark("elements of all kinds; rows of one element; tables of no rows; tables of no columns, where an empty list is a row")
+mixed = [1, f(0.5), c("x"), i(-4), 0, 6]
+join(([2, 3], mixed), ([1, 3], [c("y"), i(-8), f(-1.5)]), [3, 3])
+join(([3], [c("y"), i(-8), f(-1.5)]), ([2, 3], mixed), [3, 3])
+for first, second, answer in (((1,), (2, 1), [3, 1]), ((2, 1), (1,), [3, 1]), ((0, 3), (2, 3), [2, 3]), ((2, 3), (0, 3), [2, 3]),
+                              ((0, 3), (0, 3), [0, 3]), ((3,), (0, 3), [1, 3]), ((0, 3), (3,), [1, 3]), ((2, 0), (3, 0), [5, 0]),
+                              ((0,), (2, 0), [3, 0]), ((2, 0), (0,), [3, 0]), ((0,), (0, 0), [1, 0]), ((0, 0), (0, 0), [0, 0])):
+    join(sized(*first), sized(*second, first=7), answer)
+remark("(6,0): unequal widths, though the elements be as many or none; one element is not repeated; an empty list is no row of three")
+for first, second in (((2, 3), (3, 2)), ((0, 3), (0, 2)), ((1,), (2, 3)), ((2, 3), (1,)), ((1, 1), (2, 3)), ((0,), (2, 3)), ((2, 3), (2,))):
+    join(sized(*first), sized(*second), "(6,0)")
+remark("65,535 rows; one more is (6,0)")
+for first, second, answer in (((65534, 0), (1, 0), [65535, 0]), ((0,), (65534, 0), [65535, 0]), ((65535, 0), (0, 0), [65535, 0]),
+                              ((65535, 0), (1, 0), "(6,0)"), ((0,), (65535, 0), "(6,0)"), ((65535, 0), (65535, 0), "(6,0)")):
+    join(sized(*first), sized(*second), answer)
+remark("65,536 rows, lent so, are (6,0) beside no rows")
+lay_out(0, 1, 4, 40)
+load(8, [1, 0], [])
+words(47, 65536)
+load(9, [0, 0], [])
+joined_by("(6,0)", [])
+remark("(5,0) before (6,0): 65,535 pages and a row; both before (1,2), where no word is free; then (1,2): 15 are free for 16, and 16 are enough")
+join(sized(65535, 0, 0), sized(1, 0), "(5,0)")
+join(sized(2, 3), sized(), "(5,0)", storage=13)
+join(sized(2, 3), sized(2), "(6,0)", storage=18)
+join(sized(65535, 0), sized(1, 0), "(6,0)", storage=11)
+join(sized(2, 3), sized(2, 3), "(1,2)", storage=38)
+join(sized(2, 3), sized(2, 3, first=7), [4, 3], storage=39)
+remark("no elements still need 4 words")
+join(sized(2, 0), sized(1, 0), "(1,2)", storage=14)
+join(sized(2, 0), sized(1, 0), [3, 0], storage=15)
+trial("(3,5) before (5,0)", G(8), UNDEFINED, CATENATE, trap="(3,5)", loads=[(8, [1, 2, 2], [1, 2, 3, 4])])
+trial("a table joined with itself is a block of its own: a write into it leaves the one that another global holds", G(8), store(G(11)),
+      G(8), G(8), CATENATE, store(G(8)), const(9), const(0), const(0), put(2, G(8)), EAT1, storage=40, loads=[(8, [2, 2], [1, 2, 3, 4])])
+look(8, array([4, 2], [9, 2, 3, 4, 1, 2, 3, 4]))
+look(11, array([2, 2], [1, 2, 3, 4]))
+show((11, ARRAY + 41), (42, 0x00010002))
+trial("operands that no variable holds are let go: with the result all 37 words are free again", const(1), vector(2, 2), RESHAPE,
+      const(2), vector(1, 2), RESHAPE, CATENATE, store(G(8)), storage=40)
+look(8, array([3, 2], [2, 2, 1, 1, 1, 1]))
+load(8, [], [0])
+show((12, 0x80000025))
 
 
 # ---- tables of operators
