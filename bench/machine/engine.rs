@@ -1,5 +1,5 @@
 //! The proved engine, and the plain machine beside it on the same loop.
-use crate::arrays::{value, Array, Cell, Shape, Value};
+use crate::arrays::{value, Array, Cell, Value};
 use crate::loops::{Loop, FIRST};
 use crate::machine::{Machine, MANUAL};
 use std::rc::Rc;
@@ -29,15 +29,15 @@ impl<'a> Engine<'a> {
         let (data, [p, q]) = (&mut engine.data, engine.procedures);
         let done = unsafe { crms_lay_out(data.as_mut_ptr(), data.len(), p.as_ptr(), p.len(), q.as_ptr(), q.len(), 0, 1, l.globals as u32, l.array_words as u32) };
         assert_eq!(done, 0);
-        for (k, vector) in l.loaded.iter().enumerate() {
-            engine.load(FIRST as u32 + k as u32, vector);
+        for (k, array) in l.loaded.iter().enumerate() {
+            engine.load(FIRST as u32 + k as u32, array);
         }
         engine
     }
 
-    fn load(&mut self, global: u32, vector: &[u32]) {
-        let (data, [p, q], lengths) = (&mut self.data, self.procedures, [vector.len() as u32]);
-        let done = unsafe { crms_load(data.as_mut_ptr(), data.len(), p.as_ptr(), p.len(), q.as_ptr(), q.len(), global, lengths.as_ptr(), 1, vector.as_ptr(), vector.len()) };
+    fn load(&mut self, global: u32, array: &Array) {
+        let (data, [p, q], lengths, ravel) = (&mut self.data, self.procedures, array.shape.lengths(), &array.ravel);
+        let done = unsafe { crms_load(data.as_mut_ptr(), data.len(), p.as_ptr(), p.len(), q.as_ptr(), q.len(), global, lengths.as_ptr(), lengths.len(), ravel.as_ptr(), ravel.len()) };
         assert_eq!(done, 0);
     }
 
@@ -106,8 +106,7 @@ impl<'a> Engine<'a> {
 
 /// The plain machine at the start of the same loop.
 pub fn plain(l: &Loop) -> Machine<'_> {
-    let vector = |v: &Vec<u32>| Cell::Array(Rc::new(Array { shape: Shape::vector(v.len()), ravel: v.clone() }));
-    let mut globals: Vec<Cell> = l.loaded.iter().map(vector).collect();
+    let mut globals: Vec<Cell> = l.loaded.iter().map(|array| Cell::Array(Rc::new(array.clone()))).collect();
     globals.resize(l.globals, Cell::Undefined);
     let table = l.table.as_ref().unwrap_or(&MANUAL);
     Machine::new([&l.procedures, &NONE], table, globals, l.words - 8 - l.globals - l.array_words).expect("the bottom function and a table are there")

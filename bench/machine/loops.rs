@@ -1,4 +1,5 @@
 //! The code that is timed: endless loops, each with what its globals hold at the start.
+use crate::arrays::{Array, Shape};
 use crate::assemble::*;
 use crate::machine::MANUAL;
 use crate::random::Random;
@@ -14,20 +15,20 @@ pub struct Loop {
     pub procedures: Vec<u8>,
     /// The table of operators that is lent, where one is.
     pub table: Option<[u8; 16]>,
-    /// The vectors in the first globals.
-    pub loaded: Vec<Vec<u32>>,
+    /// The arrays in the first globals.
+    pub loaded: Vec<Array>,
     pub globals: usize,
     pub array_words: usize,
     pub words: usize,
 }
 
 /// The loop with most words for arrays.
-fn on_arrays(main: Code, loaded: Vec<Vec<u32>>) -> Loop {
+fn on_arrays(main: Code, loaded: Vec<Array>) -> Loop {
     on_arrays_of(WORDS, main, loaded)
 }
 
 /// The same in a segment of so many words.
-fn on_arrays_of(words: usize, main: Code, loaded: Vec<Vec<u32>>) -> Loop {
+fn on_arrays_of(words: usize, main: Code, loaded: Vec<Array>) -> Loop {
     let globals = loaded.len();
     Loop { procedures: segment(&[simple(0, main.jump(GO, START))]), table: None, loaded, globals, array_words: words - 8 - globals - 16, words }
 }
@@ -87,7 +88,7 @@ pub fn ackermann() -> Loop {
 
 /// An element of an array of ten, which no other cell holds: five instructions.
 pub fn indexed() -> Loop {
-    on_arrays(Code::default().constant(7).constant(4).to_element(FIRST).op(EAT1), vec![vec![5; 10]])
+    on_arrays(Code::default().constant(7).constant(4).to_element(FIRST).op(EAT1), vec![Array::vector(vec![5; 10])])
 }
 
 /// 400 times a new array of 1 to 60 elements, for one of 24 globals, in storage of 2,000 words: 1,201 instructions.
@@ -104,12 +105,21 @@ pub fn fragmenting() -> Loop {
 
 /// An operator on two vectors, its result dropped: five instructions.
 pub fn dyadic(operator: u8, vectors: [Vec<u32>; 2]) -> Loop {
-    on_arrays(Code::default().global(FIRST + 1).global(FIRST).op(operator).op(EAT1), vectors.into())
+    on_arrays(Code::default().global(FIRST + 1).global(FIRST).op(operator).op(EAT1), vectors.map(Array::vector).into())
 }
 
 /// One vector of n elements out of two, or out of one twice where n is even: five instructions.
 pub fn catenate(n: usize, random: &mut Random) -> Loop {
-    let mut half = |n: usize| (0..n).map(|_| random.integer()).collect();
+    joining(n, |n| Array::vector((0..n).map(|_| random.integer()).collect()))
+}
+
+/// The same of tables, n rows of ten in all.
+pub fn catenate_tables(n: usize, random: &mut Random) -> Loop {
+    joining(n, |n| Array { shape: Shape::matrix(n, 10), ravel: (0..10 * n).map(|_| random.integer()).collect() })
+}
+
+/// What `half` makes of half of n, joined with itself, or of both halves where n is odd.
+fn joining(n: usize, mut half: impl FnMut(usize) -> Array) -> Loop {
     let (loaded, second) = if n % 2 == 0 { (vec![half(n / 2)], FIRST) } else { (vec![half(n - n / 2), half(n / 2)], FIRST + 1) };
     on_arrays(Code::default().global(second).global(FIRST).op(CATENATE).op(EAT1), loaded)
 }
@@ -117,10 +127,10 @@ pub fn catenate(n: usize, random: &mut Random) -> Loop {
 /// n elements out of a hundred, or of n: five instructions.
 pub fn reshape(n: usize, random: &mut Random) -> Loop {
     let from = (0..n.min(100)).map(|_| random.integer()).collect();
-    on_arrays(Code::default().global(FIRST).constant_scalar(n as u32).op(RESHAPE).op(EAT1), vec![from])
+    on_arrays(Code::default().global(FIRST).constant_scalar(n as u32).op(RESHAPE).op(EAT1), vec![Array::vector(from)])
 }
 
 /// Vectors of ten elements that fill four fifths of so many words, to be loaded anew; nothing is run.
 pub fn imported(words: usize) -> Loop {
-    on_arrays_of(words, Code::default(), vec![vec![0; 10]; words / 16])
+    on_arrays_of(words, Code::default(), vec![Array::vector(vec![0; 10]); words / 16])
 }

@@ -112,6 +112,7 @@ pub fn elements(random: &mut Random) -> Vec<Row> {
     }
     let sizes = [1, 10, 100, 1_000, 10_000];
     rows.extend(sizes.map(|n| element("CATENATE", n, None, loops::catenate(n, random))));
+    rows.extend([10, 100, 1_000, 10_000].map(|n| element("CATENATE of tables", n, None, loops::catenate_tables(n / 10, random))));
     rows.extend(sizes.map(|n| element("RESHAPE", n, None, loops::reshape(n, random))));
     rows
 }

@@ -38,10 +38,16 @@ impl Shape {
         &self.lengths[..self.rank]
     }
 
-    pub fn vector(length: usize) -> Shape {
+    fn vector(length: usize) -> Shape {
         let mut lengths = [0; 15];
         lengths[0] = length as u32;
         Shape { rank: 1, lengths }
+    }
+
+    pub fn matrix(rows: usize, width: usize) -> Shape {
+        let mut lengths = [0; 15];
+        lengths[..2].copy_from_slice(&[rows as u32, width as u32]);
+        Shape { rank: 2, lengths }
     }
 }
 
@@ -49,6 +55,12 @@ impl Shape {
 pub struct Array {
     pub shape: Shape,
     pub ravel: Vec<u32>,
+}
+
+impl Array {
+    pub fn vector(ravel: Vec<u32>) -> Array {
+        Array { shape: Shape::vector(ravel.len()), ravel }
+    }
 }
 
 /// A scalar or an array, as an operand that is only looked at.
@@ -106,14 +118,38 @@ pub fn dyadic(op: u32, a: Value, b: Value) -> Result<Array, Trap> {
 }
 
 pub fn catenate(a: Value, b: Value) -> Result<Array, Trap> {
-    a.at_most_a_vector()?;
-    b.at_most_a_vector()?;
-    let ravel = [a.ravel, b.ravel].concat();
-    Ok(Array { shape: Shape::vector(ravel.len()), ravel })
+    let shape = joined(&a, &b)?;
+    Ok(Array { shape, ravel: [a.ravel, b.ravel].concat() })
+}
+
+/// The shape of a join: elements are counted where neither operand is above rank one, else rows of one width.
+fn joined(a: &Value, b: &Value) -> Result<Shape, Trap> {
+    if a.lengths.len() <= 1 && b.lengths.len() <= 1 {
+        return Ok(Shape::vector(length(a.ravel.len() + b.ravel.len())?));
+    }
+    match rows(a.lengths).zip(rows(b.lengths)) {
+        None => Err((5, 0)),
+        Some(((_, width), (_, other))) if width != other => Err((6, 0)),
+        Some(((m, width), (n, _))) => Ok(Shape::matrix(length(m + n)?, width)),
+    }
+}
+
+/// The rows and the width of a matrix, or of a vector, which counts as one row.
+fn rows(lengths: &[u32]) -> Option<(usize, usize)> {
+    match *lengths {
+        [width] => Some((1, width as usize)),
+        [rows, width] => Some((rows as usize, width as usize)),
+        _ => None,
+    }
+}
+
+/// The first length of a join.
+fn length(n: usize) -> Result<usize, Trap> {
+    if n < 1 << 16 { Ok(n) } else { Err((6, 0)) }
 }
 
 pub fn index_generator(origin: u32, n: u32) -> Array {
-    Array { shape: Shape::vector(n as usize), ravel: (origin..origin + n).collect() }
+    Array::vector((origin..origin + n).collect())
 }
 
 pub fn reshape(a: Value, b: Value) -> Result<Array, Trap> {
