@@ -208,14 +208,15 @@ const TRAPS: [(u8, u8, &str); 31] = [
         5,
         0,
         "Rank error. GENSCALAR: ranks differ and neither operand has one element. Subscripting: a scalar is subscripted, a \
-         subscript or the value assigned is an array, or INDEX has an undefined subscript. CATENATE, BRANCH, RESHAPE's first \
-         operand: rank above 1. RESHAPE: more than 15 lengths.",
+         subscript or the value assigned is an array, or INDEX has an undefined subscript. CATENATE: rank above 2, or a \
+         scalar beside a matrix. BRANCH, RESHAPE's first operand: rank above 1. RESHAPE: more than 15 lengths.",
     ),
     (
         6,
         0,
         "Length error. GENSCALAR: equal ranks, unequal shapes, neither operand with one element. SETORIGIN, INDEXGEN, GO_TRUE, \
-         GO_FALSE: not one element. CATENATE: 65,536 elements or more. RESHAPE: nothing to fill a shape that wants elements.",
+         GO_FALSE: not one element. CATENATE: unequal widths, a vector being one row beside a matrix, or over 65,535 rows \
+         together; without a matrix, 65,536 elements or more. RESHAPE: nothing to fill a shape that wants elements.",
     ),
     (7, 0, "A character where a number is wanted."),
     (
