@@ -41,7 +41,7 @@ pub record Readable (s : List ℕ) (v : Value) : Type 0 where
   pub array : (block : SegmentAddress) → v ≡ Array block → whole s (block .0) ≡ true
 
 -- The values of both of two operands.
-pub record Operands (s : List ℕ) (a b : Value) : Type 0 where
+pub record BothStand (s : List ℕ) (a b : Value) : Type 0 where
   pub first : Stands s 0 a
   pub second : Stands s 1 b
 
@@ -71,7 +71,7 @@ pub record FirstFound (s : List ℕ) (n : ℕ) (r : First) : Type 0 where
   pub stops : (class number : ℕ) → r ≡ F.Trap class number → (next : values.Value → Plan) → fromFirst (seen s) n next ≡ trap class number
 
 pub record BothFound (s : List ℕ) (r : Both) : Type 0 where
-  pub operands : (a b : Value) → r ≡ B.Values a b → Operands s a b
+  pub operands : (a b : Value) → r ≡ B.Values a b → BothStand s a b
   pub readable : (a b : Value) → r ≡ B.Values a b → Readable s a × Readable s b
   pub goes : (a b : Value) → r ≡ B.Values a b → (next : values.Value → values.Value → Plan) → fromBoth (seen s) next ≡ next (held s a) (held s b)
   pub stops : (class number : ℕ) → r ≡ B.Trap class number → (next : values.Value → values.Value → Plan) → fromBoth (seen s) next ≡ trap class number

@@ -9,7 +9,7 @@ ghost use Rattle.manual.specs.Values as values;
 ghost use Rattle.manual.specs.Scalars as plan;
 ghost use Rattle.operands.specs.Operands.{held};
 ghost use Rattle.effects.specs.Carried.{CarriesOut};
-ghost use Rattle.instructions_values.specs.Parts.{Readable, Operands, Carries, ReplacesBy, madeOf, originOf, shaped, filled};
+ghost use Rattle.instructions_values.specs.Parts.{Readable, BothStand, Carries, ReplacesBy, madeOf, originOf, shaped, filled};
 use super::operand_values::Both;
 use super::operand_values::First;
 use super::operand_values::both_values;
@@ -77,7 +77,7 @@ pub fn catenate(seg: &mut [u32], next: CodeAddress, scratch: &mut [u32]) -> Outc
 }
 
 fn join(seg: &mut [u32], a: Value, b: Value, next: CodeAddress, scratch: &mut [u32]) -> Outcome
-    requires { ⌜ Operands (now seg) a b × (length (now seg) ≤ 16384) × (length (now scratch) ≡ 16384) ⌝ }
+    requires { ⌜ BothStand (now seg) a b × (length (now seg) ≤ 16384) × (length (now scratch) ≡ 16384) ⌝ }
     ensures { λ r. ⌜ ReplacesBy (now (seg .entry)) r (now (seg .exit)) (next .0) 2 (λ s. values.catenate (held s a) (held s b)) ⌝ }
 {
     match joined(shape_of(seg, a), shape_of(seg, b)) {
@@ -102,7 +102,7 @@ fn join_as(
     next: CodeAddress,
     scratch: &mut [u32],
 ) -> Outcome
-    requires { ⌜ Operands (now seg) a b × (length (now seg) ≤ 16384) × (length (now scratch) ≡ 16384) ⌝ }
+    requires { ⌜ BothStand (now seg) a b × (length (now seg) ≤ 16384) × (length (now scratch) ≡ 16384) ⌝ }
     ensures { λ r. ⌜ Carries (now (seg .entry)) r (now (seg .exit)) (λ s. madeOf (next .0) 2 (now (lengths .entry)) (gives (held s a .ravel ++ held s b .ravel))) ⌝ }
 {
     let first = elements_part(seg, 0, a);
