@@ -114,6 +114,32 @@ straight-says s f first second holds =
     let b = both _ _ (a .1) in
     (leb-true _ _ (a .0), kept-says s f first (b .0), kept-says s f second (b .1))
 
+-- and what makes them hold
+touches-apart : (p : Part) (low high : ℕ) → (p .start .0 + p .count ≤ low) ⊎ (high < p .start .0) → touches p low high ≡ false
+unfolding touches
+touches-apart p low high (inl below) = simp (le-ltb _ _ below)
+touches-apart p low high (inr above) = whatever (ltb low (p .start .0 + p .count))
+  where
+    whatever : (goes-on : Bool) → (goes-on && leb (p .start .0) high) ≡ false
+    whatever true = lt-leb _ _ above
+    whatever false = refl
+
+kept-holds : (s : List ℕ) (f : ℕ) (p : Part) → Kept s f p → kept s f p ≡ true
+unfolding kept
+kept-holds s f p k =
+    simp (
+      le-leb _ _ (k .fits),
+      touches-apart p 0 1 (k .rover),
+      touches-apart p f (f + sizeAt s f) (k .block),
+      touches-apart p (nextAt s f + 1) (nextAt s f + 1) (k .next),
+      touches-apart p (lastAt s f + 1) (lastAt s f + 1) (k .last),
+    )
+
+pub straight-holds : (s : List ℕ) (f : ℕ) (first second : Part) → f + sizeAt s f ≤ length s → Kept s f first → Kept s f second
+    → straight s f first second ≡ true
+unfolding straight
+straight-holds s f first second fits a b = simp (le-leb _ _ fits, kept-holds s f first a, kept-holds s f second b)
+
 -- a word of a part lies where the part does
 beyond : {start end low high : ℕ} → (end ≤ low) ⊎ (high < start) → (i : ℕ) → start ≤ i → i < end → (i < low) ⊎ (high < i)
 beyond (inl below) i l u = inl (omega arith)
