@@ -20,7 +20,8 @@ use Rattle.manual.proofs.Elements.{no-lengths, length-cycle}
 use Rattle.elements.proofs.Filling.{length-upFrom}
 use Rattle.operands.specs.declared.reading.Value.{Value as Operand}
 use Rattle.operands.specs.declared.reading.Value.the-variants.{Scalar, Array}
-use Rattle.operands.specs.Operands.{held, Stands}
+use Rattle.operands.specs.Operands.{held, Stands, standing}
+use Rattle.operands.proofs.ValuesSeen.{standing-words}
 use Rattle.effects.specs.Sources.{operandAt}
 use Rattle.effects.specs.declared.Outcome.the-variants.{Trapped}
 use Rattle.effects.specs.Carried.{did, carry}
@@ -42,6 +43,9 @@ module _ (s : List ℕ) where
 
 -- ---- CATENATE
 
+pub part-words : (s : List ℕ) (i : ℕ) (v : Operand) → Stands s i v → (p : Part) → p ≡ standing s i v → partOf s p ≡ held s v .ravel
+part-words s i v stands p same = ap (partOf s) same ∙ standing-words s i v stands
+
 module _ (a b : Value) where
   pub catenate-refused : (class number : ℕ) → trap class number ≡ joinedShape (a .shape) (b .shape) → trap class number ≡ catenate a b
   unfolding catenate
@@ -51,10 +55,11 @@ module _ (a b : Value) where
   unfolding catenate
   catenate-joined lengths e = rw (← e)
 
--- an operand's elements are no more than the segment's words
-pub part-few : (s : List ℕ) → length s ≤ 16384 → (i : ℕ) (v : Operand) → Stands s i v → (p : Part) → partOf s p ≡ held s v .ravel → p .count ≤ 16384
+-- where an operand's elements stand there are no more words than the segment has
+pub part-few : (s : List ℕ) → length s ≤ 16384 → (i : ℕ) (v : Operand) → Stands s i v → (p : Part) → p ≡ standing s i v → p .count ≤ 16384
 part-few s short i v stands p same =
-    omega (arith, size-few s short v (readable-found s (operandAt s i) v stands), part-length s (p .start .0) (p .count), ap length same)
+    omega
+    (arith, size-few s short v (readable-found s (operandAt s i) v stands), part-length s (p .start .0) (p .count), ap length (part-words s i v stands p same))
 
 -- ---- INDEXGEN
 

@@ -1,15 +1,17 @@
 -- The operand by its word is what the manual reads of the cell, an array operand's block is whole, and where its elements stand.
 use Prim.Native.Nat.{ℕ, _+_, _-_}
-use mathlib.Core.Path.{_≡_, refl, ap, _∙_}
+use mathlib.Core.Path.{_≡_, refl, ap, ap₂, _∙_}
 use mathlib.Core.Bool.{Bool, true, false, cond}
 use mathlib.Core.List.{List}
 use lib.ListN.{length}
 use Rattle.descriptor.specs.declared.address.SegmentAddress.{SegmentAddress}
 use Rattle.descriptor.specs.declared.Kind.{Kind}
 use Rattle.descriptor.specs.declared.Kind.the-variants as K
-use Rattle.descriptor.specs.Kinds.{kindOf}
+use Rattle.descriptor.specs.Kinds.{segment, kindOf}
 use Rattle.segment.specs.State.{sbase, ltop}
-use Rattle.segment.specs.Blocks.{rankAt, part, product, shapeAt, elementsAt}
+use Rattle.segment.specs.Blocks.{rankAt, product, shapeAt, elementsAt}
+use Rattle.segment.specs.declared.blocks.Part.{Part}
+use Rattle.segment.specs.Parts.{partOf}
 use Rattle.segment.specs.Cells.{value, invalid}
 use Rattle.segment.proofs.Runs.{part-length}
 use Rattle.effects.specs.Sources.{operandAt}
@@ -19,7 +21,7 @@ use Rattle.manual.specs.Loads as loads
 use Rattle.operands.specs.declared.reading.Value.{Value}
 use Rattle.operands.specs.declared.reading.Value.the-variants as values
 use Rattle.operands.specs.declared.reading.Operand.the-variants as operands
-use Rattle.operands.specs.Operands.{operandOfKind, operandOf, isUndefinedKind, isUndefinedWord, held, Stands, valueSeen}
+use Rattle.operands.specs.Operands.{operandOfKind, operandOf, isUndefinedKind, isUndefinedWord, held, Stands, standing, valueSeen}
 use Rattle.operands.proofs.Whole.{Whole, whole-facts}
 
 module _ (s : List ℕ) (w : ℕ) where
@@ -85,15 +87,29 @@ module _ (s : List ℕ) (w : ℕ) where
 
 -- ---- where an operand's elements stand
 
+abbrev at : ℕ → ℕ → Part
+at start count = record { start = segment start; count = count }
+
 module _ (s : List ℕ) (i : ℕ) (v : Value) (stands : Stands s i v) where
   pub stands-whole : (block : SegmentAddress) → v ≡ values.Array block → Whole s (block .0)
   stands-whole block same = whole-facts s (block .0) (array-whole s (operandAt s i) block (stands ∙ ap operands.Value same))
 
-  pub cell-part : (start x : ℕ) → v ≡ values.Scalar x → start ≡ sbase s + ltop s - i → part s start 1 ≡ held s v .ravel
-  cell-part start x same here = rw (here, scalar-word s (operandAt s i) x (stands ∙ ap operands.Value same), same)
-
-  pub block-part : (start count : ℕ) (block : SegmentAddress) → v ≡ values.Array block → start ≡ block .0 + 2 + rankAt s (block .0)
-      → count ≡ length (elementsAt s (block .0)) → part s start count ≡ held s v .ravel
+  -- the words there are the value's
+  pub standing-words : partOf s (standing s i v) ≡ held s v .ravel
   unfolding elementsAt
-  block-part start count block same here all =
-      rw (same, here, all, part-length s (block .0 + 2 + rankAt s (block .0)) (product (shapeAt s (block .0))))
+  standing-words = by-kind v refl
+    where
+      by-kind : (u : Value) → v ≡ u → partOf s (standing s i u) ≡ held s u .ravel
+      by-kind (values.Scalar x) same = rw (scalar-word s (operandAt s i) x (stands ∙ ap operands.Value same))
+      by-kind (values.Array block) same = refl
+
+-- what the code finds there
+module _ (s : List ℕ) (i : ℕ) where
+  pub in-cell : (v : Value) (x : ℕ) (start : SegmentAddress) → v ≡ values.Scalar x → start .0 ≡ sbase s + ltop s - i → record { start = start; count = 1 } ≡ standing s i v
+  in-cell v x start same here = rw same (ap (λ (n : ℕ). at n 1) here)
+
+  pub in-block : (v : Value) (block start : SegmentAddress) (count : ℕ) → v ≡ values.Array block → start .0 ≡ block .0 + 2 + rankAt s (block .0)
+      → count ≡ length (elementsAt s (block .0)) → record { start = start; count = count } ≡ standing s i v
+  unfolding elementsAt
+  in-block v block start count same here all =
+      rw same (ap₂ at here (all ∙ part-length s (block .0 + 2 + rankAt s (block .0)) (product (shapeAt s (block .0)))))

@@ -1,13 +1,15 @@
 -- An operand by its word: a scalar, the array of a block, or no value. proofs/ValuesSeen has the laws that this is the manual's
 -- reading of the cell. Assumes nothing.
-use Prim.Native.Nat.{ℕ}
+use Prim.Native.Nat.{ℕ, _+_, _-_}
 use mathlib.Core.Path.{_≡_}
 use mathlib.Core.Bool.{Bool, true, false, cond}
 use mathlib.Core.List.{List, [], _∷_}
 use Rattle.descriptor.specs.declared.Kind.{Kind}
 use Rattle.descriptor.specs.declared.Kind.the-variants as K
-use Rattle.descriptor.specs.Kinds.{kindOf}
-use Rattle.segment.specs.Blocks.{shapeAt, elementsAt}
+use Rattle.descriptor.specs.Kinds.{segment, kindOf}
+use Rattle.segment.specs.State.{sbase, ltop}
+use Rattle.segment.specs.Blocks.{rankAt, product, shapeAt, elementsAt}
+use Rattle.segment.specs.declared.blocks.Part.{Part}
 use Rattle.effects.specs.Sources.{operandAt}
 use Rattle.effects.specs.Seen.{whole}
 use Rattle.manual.specs.OrTrap.{OrTrap, gives, trap}
@@ -45,6 +47,11 @@ held s (Array a) = values.value (shapeAt s (a .0)) (elementsAt s (a .0))
 -- It is the value of the i-th operand from the top, from 0.
 abbrev pub Stands : List ℕ → ℕ → Value → Type 0
 Stands s i v = operandOf s (operandAt s i) ≡ O.Value v
+
+-- Where its elements stand then: a scalar is its own cell, an array's lie in its block behind the lengths.
+abbrev pub standing : List ℕ → ℕ → Value → Part
+standing s i (Scalar w) = record { start = segment (sbase s + ltop s - i); count = 1 }
+standing s i (Array a) = record { start = segment (a .0 + 2 + rankAt s (a .0)); count = product (shapeAt s (a .0)) }
 
 abbrev pub valueSeen : List ℕ → Operand → OrTrap values.Value
 valueSeen s (O.Value v) = gives (held s v)

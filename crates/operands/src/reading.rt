@@ -5,10 +5,9 @@ ghost use Prim.Native.Nat.{_+_, _-_, _≤_};
 ghost use lib.ListN.{length};
 ghost use Rattle.segment.specs.State as fields;
 ghost use Rattle.segment.specs.Blocks as layout;
-ghost use Rattle.segment.specs.Parts.{partOf};
 ghost use Rattle.effects.specs.Sources.{operandAt};
 ghost use Rattle.effects.specs.Seen.{temporaries, whole};
-ghost use Rattle.operands.specs.Operands.{operandOf, held, Stands, isUndefinedWord};
+ghost use Rattle.operands.specs.Operands.{operandOf, Stands, standing, isUndefinedWord};
 use descriptor::Descriptor;
 use descriptor::Kind;
 use descriptor::address::SegmentAddress;
@@ -122,7 +121,7 @@ pub fn elements_of(seg: &[u32], block: SegmentAddress) -> &[u32]
 // Where the elements of the i-th operand stand in the segment: a scalar is its own cell, an array's lie in its block.
 pub fn elements_part(seg: &[u32], i: u32, v: Value) -> Part
     requires { ⌜ Stands (now seg) i v × (length (now seg) ≤ 16384) ⌝ }
-    ensures { λ r. ⌜ partOf (now (seg .entry)) r ≡ held (now (seg .entry)) v .ravel ⌝ }
+    ensures { λ r. ⌜ r ≡ standing (now (seg .entry)) i v ⌝ }
 {
     match v {
         Value::Scalar(_) => Part {

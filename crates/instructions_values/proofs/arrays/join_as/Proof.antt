@@ -4,7 +4,7 @@ use mathlib.Core.Path.{sym, _∙_}
 use Rattle.manual.specs.Effects.{made, replaces, jumps}
 use Rattle.effects_code.proofs.Carrying.{carry-refused, carry-served}
 use Rattle.operands.specs.Operands.{held}
-use Rattle.instructions_values.proofs.Vectors.{part-few}
+use Rattle.instructions_values.proofs.Vectors.{part-words, part-few}
 use borrow.Author.Needs.{needs}
 use Rattle.instructions_values.proofs.arrays.join_as.Statement.{statement}
 use Rattle.instructions_values.proofs.arrays.join_as.Tie as tie
@@ -36,9 +36,12 @@ same-length-2 c = search needs
 returns : tie.Need-returns
 returns c =
     let a = c .before .before .before .before .before .before .before .before .before .before .before .before .before .before .before .before .args in
+    let stand = c .before .before .before .before .before .before .before .before .before .before .before .before .before .before .before .before .pre .0 in
+    let first = part-words (a .seg .now) 0 (a .a) (stand .first) (c .before .before .before .before .before .before .before .before .before .before .before .elements-part .result) (c .before .before .before .before .before .before .before .before .before .before .before .elements-part .ensures) in
+    let second = part-words (a .seg .now) 1 (a .b) (stand .second) (c .before .before .before .before .before .before .before .before .before .elements-part2 .result) (c .before .before .before .before .before .before .before .before .before .elements-part2 .ensures) in
     let r = c .before .before .before .before .before .before .replace-by-joined .ensures in
-    rw (r .1, c .before .before .before .before .before .before .before .before .before .before .before .elements-part .ensures, c .before .before .before .before .before .before .before .before .before .elements-part2 .ensures)
-    (carry-refused (a .seg .now) (replaces 2 (made (a .lengths .now) (held (a .seg .now) (a .a) .ravel ++ held (a .seg .now) (a .b) .ravel))) (jumps (a .next .0) ∷ []) (rw (c .before .before .before .before .before .before .before .before .before .before .before .elements-part .ensures, c .before .before .before .before .before .before .before .before .before .elements-part2 .ensures) at (sym (c .enum-told .given .1) ∙ r .0)))
+    rw (r .1, first, second)
+    (carry-refused (a .seg .now) (replaces 2 (made (a .lengths .now) (held (a .seg .now) (a .a) .ravel ++ held (a .seg .now) (a .b) .ravel))) (jumps (a .next .0) ∷ []) (rw (first, second) at (sym (c .enum-told .given .1) ∙ r .0)))
 
 same-length-3 : tie.Need-same-length-3
 same-length-3 c = search needs
@@ -49,9 +52,12 @@ same-length-4 c = search needs
 returns-2 : tie.Need-returns-2
 returns-2 c =
     let a = c .before .before .before .before .before .before .before .before .before .before .before .before .before .before .before .before .before .before .before .before .args in
+    let stand = c .before .before .before .before .before .before .before .before .before .before .before .before .before .before .before .before .before .before .before .before .pre .0 in
+    let first = part-words (a .seg .now) 0 (a .a) (stand .first) (c .before .before .before .before .before .before .before .before .before .before .before .before .before .before .before .elements-part .result) (c .before .before .before .before .before .before .before .before .before .before .before .before .before .before .before .elements-part .ensures) in
+    let second = part-words (a .seg .now) 1 (a .b) (stand .second) (c .before .before .before .before .before .before .before .before .before .before .before .before .before .elements-part2 .result) (c .before .before .before .before .before .before .before .before .before .before .before .before .before .elements-part2 .ensures) in
     let r = c .before .before .before .before .before .before .before .before .before .before .replace-by-joined .ensures in
-    rw (c .before .before .jump .ensures, r .1, c .before .before .before .before .before .before .before .before .before .before .before .before .before .before .before .elements-part .ensures, c .before .before .before .before .before .before .before .before .before .before .before .before .before .elements-part2 .ensures)
-    (carry-served (a .seg .now) (replaces 2 (made (a .lengths .now) (held (a .seg .now) (a .a) .ravel ++ held (a .seg .now) (a .b) .ravel))) (jumps (a .next .0) ∷ []) (rw (c .before .before .before .before .before .before .before .before .before .before .before .before .before .before .before .elements-part .ensures, c .before .before .before .before .before .before .before .before .before .before .before .before .before .elements-part2 .ensures) at (sym (c .before .before .before .before .enum-told2 .given .1) ∙ r .0)))
+    rw (c .before .before .jump .ensures, r .1, first, second)
+    (carry-served (a .seg .now) (replaces 2 (made (a .lengths .now) (held (a .seg .now) (a .a) .ravel ++ held (a .seg .now) (a .b) .ravel))) (jumps (a .next .0) ∷ []) (rw (first, second) at (sym (c .before .before .before .before .enum-told2 .given .1) ∙ r .0)))
 
 pub join-as-spec : {M : Type 1} → statement M
 join-as-spec =

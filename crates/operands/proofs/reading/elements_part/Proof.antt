@@ -3,7 +3,7 @@ use native.Mathlib.Omega.{arith}
 use lib.ListN.{length}
 use Rattle.effects.specs.Sources.{operandAt}
 use Rattle.operands.specs.declared.reading.Operand.the-variants as operands
-use Rattle.operands.proofs.ValuesSeen.{array-whole, stands-whole, cell-part, block-part}
+use Rattle.operands.proofs.ValuesSeen.{array-whole, stands-whole, in-cell, in-block}
 use borrow.Author.Needs.{needs}
 use Rattle.operands.proofs.reading.elements_part.Statement.{statement}
 use Rattle.operands.proofs.reading.elements_part.Tie as tie
@@ -48,10 +48,10 @@ elements-of-requires : tie.Need-elements-of-requires
 elements-of-requires c κs = array-whole (c .before .before .before .before .before .before .before .args .seg .now) (operandAt (c .before .before .before .before .before .before .before .args .seg .now) (c .before .before .before .before .before .before .before .args .i)) (c .before .before .before .before .v .given .0 .0) (c .before .before .before .before .before .before .before .pre .0 ∙ ap operands.Value (c .before .before .before .before .v .given .1))
 
 returns : tie.Need-returns
-returns c = cell-part (c .before .before .before .before .before .before .before .args .seg .now) (c .before .before .before .before .before .before .before .args .i) (c .before .before .before .before .before .before .before .args .v) (c .before .before .before .before .before .before .before .pre .0) _ (c .before .before .before .before .enum-told .given .0 .0) (c .before .before .before .before .enum-told .given .1) (c .of .ensures ∙ c .before .minus .ensures ∙ rw (c .before .before .number .ensures, c .before .before .before .top-cell .ensures .0))
+returns c = in-cell (c .before .before .before .before .before .before .before .args .seg .now) (c .before .before .before .before .before .before .before .args .i) (c .before .before .before .before .before .before .before .args .v) (c .before .before .before .before .enum-told .given .0 .0) (c .of .result) (c .before .before .before .before .enum-told .given .1) (c .of .ensures ∙ c .before .minus .ensures ∙ rw (c .before .before .number .ensures, c .before .before .before .top-cell .ensures .0))
 
 returns-2 : tie.Need-returns-2
-returns-2 c = block-part (c .before .before .before .before .before .before .before .before .args .seg .now) (c .before .before .before .before .before .before .before .before .args .i) (c .before .before .before .before .before .before .before .before .args .v) (c .before .before .before .before .before .before .before .before .pre .0) _ _ (c .before .before .before .before .before .v .given .0 .0) (c .before .before .before .before .before .v .given .1) (c .before .of2 .ensures ∙ rw (c .before .before .number2 .ensures, c .before .before .before .rank .ensures)) (ap length (c .elements-of .ensures))
+returns-2 c = in-block (c .before .before .before .before .before .before .before .before .args .seg .now) (c .before .before .before .before .before .before .before .before .args .i) (c .before .before .before .before .before .before .before .before .args .v) (c .before .before .before .before .before .v .given .0 .0) (c .before .of2 .result) _ (c .before .before .before .before .before .v .given .1) (c .before .of2 .ensures ∙ rw (c .before .before .number2 .ensures, c .before .before .before .rank .ensures)) (ap length (c .elements-of .ensures))
 
 pub elements-part-spec : {M : Type 1} → statement M
 elements-part-spec =
