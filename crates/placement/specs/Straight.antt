@@ -1,7 +1,7 @@
 -- A join is copied straight. Decision 102: the code copies the elements of a join from where they stand if the request leaves their
--- words as they are (`straight`); "Where that fails, and it fails in no accepted segment, the words are gathered in the scratch".
--- The theorem says that it fails in no sound segment, and an accepted one is sound. A reader must believe: what a join copies of an
--- operand is its own cell, or the elements of the array that the cell points to. Proved in proofs/Straight. Assumes nothing.
+-- words as they are (`straight`), and else gathers them in the scratch. The theorem says that in a sound segment, which an accepted
+-- one is, the test passes. Which parts the code copies is `standing` of operands/specs/Operands.antt: an operand's own cell, or the
+-- elements of the array that the cell points to, which `scalars` and `arrays` say here. Proved in proofs/Straight. Assumes nothing.
 use Prim.Native.Nat.{ℕ, _+_, _-_, _^_, _≤_, _<_}
 use mathlib.Core.Path.{_≡_}
 use mathlib.Core.Bool.{true}
