@@ -1,5 +1,5 @@
--- CATENATE by document 02's request 6, sentence by sentence and for any shapes: what its definition comes to. Told by rows, which
--- the definition's tests do not speak of. Proved in proofs/Joins. Assumes nothing.
+-- CATENATE by document 02's request 6, sentence by sentence and for any shapes: what its definition comes to. A shape of rows is told by
+-- its form, and not by the definition's tests. Proved in proofs/Joins. Assumes nothing.
 use Prim.Native.Nat.{ℕ, _+_, _*_, _^_, _<_, _≤_}
 use mathlib.Core.Path.{_≡_}
 use mathlib.Core.Logic.{_≢_}
