@@ -13,7 +13,7 @@ use segment::word;
 
 // The words of a frame, last LBASE and the one with P, function number and PCTR, and how many arguments and variables its
 // function has.
-#[derive(Drop)]
+#[derive(Clone, Copy)]
 pub struct Frame {
     pub last: StackAddress,
     pub code: u32,

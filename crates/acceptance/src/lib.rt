@@ -1,4 +1,6 @@
 // Acceptance of a data segment: tests 10 to 18 of document 01's table, in its order.
+#![tactic(auto)]
+
 ghost use Rattle.std.specs.Prelude.{◌≡◌, true, ◌≤◌, length};
 ghost use Rattle.acceptance_storage.specs.Head.{head_test};
 ghost use Rattle.acceptance_storage.specs.Marks.{Clear};
@@ -20,7 +22,7 @@ use frames::frames_test;
 use procedure::refusal::Refusal;
 
 // The tests of the table, each by what it looks at.
-#[derive(Drop)]
+#[derive(Clone, Copy)]
 pub enum Test {
     Length,
     ProcedureLength,
@@ -34,7 +36,7 @@ pub enum Test {
 }
 
 // Refused by the first test that fails.
-#[derive(Drop)]
+#[derive(Clone, Copy)]
 pub enum Judgement {
     Accepted,
     Refused(Test),

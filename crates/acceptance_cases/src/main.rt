@@ -1,5 +1,7 @@
 // Judges the data segments of standard input, a case each, and writes the table's number for every one. The file stdout has
 // the answers of a model of the table (make_cases.py, which says what the lines of stdin mean).
+#![tactic(auto)]
+
 ghost use Rattle.std.specs.Prelude.{◌≡◌, ◌<◌, length};
 
 use acceptance::Judgement;

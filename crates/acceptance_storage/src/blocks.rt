@@ -14,7 +14,7 @@ use segment::state::{blockptr, sbase};
 use segment::word;
 
 // What the walk finds: a block that is not proper, or proper blocks with so many free ones among them.
-#[derive(Drop)]
+#[derive(Clone, Copy)]
 pub enum Blocks {
     Improper,
     Proper(usize),

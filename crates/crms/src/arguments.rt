@@ -6,7 +6,7 @@ use line_tool::list::{Listed, numbers_at};
 use line_tool::number::Base;
 use line_tool::tokens::{Token, text, token_at};
 
-#[derive(Drop)]
+#[derive(Clone, Copy)]
 pub enum Place {
     After(usize),
     Wrong,

@@ -1,5 +1,7 @@
 // The line tool: commands from the files named as arguments, or from standard input, one a line, and answers on standard
 // output. docs/LINE-TOOL.md says what each does.
+#![tactic(auto)]
+
 mod answers;
 mod arguments;
 mod buffers;

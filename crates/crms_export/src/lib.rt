@@ -1,4 +1,6 @@
 // The operations for callers from C and Rust: include/crms.h says what each number means.
+#![tactic(auto)]
+
 ghost use Rattle.std.specs.Prelude.{◌≡◌, ◌<◌, ◌%◌, ◌^◌, length};
 ghost use Rattle.segment.specs.Parts.{shape_part, elements_part};
 ghost use Rattle.fresh_segment.specs.LayOut as layout;

@@ -3,15 +3,15 @@
 ghost use Rattle.std.specs.Prelude.{◌≡◌, ◌+◌};
 
 // Counts words from the start of the data segment.
-#[derive(Drop)]
+#[derive(Clone, Copy)]
 pub struct SegmentAddress(u32);
 
 // Counts words from SBASE.
-#[derive(Drop)]
+#[derive(Clone, Copy)]
 pub struct StackAddress(u32);
 
 // Counts bytes from the start of a function's block.
-#[derive(Drop)]
+#[derive(Clone, Copy)]
 pub struct CodeAddress(u32);
 
 impl SegmentAddress {

@@ -1,4 +1,6 @@
 // Descriptors: the words of the data segment that say what they hold, and the addresses in them.
+#![tactic(auto)]
+
 ghost use Rattle.std.specs.Prelude.{◌≡◌, ◌≤◌, ◌<◌, ◌^◌};
 ghost use Rattle.descriptor.specs.Fields.{integer_limit, is_array, integer_word, character_word, array_word, local_word, global_word};
 ghost use Rattle.descriptor.specs.Kinds.{kind_of, is_scalar, bit, unsigned_kind, character_kind, array_kind, indirect_kind, undefined_kind};
@@ -7,7 +9,7 @@ pub mod address;
 
 use address::{SegmentAddress, StackAddress};
 
-#[derive(Drop)]
+#[derive(Clone, Copy)]
 pub enum Scalar {
     Float {
         negative: bool,
@@ -22,14 +24,14 @@ pub enum Scalar {
 }
 
 // The variable that an indirect word names.
-#[derive(Drop)]
+#[derive(Clone, Copy)]
 pub enum Target {
     Local(StackAddress),
     Global(SegmentAddress),
 }
 
 // What a word says; `Invalid` where it is no descriptor.
-#[derive(Drop)]
+#[derive(Clone, Copy)]
 pub enum Kind {
     Scalar(Scalar),
     Array(SegmentAddress),
@@ -38,7 +40,7 @@ pub enum Kind {
     Invalid,
 }
 
-#[derive(Drop)]
+#[derive(Clone, Copy)]
 pub struct Descriptor(u32);
 
 impl Descriptor {

@@ -17,7 +17,7 @@ use procedure::refusal::{Fault, FunctionFault, fault_of};
 use reader::Reader;
 
 // A function as it is listed: its block, and the table that says which operator each suboperation means.
-#[derive(Drop)]
+#[derive(Clone, Copy)]
 struct Shown {
     block: Block,
     table: [u8; 16],

@@ -5,6 +5,8 @@
 //     --table manual       the manual's own table again
 //
 // The files after a table that is refused are passed over.
+#![tactic(auto)]
+
 mod asked;
 mod listing;
 mod text;

@@ -1,7 +1,9 @@
 // What an instruction, a step and a run answer. The effects of instructions on the words of a data segment are definitions, in specs/.
+#![tactic(auto)]
+
 
 // What an instruction did. After `Trapped` no word has changed.
-#[derive(Drop)]
+#[derive(Clone, Copy)]
 pub enum Outcome {
     Finished,
     Entered,
@@ -10,7 +12,7 @@ pub enum Outcome {
 }
 
 // What a step did. After `Traced` the instruction has finished; after `Trapped` nothing but the trap word has changed.
-#[derive(Drop)]
+#[derive(Clone, Copy)]
 pub enum Stepped {
     Finished,
     Traced(u8, u8),
@@ -18,7 +20,7 @@ pub enum Stepped {
 }
 
 // How a run ended, with the number of instructions that finished.
-#[derive(Drop)]
+#[derive(Clone, Copy)]
 pub enum Ran {
     Done(u32),
     Trapped(u32),

@@ -1,1 +1,3 @@
 // What is proved of the effects of instructions on words.
+#![tactic(auto)]
+

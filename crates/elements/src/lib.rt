@@ -1,4 +1,6 @@
 // Loops over the element words of arrays: parts of lent slices, with proved indices.
+#![tactic(auto)]
+
 mod comparisons;
 pub mod copies;
 pub mod dyadic;
@@ -12,14 +14,14 @@ pub mod subscripts;
 mod words;
 
 // What a loop gives: all words are written, or the first trap's class and number.
-#[derive(Drop)]
+#[derive(Clone, Copy)]
 pub enum Finished {
     Done,
     Trap(u8, u8),
 }
 
 // The shape of a result: the first operand's, the second's, or a trap.
-#[derive(Drop)]
+#[derive(Clone, Copy)]
 pub enum Shape {
     First,
     Second,
@@ -27,7 +29,7 @@ pub enum Shape {
 }
 
 // The lengths of a join, or a trap.
-#[derive(Drop)]
+#[derive(Clone, Copy)]
 pub enum Joined {
     Vector(u32),
     Matrix(u32, u32),
@@ -35,7 +37,7 @@ pub enum Joined {
 }
 
 // A place in a ravel, or a trap.
-#[derive(Drop)]
+#[derive(Clone, Copy)]
 pub enum Found {
     At(u32),
     Trap(u8, u8),

@@ -1,5 +1,7 @@
 // A fast path for the instructions that run most, where nothing traps: scalars made, moved and combined, variables loaded and
 // assigned by any form of address, jumps. `false`: no word has changed, and the instruction is still to be done.
+#![tactic(auto)]
+
 ghost use Rattle.std.specs.Prelude.{◌≡◌, ◌+◌, ◌-◌, ◌%◌, ◌^◌, ◌≤◌, length};
 ghost use Rattle.operator.specs.Table.{operator_of};
 ghost use Rattle.instruction.specs.declared.table.EtcSuboperation.TheVariants as E;

@@ -1,1 +1,3 @@
 // What a lay out makes of a segment.
+#![tactic(auto)]
+

@@ -4,14 +4,14 @@ ghost use Rattle.imports.specs.Numbers as meaning;
 ghost use Rattle.imports.specs.Parsing.{read_numbers};
 
 // A number and the place after it.
-#[derive(Drop)]
+#[derive(Clone, Copy)]
 pub enum FoundNumber {
     Number(u32, usize),
     Bad,
 }
 
 // The place after the last of some numbers.
-#[derive(Drop)]
+#[derive(Clone, Copy)]
 pub enum FoundNumbers {
     To(usize),
     Bad,

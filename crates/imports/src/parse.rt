@@ -14,7 +14,7 @@ const NUMBER_LIMIT: u32 = 0x0FFF_FFFF;
 const ELEMENT_LIMIT: usize = 16384;
 
 // A record and the place after it: of a load the lengths and the elements lie in two lent slices.
-#[derive(Drop)]
+#[derive(Clone, Copy)]
 pub enum Parsed {
     Load {
         global: u32,

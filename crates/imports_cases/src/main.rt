@@ -2,6 +2,8 @@
 // over, 00, FF, and one more. A line of the output is what was read, how many records were found in it, and how the reading
 // ended: at the end of the file, or at the first byte of what is no record. The file stdout has the lines that
 // tools/imports_model.py gives.
+#![tactic(auto)]
+
 ghost use Rattle.std.specs.Prelude.{◌≡◌, ℕ, ◌<◌, length, ◌≢◌};
 ghost use Rattle.imports.specs.Parsing.{Advances};
 
@@ -9,7 +11,7 @@ use imports::parse::{Parsed, record_at};
 use libc::{STDIN_FILENO, STDOUT_FILENO};
 
 // How many records were read; of what is no record the place.
-#[derive(Drop)]
+#[derive(Clone, Copy)]
 enum Ending {
     Ends(usize),
     Malformed(usize, usize),

@@ -4,31 +4,31 @@ ghost use Rattle.instruction.specs.Reading.{fetch_byte, fetch_half, fetch_word, 
 
 use descriptor::address::CodeAddress;
 
-#[derive(Drop)]
+#[derive(Clone, Copy)]
 pub struct Cursor {
     at: usize,
 }
 
-#[derive(Drop)]
+#[derive(Clone, Copy)]
 pub enum FetchedByte {
     Byte(u8, Cursor),
     Outside,
 }
 
-#[derive(Drop)]
+#[derive(Clone, Copy)]
 pub enum FetchedHalf {
     Half(u16, Cursor),
     Outside,
 }
 
-#[derive(Drop)]
+#[derive(Clone, Copy)]
 pub enum FetchedWord {
     Word(u32, Cursor),
     Outside,
 }
 
 // The cursors at the first of some words and past the last.
-#[derive(Drop)]
+#[derive(Clone, Copy)]
 pub enum FetchedWords {
     Words(Cursor, Cursor),
     Outside,

@@ -2,7 +2,7 @@
 ghost use Rattle.std.specs.Prelude.{◌≡◌};
 ghost use Rattle.instruction.specs.Families.{family_of, order_of};
 
-#[derive(Drop)]
+#[derive(Clone, Copy)]
 pub enum Family {
     ShortLocal,
     ShortConst,

@@ -7,7 +7,7 @@ ghost use Rattle.instruction.specs.Tables.{memory_of, etc_of};
 
 use crate::family::Family;
 
-#[derive(Drop)]
+#[derive(Clone, Copy)]
 pub enum Length {
     // That many bytes, the first one among them.
     Fixed(u8),

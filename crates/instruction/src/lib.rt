@@ -1,4 +1,6 @@
 // Instructions: what each is, and how the bytes of a function's code decode to them.
+#![tactic(auto)]
+
 pub mod cursor;
 pub mod decode;
 pub mod family;
@@ -10,14 +12,14 @@ use descriptor::address::{CodeAddress, SegmentAddress};
 use operator::Operator;
 
 // A variable: a local so many words below LBASE, or a global.
-#[derive(Drop)]
+#[derive(Clone, Copy)]
 pub enum Address {
     Local(u32),
     Global(SegmentAddress),
 }
 
 // What a MEMREF instruction does to its variable.
-#[derive(Drop)]
+#[derive(Clone, Copy)]
 pub enum MemoryOperation {
     AssignIndexed(u8),
     Assign,
@@ -27,7 +29,7 @@ pub enum MemoryOperation {
 }
 
 // The ETC instructions on cells and on the index origin.
-#[derive(Drop)]
+#[derive(Clone, Copy)]
 pub enum StackOperation {
     Undefined,
     Eat1,
@@ -37,7 +39,7 @@ pub enum StackOperation {
 }
 
 // The ETC instructions that make arrays.
-#[derive(Drop)]
+#[derive(Clone, Copy)]
 pub enum ArrayOperation {
     Shape,
     Reshape,
@@ -47,7 +49,7 @@ pub enum ArrayOperation {
 }
 
 // The ETC instructions of no operand byte that go elsewhere or nowhere.
-#[derive(Drop)]
+#[derive(Clone, Copy)]
 pub enum ControlOperation {
     Branch,
     Return,
@@ -57,14 +59,14 @@ pub enum ControlOperation {
 }
 
 // The ETC instructions that hold a place to go to.
-#[derive(Drop)]
+#[derive(Clone, Copy)]
 pub enum Jump {
     Go,
     GoTrue,
     GoFalse,
 }
 
-#[derive(Drop)]
+#[derive(Clone, Copy)]
 pub enum Instruction {
     Load(Address),
     ShortConstant {
@@ -92,7 +94,7 @@ pub enum Instruction {
 }
 
 // An instruction and the place after it, or the trap's class and number.
-#[derive(Drop)]
+#[derive(Clone, Copy)]
 pub enum Decoded {
     Instruction(Instruction, CodeAddress),
     Trap(u8, u8),

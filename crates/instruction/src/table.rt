@@ -4,14 +4,14 @@ ghost use Rattle.instruction.specs.Tables.{memory_of, etc_of};
 
 use crate::{ArrayOperation, ControlOperation, Jump, MemoryOperation, StackOperation};
 
-#[derive(Drop)]
+#[derive(Clone, Copy)]
 pub enum MemorySuboperation {
     Defined(MemoryOperation),
     Undefined,
 }
 
 // An ETC suboperation; what follows it in the code is the decoder's matter.
-#[derive(Drop)]
+#[derive(Clone, Copy)]
 pub enum EtcSuboperation {
     Stack(StackOperation),
     Array(ArrayOperation),

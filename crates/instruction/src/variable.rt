@@ -7,7 +7,7 @@ use crate::cursor::{Cursor, FetchedByte};
 use crate::family::{Family, family_of};
 use descriptor::address::SegmentAddress;
 
-#[derive(Drop)]
+#[derive(Clone, Copy)]
 pub enum FetchedAddress {
     At(Address, Cursor),
     Trap(u8, u8),

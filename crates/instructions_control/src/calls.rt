@@ -20,7 +20,7 @@ use segment::stack::last_lbase;
 use segment::state::lbase;
 
 // Whether the current function can be left.
-#[derive(Drop)]
+#[derive(Clone, Copy)]
 pub enum Leaving {
     Allowed,
     Trap(u8, u8),

@@ -23,7 +23,7 @@ use scalar::{Truth, Whole};
 use segment::blocks::rank;
 
 // What GO_TRUE and GO_FALSE find in their operand.
-#[derive(Drop)]
+#[derive(Clone, Copy)]
 pub enum Condition {
     Truth(bool),
     Trap(u8, u8),

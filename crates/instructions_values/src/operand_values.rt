@@ -4,13 +4,13 @@ ghost use Rattle.instructions_values.specs.Parts.{FirstFound, BothFound};
 
 use operands::reading::{Operand, Value, count, operand_at, value_of};
 
-#[derive(Drop)]
+#[derive(Clone, Copy)]
 pub enum First {
     Value(Value),
     Trap(u8, u8),
 }
 
-#[derive(Drop)]
+#[derive(Clone, Copy)]
 pub enum Both {
     Values(Value, Value),
     Trap(u8, u8),

@@ -6,7 +6,7 @@ ghost use Rattle.line_tool.specs.Bytes as meaning;
 use crate::fault::Fault;
 use crate::number::{digit, is_numeral};
 
-#[derive(Drop)]
+#[derive(Clone, Copy)]
 pub enum Counted {
     Bytes(usize),
     Wrong(Fault),

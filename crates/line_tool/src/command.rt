@@ -2,7 +2,7 @@
 ghost use Rattle.std.specs.Prelude.{◌≡◌};
 ghost use Rattle.line_tool.specs.Commands as meaning;
 
-#[derive(Drop)]
+#[derive(Clone, Copy)]
 pub enum Command {
     Seg,
     Word,

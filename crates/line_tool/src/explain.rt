@@ -8,7 +8,7 @@ use crate::tables::{place_of, put_line};
 use crate::writing::{put, put_decimal};
 
 // What an operation answered last: a status, or a trap's class and number.
-#[derive(Drop)]
+#[derive(Clone, Copy)]
 pub enum Last {
     Nothing,
     Status(u8),

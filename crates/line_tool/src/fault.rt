@@ -7,7 +7,7 @@ ghost use Rattle.line_tool.specs.Writing.{wrote, writes};
 use crate::tables::put_line;
 use crate::writing::put;
 
-#[derive(Drop)]
+#[derive(Clone, Copy)]
 pub enum Fault {
     NoCommand,
     Missing,

@@ -1,5 +1,7 @@
 // Lines of a script: their tokens and commands read, and what a program answers written. Every function is total, and every
 // bad token is told apart.
+#![tactic(auto)]
+
 pub mod bytes;
 pub mod command;
 pub mod explain;

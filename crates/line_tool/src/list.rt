@@ -6,7 +6,7 @@ use crate::fault::Fault;
 use crate::number::{Base, Number, number_in};
 use crate::tokens::{Token, text, token_at};
 
-#[derive(Drop)]
+#[derive(Clone, Copy)]
 pub enum Listed {
     // So many numbers, and the place after the last.
     Numbers(usize, usize),

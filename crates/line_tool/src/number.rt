@@ -4,13 +4,13 @@ ghost use Rattle.line_tool.specs.Numbers as meaning;
 
 use crate::fault::Fault;
 
-#[derive(Drop)]
+#[derive(Clone, Copy)]
 pub enum Base {
     Decimal,
     Hex,
 }
 
-#[derive(Drop)]
+#[derive(Clone, Copy)]
 pub enum Number {
     Value(u32),
     Wrong(Fault),

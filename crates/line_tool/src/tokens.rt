@@ -3,7 +3,7 @@ ghost use Rattle.std.specs.Prelude.{◌≡◌, ◌≤◌, min, max, eqb, length}
 ghost use Rattle.line_tool.specs.Tokens as meaning;
 
 // The first byte of a token, and the byte after its last: an empty one where a line has no further token.
-#[derive(Drop)]
+#[derive(Clone, Copy)]
 pub struct Token {
     pub start: usize,
     pub end: usize,
@@ -58,7 +58,7 @@ pub fn line_end(bytes: &[u8], from: usize) -> usize
 }
 
 // A kind of bytes: blanks, others, and those of one line.
-#[derive(Drop)]
+#[derive(Clone, Copy)]
 enum Kind {
     Blank,
     Other,

@@ -13,14 +13,14 @@ use segment::blocks::{Part, elements, rank, shape, size_at};
 use segment::state::{lbase, ltop, sbase, top_cell};
 use segment::{minus, word};
 
-#[derive(Drop)]
+#[derive(Clone, Copy)]
 pub enum Value {
     Scalar(u32),
     Array(SegmentAddress),
 }
 
 // What an operand is: a value, or of no kind that an instruction takes.
-#[derive(Drop)]
+#[derive(Clone, Copy)]
 pub enum Operand {
     Value(Value),
     Other,

@@ -8,7 +8,7 @@ use crate::reading::{Operand, is_undefined, operand_at, value_of};
 use descriptor::Descriptor;
 
 // All are scalars, and their words are taken; one is of no kind that the instruction takes; one is no scalar.
-#[derive(Drop)]
+#[derive(Clone, Copy)]
 pub enum Taken {
     Words,
     Foreign,

@@ -12,7 +12,7 @@ use segment::state::{blockptr, lbase, sbase};
 use segment::{minus, word};
 
 // A variable and the word that it holds, or a trap.
-#[derive(Drop)]
+#[derive(Clone, Copy)]
 pub enum Resolved {
     At(Target, u32),
     Trap(u8, u8),

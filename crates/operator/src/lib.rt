@@ -1,12 +1,14 @@
 // The sixteen operators of the GENSCALAR family, and which of them a suboperation number means: by the manual's table, or by one that
 // is lent in its place.
+#![tactic(auto)]
+
 ghost use Rattle.std.specs.Prelude.{◌≡◌, ◌<◌, ◌≤◌};
 ghost use Rattle.operator.specs.Table.{operator_of, operator_number, monadic_number, dyadic_number};
 
 pub mod lent;
 
 // The operators of one operand.
-#[derive(Drop)]
+#[derive(Clone, Copy)]
 pub enum Monadic {
     Identity,
     Negative,
@@ -19,7 +21,7 @@ pub enum Monadic {
 }
 
 // The operators of two operands.
-#[derive(Drop)]
+#[derive(Clone, Copy)]
 pub enum Dyadic {
     Sum,
     Difference,
@@ -31,13 +33,13 @@ pub enum Dyadic {
     Equal,
 }
 
-#[derive(Drop)]
+#[derive(Clone, Copy)]
 pub enum Operator {
     Monadic(Monadic),
     Dyadic(Dyadic),
 }
 
-#[derive(Drop)]
+#[derive(Clone, Copy)]
 pub enum Suboperation {
     Defined(Operator),
     Undefined,

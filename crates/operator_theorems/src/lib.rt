@@ -1,1 +1,3 @@
 // No code: the theorems about a table of operators that is lent.
+#![tactic(auto)]
+

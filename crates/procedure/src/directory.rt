@@ -5,7 +5,7 @@ ghost use Rattle.procedure.specs.Directory.{entries, start_of, length_of, has_fu
 use crate::bytes::word_at;
 use crate::header::{Block, Header, header_at};
 
-#[derive(Drop)]
+#[derive(Clone, Copy)]
 pub enum Function {
     At(Block),
     Absent,

@@ -5,7 +5,7 @@ ghost use Rattle.procedure.specs.Headers.{header_at, code_end, code_of, line_of}
 use crate::bytes::{half_at, word_at};
 use descriptor::address::CodeAddress;
 
-#[derive(Drop)]
+#[derive(Clone, Copy)]
 pub struct Header {
     pub calltrace: bool,
     pub rtntrace: bool,
@@ -17,14 +17,14 @@ pub struct Header {
 }
 
 // A function's block, by its first word in the segment.
-#[derive(Drop)]
+#[derive(Clone, Copy)]
 pub struct Block {
     pub start: u16,
     pub header: Header,
 }
 
 // The place of a line's first instruction.
-#[derive(Drop)]
+#[derive(Clone, Copy)]
 pub enum Line {
     At(CodeAddress),
     Absent,

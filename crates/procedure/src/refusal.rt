@@ -8,7 +8,7 @@ use crate::directory::{entries, length_of, start_of};
 use crate::header::{Header, header_at};
 
 // What is wrong with a function: where its block starts or ends, how long it is, or its header.
-#[derive(Drop)]
+#[derive(Clone, Copy)]
 pub enum FunctionFault {
     Start,
     End,
@@ -20,7 +20,7 @@ pub enum FunctionFault {
 }
 
 // The first thing that is wrong with a segment; of a function, with its number.
-#[derive(Drop)]
+#[derive(Clone, Copy)]
 pub enum Fault {
     Nothing,
     SegmentLength,
@@ -29,7 +29,7 @@ pub enum Fault {
 }
 
 // Which test refuses two segments.
-#[derive(Drop)]
+#[derive(Clone, Copy)]
 pub enum Refusal {
     Nothing,
     Length,

@@ -1,4 +1,6 @@
 // A reader on one function's code: the code and a place in it. Decoding is the work of `instruction`.
+#![tactic(auto)]
+
 ghost use Rattle.std.specs.Prelude.{◌≡◌};
 ghost use Rattle.reader.specs.Walking.{at_start, place_after, read_once};
 

@@ -1,5 +1,7 @@
 // Replays of files of imports on a lent data segment, both procedure segments and a table of operators. Beside the segment a tally is
 // lent. A replay is the loads and runs that its records are; it carries two contracts, as the operations of `engine` do.
+#![tactic(auto)]
+
 ghost use Rattle.std.specs.Prelude.{◌≡◌};
 ghost use Rattle.std.proofs.lemmas.List.Edits.{sets};
 ghost use Rattle.tally.specs.Counts.{added, counts_of, none_counted, tally_of};

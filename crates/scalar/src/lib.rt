@@ -1,4 +1,6 @@
 // Exact arithmetic on scalar words: the sixteen operators of the GENSCALAR family.
+#![tactic(auto)]
+
 ghost use Rattle.std.specs.Prelude.{◌≡◌};
 ghost use Rattle.scalar.specs.Operators as S;
 
@@ -24,14 +26,14 @@ pub use sums::{difference, sum};
 pub use wholes::{ceiling, floor};
 
 // A scalar's word, or a trap's class and number.
-#[derive(Drop)]
+#[derive(Clone, Copy)]
 pub enum Answer {
     Word(u32),
     Trap(u8, u8),
 }
 
 // A scalar read as a whole number; a magnitude from 2^23 on is given as 2^23.
-#[derive(Drop)]
+#[derive(Clone, Copy)]
 pub enum Whole {
     Number { negative: bool, magnitude: u32 },
     Fraction,
@@ -39,7 +41,7 @@ pub enum Whole {
 }
 
 // A scalar read as zero or one.
-#[derive(Drop)]
+#[derive(Clone, Copy)]
 pub enum Truth {
     Value(bool),
     Other,

@@ -8,7 +8,7 @@ ghost use Rattle.scalar.specs.Parts.{SignedSum, signed_place, distance_of};
 use crate::{Answer, results, words};
 
 // A sum's sign and magnitude.
-#[derive(Drop)]
+#[derive(Clone, Copy)]
 struct Signed {
     sign: u32,
     size: u64,

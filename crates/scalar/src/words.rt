@@ -5,7 +5,7 @@ ghost use Rattle.scalar.specs.Parts.{Unpacked, both_small, one_character};
 use crate::reading;
 
 // A magnitude of sig * 2^exp units of 2^-150.
-#[derive(Drop)]
+#[derive(Clone, Copy)]
 pub struct Parts {
     pub sig: u64,
     pub exp: u32,

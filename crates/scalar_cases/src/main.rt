@@ -1,5 +1,7 @@
 // Runs the scalar operators on the cases of standard input, a line each, and writes every line with its answer. The file
 // stdout has the answers that exact rational arithmetic gives (make_cases.py).
+#![tactic(auto)]
+
 ghost use Rattle.std.specs.Prelude.{◌+◌, ◌≤◌, ◌<◌, ◌≡◌, length};
 
 use libc::{STDIN_FILENO, STDOUT_FILENO};

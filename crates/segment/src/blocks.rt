@@ -7,7 +7,7 @@ use super::{high, low, minus, word};
 use descriptor::address::SegmentAddress;
 
 // So many words of the segment from an address up.
-#[derive(Drop)]
+#[derive(Clone, Copy)]
 pub struct Part {
     pub start: SegmentAddress,
     pub count: usize,

@@ -1,5 +1,7 @@
 // The layout of a data segment in a lent slice of words: the state words, the stack and its frames, the blocks of array
 // storage. Access is total: a read past the end is 0, and a write there does nothing.
+#![tactic(auto)]
+
 ghost use Rattle.std.specs.Prelude.{◌≡◌, ◌⊎◌, ◌+◌, ◌-◌, ◌*◌, ◌^◌, ◌≤◌, get_or, set, length};
 ghost use Rattle.std.proofs.lemmas.List.Edits.{sets};
 ghost use Rattle.segment.specs.State as fields;

@@ -1,6 +1,8 @@
 // The storage sheet: where the words of array storage went. Three lines of standard input name the files of a data segment, of
 // the regular and of the alternate procedure segment; five lines of standard output have the counts, or one line the number of
 // the test that refused the segment. Each argument names a file to take the three lines from, - for standard input.
+#![tactic(auto)]
+
 mod answer;
 
 use answer::answer;

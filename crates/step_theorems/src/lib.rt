@@ -1,1 +1,3 @@
 // The next instruction of an accepted segment: its plan, and what is known of it.
+#![tactic(auto)]
+

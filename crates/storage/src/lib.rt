@@ -1,4 +1,6 @@
 // Array storage in a lent data segment: requests for blocks, their release, and the arrays in them.
+#![tactic(auto)]
+
 mod arrays;
 pub mod release;
 pub mod request;

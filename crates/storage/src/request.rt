@@ -11,7 +11,7 @@ use segment::put;
 use segment::state::{rover, set_rover};
 
 // What a request gives: a block, or the news that no free block is long enough.
-#[derive(Drop)]
+#[derive(Clone, Copy)]
 pub enum Found {
     At(SegmentAddress),
     Full,

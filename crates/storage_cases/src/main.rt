@@ -8,6 +8,8 @@
 // A line of the output is the step, where its array lies (0: none, or full), ROVER, and each block with its address, and ^
 // for PREVFREE: a free block as f SIZE > NEXT < LAST, an array as a SIZE + SLOP # count = sum of its shape and elements, the
 // dummy as d > NEXT < LAST.
+#![tactic(auto)]
+
 ghost use Rattle.std.specs.Prelude.{◌+◌, ◌^◌, ◌<◌, ◌≤◌};
 
 use descriptor::Descriptor;

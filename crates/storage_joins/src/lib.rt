@@ -1,5 +1,7 @@
 // An array whose elements are those of two parts of the segment, one after the other. They are copied once, from where they
 // stand into the new block; only where the request would write one of their words are they gathered in a scratch first.
+#![tactic(auto)]
+
 ghost use Rattle.std.specs.Prelude.{◌≡◌, true, ◌++◌, ◌+◌, ◌≤◌, ◌<◌, ◌^◌, length};
 ghost use Rattle.std.proofs.lemmas.List.Edits.{sets};
 ghost use Rattle.segment.specs.Blocks.{size_at};

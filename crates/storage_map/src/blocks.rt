@@ -5,7 +5,7 @@ use descriptor::address::SegmentAddress;
 use segment::blocks::{count, dummy, free_at, size_at, slop_at};
 use segment::state::blockptr;
 
-#[derive(Drop)]
+#[derive(Clone, Copy)]
 pub enum Kind {
     // An array that so many cells point to.
     Array(u16),
@@ -13,7 +13,7 @@ pub enum Kind {
     Dummy,
 }
 
-#[derive(Drop)]
+#[derive(Clone, Copy)]
 pub struct Block {
     pub at: u32,
     pub kind: Kind,
@@ -61,7 +61,7 @@ pub fn block_at(seg: &[u32], a: u32) -> Block {
 pub const MOST_BLOCKS: u16 = 16384;
 
 // How many blocks there are, the dummy among them, and the words of the longest.
-#[derive(Drop)]
+#[derive(Clone, Copy)]
 pub struct Extent {
     pub blocks: u16,
     pub longest: u32,

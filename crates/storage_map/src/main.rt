@@ -1,6 +1,8 @@
 // A picture of array storage, as SVG. Three lines of standard input name the files of a data segment, of the regular and of the
 // alternate procedure segment; a fourth line names the file that the picture goes to, and without it the picture goes to standard
 // output. Each argument names a file to take the lines from, - for standard input.
+#![tactic(auto)]
+
 mod answer;
 mod blocks;
 mod pen;

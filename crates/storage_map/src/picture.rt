@@ -131,7 +131,7 @@ fn height_of(rows: u16) -> u32
 }
 
 // What is drawn of each block.
-#[derive(Drop)]
+#[derive(Clone, Copy)]
 enum Part {
     Strip,
     Bars,

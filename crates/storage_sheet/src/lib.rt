@@ -1,4 +1,6 @@
 // The sheet of array storage: where its words went.
+#![tactic(auto)]
+
 ghost use Rattle.std.specs.Prelude.{◌≡◌, ◌≤◌, length};
 ghost use Rattle.storage_sheet.specs.Sheet.{sheet_of};
 
@@ -8,7 +10,7 @@ use segment::minus;
 use segment::state::{blockptr, sbase};
 
 // Words of arrays, of slop, of free blocks and of the dummy, and of array storage in all.
-#[derive(Drop)]
+#[derive(Clone, Copy)]
 pub struct Sheet {
     pub arrays: u32,
     pub slop: u32,

@@ -1,4 +1,6 @@
 // Counts of finished instructions by family.
+#![tactic(auto)]
+
 ghost use Rattle.std.specs.Prelude.{◌≡◌};
 ghost use Rattle.std.proofs.lemmas.List.Edits.{sets};
 ghost use Rattle.tally.specs.Counts.{added, count_sum, counts_of, none_counted, tally_of};
@@ -8,7 +10,7 @@ use segment::{put_all, word};
 pub mod counting;
 
 // One count for each family of first bytes, in document 01's order.
-#[derive(Drop)]
+#[derive(Clone, Copy)]
 pub struct Tally {
     pub short_local: u32,
     pub short_const: u32,

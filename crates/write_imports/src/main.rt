@@ -5,6 +5,8 @@
 //     run STEPS
 //
 // A line that is no record is told with its number on standard error, or in its place where records are shown, and is left out.
+#![tactic(auto)]
+
 mod encode;
 mod input;
 mod numbers;

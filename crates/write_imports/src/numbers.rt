@@ -8,19 +8,19 @@ use line_tool::number::{Number, decimal};
 use line_tool::tokens::{Token, text, token_at};
 
 // What a number may be at most: what a file can say, or the greatest integer.
-#[derive(Drop)]
+#[derive(Clone, Copy)]
 pub enum Limit {
     Number,
     Element,
 }
 
-#[derive(Drop)]
+#[derive(Clone, Copy)]
 pub enum Limited {
     Value(u32),
     Wrong(Wrong),
 }
 
-#[derive(Drop)]
+#[derive(Clone, Copy)]
 pub enum Taken {
     // So many numbers.
     Numbers(usize),

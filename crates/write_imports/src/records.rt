@@ -13,7 +13,7 @@ use line_tool::fault::Fault;
 use line_tool::tokens::{Token, text, token_at};
 
 // A record of so many bytes, or what is wrong with which token.
-#[derive(Drop)]
+#[derive(Clone, Copy)]
 pub enum Written {
     Record(usize),
     Wrong(Wrong, Token),

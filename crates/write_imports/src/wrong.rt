@@ -2,7 +2,7 @@
 use line_tool::fault::{Fault, put_fault};
 use line_tool::writing::{put, put_decimal};
 
-#[derive(Drop)]
+#[derive(Clone, Copy)]
 pub enum Wrong {
     // As any line may be.
     Text(Fault),
