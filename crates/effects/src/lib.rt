@@ -1,7 +1,6 @@
 // What an instruction, a step and a run answer. The effects of instructions on the words of a data segment are definitions, in specs/.
 #![tactic(auto)]
 
-
 // What an instruction did. After `Trapped` no word has changed.
 #[derive(Clone, Copy)]
 pub enum Outcome {

@@ -1,3 +1,2 @@
 // What is proved of the effects of instructions on words.
 #![tactic(auto)]
-

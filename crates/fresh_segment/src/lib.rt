@@ -1,3 +1,2 @@
 // What a lay out makes of a segment.
 #![tactic(auto)]
-

@@ -1,0 +1,65 @@
+use mathlib.Core.Path.{refl, sym, ◌∙◌}
+use borrow.Author.Tests.{not-true, not-false}
+use Rattle.acceptance.proofs.FrameCells.{never}
+use Rattle.acceptance.proofs.Descent.{descent-start, descent-none, descent-low, descent-frame, descent-fails, descent-bottom, descent-on}
+use Rattle.acceptance.proofs.cells.cells_from.Goals as goal
+
+pub loop-left-init : goal.loop-left-init
+loop-left-init c = (refl, refl, descent-start c.requires)
+
+pub overflow_sub-start : goal.overflow_sub-start
+overflow_sub-start c = descent-low c.requires
+    c.loop-left.invariant.2 c.loop-left-test.true c.of.ensures
+    c.frame_at-frame.ensures
+
+pub frame_cells-requires : goal.frame_cells-requires
+frame_cells-requires c = descent-frame c.requires c.loop-left.invariant.2
+    c.loop-left-test.true c.of.ensures c.frame_at-frame.ensures
+
+pub shape_of-arrays-then-not-frame_cells : goal.shape_of-arrays-then-not-frame_cells
+shape_of-arrays-then-not-frame_cells c = c.arrays-1.given
+    ∙ c.loop-left.invariant.0
+
+pub shape_of-marks-then-not-frame_cells : goal.shape_of-marks-then-not-frame_cells
+shape_of-marks-then-not-frame_cells c = c.marks-1.given
+    ∙ c.loop-left.invariant.1
+
+pub returns-then-not-frame_cells : goal.returns-then-not-frame_cells
+returns-then-not-frame_cells c = let fails = descent-fails c.requires
+    c.loop-left.invariant.2 c.loop-left-test.true c.of.ensures c.frame_at-frame.ensures
+    c.frame_cells.ensures (not-true _ c.if-not-frame_cells.true) in
+    (sym fails, never)
+
+pub shape_of-arrays-then-base-last : goal.shape_of-arrays-then-base-last
+shape_of-arrays-then-base-last c = c.arrays-1.given
+    ∙ c.loop-left.invariant.0
+
+pub shape_of-marks-then-base-last : goal.shape_of-marks-then-base-last
+shape_of-marks-then-base-last c = c.marks-1.given
+    ∙ c.loop-left.invariant.1
+
+pub returns-then-base-last : goal.returns-then-base-last
+returns-then-base-last c = descent-bottom c.requires
+    c.loop-left.invariant.2 c.loop-left-test.true c.of.ensures
+    c.frame_at-frame.ensures
+    c.frame_cells.ensures (not-false _ c.if-not-frame_cells.false) c.number-last.ensures c.if-base-last.true
+
+pub loop-left-preserved : goal.loop-left-preserved
+loop-left-preserved c = let on = descent-on c.requires
+    c.loop-left.invariant.2 c.loop-left-test.true c.of.ensures
+    c.frame_at-frame.ensures
+    c.frame_cells.ensures (not-false _ c.if-not-frame_cells.false) c.number-last.ensures c.if-base-last.false in (
+      c.arrays-1.given ∙ c.loop-left.invariant.0,
+      c.marks-1.given
+          ∙ c.loop-left.invariant.1,
+      on,
+    )
+
+pub shape_of-arrays : goal.shape_of-arrays
+shape_of-arrays c = c.loop-left.invariant.0
+
+pub shape_of-marks : goal.shape_of-marks
+shape_of-marks c = c.loop-left.invariant.1
+
+pub returns : goal.returns
+returns c = (sym (descent-none c.requires c.loop-left.invariant.2 c.loop-left-test.false), never)

@@ -1,0 +1,47 @@
+use mathlib.Core.Path.{sym, ◌∙◌}
+use borrow.Author.Tests.{not-true, not-false}
+use Rattle.acceptance.proofs.FrameCells.{never}
+use Rattle.acceptance.proofs.Descent.{globals-room, globals-wrong, base-low, before-stack, all-cells}
+use Rattle.acceptance.proofs.cells.cells_test.Goals as goal
+
+pub plain_cells-requires : goal.plain_cells-requires
+plain_cells-requires c = globals-room c.requires
+    (c.index-end.ensures ∙ c.blockptr.ensures)
+
+pub shape_of-arrays-then-not-plain_cells : goal.shape_of-arrays-then-not-plain_cells
+shape_of-arrays-then-not-plain_cells c = c.arrays-1.given
+
+pub returns-then-not-plain_cells : goal.returns-then-not-plain_cells
+returns-then-not-plain_cells c = (
+  sym (globals-wrong c.requires (c.index-end.ensures ∙ c.blockptr.ensures)
+      c.plain_cells.ensures (not-true _ c.if-not-plain_cells.true)),
+  never,
+)
+
+pub mark_variables-requires : goal.mark_variables-requires
+mark_variables-requires c = base-low c.requires (c.index-end.ensures ∙ c.blockptr.ensures)
+    c.plain_cells.ensures (not-false _ c.if-not-plain_cells.false) c.lbase-base.ensures
+
+pub cells_from-requires : goal.cells_from-requires
+cells_from-requires c = before-stack c.requires
+    (c.index-end.ensures
+    ∙ c.blockptr.ensures)
+    c.plain_cells.ensures (not-false _ c.if-not-plain_cells.false) c.lbase-base.ensures
+    c.number.ensures (c.number-top.ensures ∙ c.ltop.ensures)
+    c.mark_variables.ensures
+
+pub shape_of-arrays : goal.shape_of-arrays
+shape_of-arrays c = c.arrays-2-1.given
+    ∙ c.arrays-1.given
+
+pub shape_of-marks : goal.shape_of-marks
+shape_of-marks c = c.marks-2-1.given ∙ c.marks-1.given
+
+pub returns : goal.returns
+returns c = all-cells c.requires
+    (c.index-end.ensures
+    ∙ c.blockptr.ensures)
+    c.plain_cells.ensures (not-false _ c.if-not-plain_cells.false) c.lbase-base.ensures
+    c.number.ensures
+    (c.number-top.ensures
+    ∙ c.ltop.ensures) c.cells_from.ensures

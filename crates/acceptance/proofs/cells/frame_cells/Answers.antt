@@ -1,0 +1,67 @@
+use mathlib.Core.Path.{◌∙◌}
+use borrow.Author.Tests.{not-true, not-false}
+use Rattle.acceptance.proofs.FrameCells.{never, temporaries-room, temporaries-fail, arguments-room, arguments-fail, locals-room, frame-done}
+use Rattle.acceptance.proofs.cells.frame_cells.Goals as goal
+
+pub free_cells-requires : goal.free_cells-requires
+free_cells-requires c = temporaries-room c.requires
+    (c.index-stack.ensures ∙ c.sbase.ensures)
+
+pub shape_of-arrays-then-not-free_cells : goal.shape_of-arrays-then-not-free_cells
+shape_of-arrays-then-not-free_cells c = c.arrays-1.given
+
+pub returns-then-not-free_cells : goal.returns-then-not-free_cells
+returns-then-not-free_cells c = (
+  temporaries-fail c.requires (c.index-stack.ensures ∙ c.sbase.ensures)
+      c.free_cells.ensures (not-true _ c.if-not-free_cells.true),
+  (never, (never, never)),
+)
+
+pub unmark-requires : goal.unmark-requires
+unmark-requires c = rw (c.of.ensures, c.of-2.ensures)
+    c.requires.variables
+
+pub free_cells-requires-2 : goal.free_cells-requires-2
+free_cells-requires-2 c = arguments-room c.requires
+    (c.index-stack.ensures ∙ c.sbase.ensures) c.free_cells.ensures
+    (not-false _ c.if-not-free_cells.false)
+
+pub shape_of-arrays-then-not-free_cells-2 : goal.shape_of-arrays-then-not-free_cells-2
+shape_of-arrays-then-not-free_cells-2 c = c.arrays-2-1.given
+    ∙ c.arrays-1.given
+
+pub shape_of-marks-then-not-free_cells-2 : goal.shape_of-marks-then-not-free_cells-2
+shape_of-marks-then-not-free_cells-2 c = c.marks-1.given
+
+pub returns-then-not-free_cells-2 : goal.returns-then-not-free_cells-2
+returns-then-not-free_cells-2 c = let fails = arguments-fail c.requires
+    (c.index-stack.ensures
+    ∙ c.sbase.ensures)
+    c.free_cells.ensures (not-false _ c.if-not-free_cells.false)
+    c.of.ensures c.of-2.ensures c.unmark.ensures c.free_cells-2.ensures
+    (not-true _ c.if-not-free_cells-2.true) in
+    (fails, (never, (never, never)))
+
+pub plain_cells-requires : goal.plain_cells-requires
+plain_cells-requires c = locals-room c.requires
+    (c.index-stack.ensures
+    ∙ c.sbase.ensures)
+    c.free_cells.ensures (not-false _ c.if-not-free_cells.false)
+    c.of.ensures c.of-2.ensures c.unmark.ensures
+    c.free_cells-2.ensures (not-false _ c.if-not-free_cells-2.false)
+
+pub shape_of-arrays : goal.shape_of-arrays
+shape_of-arrays c = c.arrays-3-1.given ∙ c.arrays-2-1.given
+    ∙ c.arrays-1.given
+
+pub shape_of-marks : goal.shape_of-marks
+shape_of-marks c = c.marks-1.given
+
+pub returns : goal.returns
+returns c = frame-done c.requires
+    (c.index-stack.ensures
+    ∙ c.sbase.ensures)
+    c.free_cells.ensures (not-false _ c.if-not-free_cells.false)
+    c.of.ensures c.of-2.ensures c.unmark.ensures
+    c.free_cells-2.ensures
+    (not-false _ c.if-not-free_cells-2.false) c.plain_cells.ensures

@@ -1,0 +1,20 @@
+use Rattle.acceptance_storage.proofs.Tests.{never}
+use mathlib.Core.Path.{sym, ◌∙◌}
+use borrow.Author.Tests.{not-true, not-false}
+use Rattle.acceptance_storage.proofs.Rounds.{ring-off, ring-on}
+use Rattle.acceptance_storage.proofs.ring.ring_test.Goals as goal
+
+pub returns-then-not-on_ring : goal.returns-then-not-on_ring
+returns-then-not-on_ring c = let a = c.args in
+    let off = sym c.on_ring.ensures ∙ not-true _ c.if-not-on_ring.true in
+    let e = ring-off a.seg.now a.marks.now c.requires.1 _ _ c.rover.ensures
+    c.dummy-end.ensures.0 off in
+    (sym e, λ t. absurd (never (sym e ∙ t)))
+
+pub returns : goal.returns
+returns c = let a = c.args in
+    let h = c.requires.1 in
+    let on = sym c.on_ring.ensures ∙ not-false _ c.if-not-on_ring.false in
+    let round = c.round.ensures in
+    let e = ring-on a.seg.now a.marks.now h _ _ c.rover.ensures c.dummy-end.ensures.0 on _ round.0 in
+    (e, λ t. round.1 (e ∙ t))

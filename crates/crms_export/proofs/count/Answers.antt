@@ -1,0 +1,7 @@
+use mathlib.Core.Path.{ap}
+use lib.ListN.{length}
+use Rattle.crms_export.proofs.Numbers.{elements-short}
+use Rattle.crms_export.proofs.count.Goals as goal
+
+pub returns : goal.returns
+returns c = (ap length c.elements.ensures, rw c.elements.ensures (elements-short _ _))

@@ -1,0 +1,7 @@
+use mathlib.Core.Path.{ap, ◌∙◌}
+use Rattle.operations.specs.Answers.{status_of}
+use Rattle.operations.proofs.Answers.{status-answer}
+use Rattle.crms_export.proofs.crms_load.Goals as goal
+
+pub returns : goal.returns
+returns c = (c.status.ensures ∙ ap status_of c.load.ensures.0 ∙ status-answer _, c.load.ensures.1.0)

@@ -1,0 +1,7 @@
+use mathlib.Core.Path.{ap}
+use lib.ListN.{length}
+use Rattle.crms_export.proofs.Numbers.{shape-short}
+use Rattle.crms_export.proofs.rank.Goals as goal
+
+pub returns : goal.returns
+returns c = (ap length c.lengths.ensures, rw c.lengths.ensures (shape-short _ _))

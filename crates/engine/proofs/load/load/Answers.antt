@@ -1,0 +1,9 @@
+use mathlib.Core.Path.{sym, ◌∙◌}
+use Rattle.engine.proofs.Loading.{unaccepted, promised}
+use Rattle.engine.proofs.load.load.Goals as goal
+
+pub returns-then-refused-ne0 : goal.returns-then-refused-ne0
+returns-then-refused-ne0 c = promised _ _ _ _ _ _ _ _ (unaccepted _ _ _ _ _ _ _ c.refusal_of-refused.ensures c.if-refused-ne0.true)
+
+pub returns : goal.returns
+returns c = promised _ _ _ _ _ _ _ _ (c.load_accepted.ensures _ _ (sym c.if-refused-ne0.false ∙ c.refusal_of-refused.ensures))

@@ -1,0 +1,17 @@
+use mathlib.Core.Path.{sym, ◌∙◌}
+use borrow.Author.Tests.{eq-eqb, ne_eqb}
+use Rattle.acceptance.proofs.Structure.{table-sound}
+use Rattle.operations.specs.Sheet.{sheeted}
+use Rattle.engine.proofs.Sheeting.{promised}
+use Rattle.engine.proofs.sheet.sheet.Goals as goal
+
+pub returns-then-refused-ne0 : goal.returns-then-refused-ne0
+unfolding sheeted
+returns-then-refused-ne0 c = promised _ _ _ _ (simp (← c.refusal_of-refused.ensures, ne_eqb _ _ c.if-refused-ne0.true))
+
+pub add_up-requires : goal.add_up-requires
+add_up-requires c = (table-sound _ _ _ (sym c.refusal_of-refused.ensures ∙ c.if-refused-ne0.false)).longest
+
+pub returns : goal.returns
+unfolding sheeted
+returns c = promised _ _ _ _ (simp (← c.refusal_of-refused.ensures, eq-eqb _ _ c.if-refused-ne0.false, ← c.add_up.ensures))

@@ -1,0 +1,21 @@
+use Prim.Native.Nat.{◌≤◌}
+use mathlib.Core.Path.{refl, sym, subst, ◌∙◌}
+use Rattle.fast_path.proofs.Operating.{scalars-combined}
+use Rattle.fast_path.proofs.Answers.{left, went}
+use borrow.Author.Tests.{not-false}
+use Rattle.fast_path.proofs.doing.dyadic.Goals as goal
+
+pub returns-then-count-lt2 : goal.returns-then-count-lt2
+returns-then-count-lt2 c = left
+
+pub returns-then-not-is_scalar : goal.returns-then-not-is_scalar
+returns-then-not-is_scalar c = left
+
+pub returns-then-not-is_scalar-2 : goal.returns-then-not-is_scalar-2
+returns-then-not-is_scalar-2 c = left
+
+pub returns-in-Trap : goal.returns-in-Trap
+returns-in-Trap c = left
+
+pub returns-in-Word : goal.returns-in-Word
+returns-in-Word c = went refl (scalars-combined _ (subst (◌≤◌ 2) c.count.ensures c.if-count-lt2.false) c.operand_at-x.ensures (sym c.is_scalar.ensures ∙ not-false _ c.if-not-is_scalar.false) c.operand_at-y.ensures (sym c.is_scalar-2.ensures ∙ not-false _ c.if-not-is_scalar-2.false) _ _ c.dyadic.ensures c.in-Word.is c.replace.ensures c.jump.ensures)

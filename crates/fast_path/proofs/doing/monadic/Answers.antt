@@ -1,0 +1,18 @@
+use Prim.Native.Nat.{◌≤◌}
+use mathlib.Core.Path.{refl, sym, subst, ◌∙◌}
+use Rattle.fast_path.proofs.Answers.{left, went}
+use Rattle.fast_path.proofs.Operating.{scalar-computed}
+use borrow.Author.Tests.{not-false}
+use Rattle.fast_path.proofs.doing.monadic.Goals as goal
+
+pub returns-then-count-lt1 : goal.returns-then-count-lt1
+returns-then-count-lt1 c = left
+
+pub returns-then-not-is_scalar : goal.returns-then-not-is_scalar
+returns-then-not-is_scalar c = left
+
+pub returns-in-Trap : goal.returns-in-Trap
+returns-in-Trap c = left
+
+pub returns-in-Word : goal.returns-in-Word
+returns-in-Word c = went refl (scalar-computed _ (subst (◌≤◌ 1) c.count.ensures c.if-count-lt1.false) c.operand_at-x.ensures (sym c.is_scalar.ensures ∙ not-false _ c.if-not-is_scalar.false) _ _ c.monadic.ensures c.in-Word.is c.replace.ensures c.jump.ensures)

@@ -1,0 +1,9 @@
+use Prim.Native.Nat.{◌-◌}
+use Rattle.imports.proofs.write.write_number.Given as goal
+
+-- ---- the answers
+abbrev pub invariant-loop-groups : goal.invariant-loop-groups
+invariant-loop-groups l = Writing l.n l.initial.out l.at l.out l.rest l.to l.groups
+
+abbrev pub decreases-loop-groups : goal.decreases-loop-groups
+decreases-loop-groups l = l.groups

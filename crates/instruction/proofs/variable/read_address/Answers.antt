@@ -1,0 +1,7 @@
+use Rattle.instruction.proofs.variable.read_address.Goals as goal
+
+pub returns-in_default : goal.returns-in_default
+returns-in_default c = simp (← c.byte.ensures, c.in_default.is)
+
+pub returns : goal.returns
+returns c = simp (← c.byte.ensures, c.in-Byte.is, ← c.family_of.ensures, ← c.address_in.ensures)

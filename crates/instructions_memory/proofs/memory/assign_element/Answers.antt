@@ -1,0 +1,26 @@
+use mathlib.Core.Path.{sym, ◌∙◌}
+use native.Mathlib.Omega.{arith}
+use Rattle.instructions_memory.proofs.Indexing.{indexed-missing, indexed-other, indexed-foreign, indexed-no-scalar, indexed-scalar, indexed-array, same-variable}
+use borrow.Author.Rules.{rules}
+use Rattle.instructions_memory.proofs.memory.assign_element.Goals as goal
+
+pub returns-then-count-rank : goal.returns-then-count-rank
+returns-then-count-rank c = indexed-missing _ _ _ _ _ (omega arith)
+
+pub returns-in_default : goal.returns-in_default
+returns-in_default c = indexed-other _ _ _ _ _ (omega (arith, c.if-count-rank.false, c.count.ensures)) (sym c.value_of.ensures ∙ c.in_default.is)
+
+pub element_in-requires : goal.element_in-requires
+element_in-requires c = ((search rules, search rules, search rules, search rules), indexed-array _ c.args.next.0 _ _ _ (omega arith) _ (sym c.value_of.ensures ∙ c.in-Value.is) _ _ _ c.in-Words.is c.take_scalars.ensures c.in-Array.is c.requires.3)
+
+pub returns-in-Foreign : goal.returns-in-Foreign
+returns-in-Foreign c = indexed-foreign _ _ _ _ _ (omega arith) _ (sym c.value_of.ensures ∙ c.in-Value.is) _ _ c.in-Foreign.is c.take_scalars.ensures
+
+pub returns-in-NoScalar : goal.returns-in-NoScalar
+returns-in-NoScalar c = indexed-no-scalar _ _ _ _ _ (omega arith) _ (sym c.value_of.ensures ∙ c.in-Value.is) _ _ c.in-NoScalar.is c.take_scalars.ensures
+
+pub returns-in-Scalar : goal.returns-in-Scalar
+returns-in-Scalar c = indexed-scalar _ _ _ _ _ (omega arith) _ (sym c.value_of.ensures ∙ c.in-Value.is) _ _ _ c.in-Words.is c.take_scalars.ensures c.in-Scalar.is
+
+pub returns-in-Array : goal.returns-in-Array
+returns-in-Array c = c.element_in.ensures ∙ same-variable _ _ _ _ _ c.requires.3

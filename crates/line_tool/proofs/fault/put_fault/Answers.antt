@@ -1,0 +1,5 @@
+use Rattle.line_tool.proofs.Entries.{fault-written}
+use Rattle.line_tool.proofs.fault.put_fault.Goals as goal
+
+pub returns : goal.returns
+returns c = fault-written _ _ _ _ c.line_of.ensures c.put_line.ensures

@@ -1,0 +1,7 @@
+use Rattle.line_tool.proofs.Places.{after-bounds}
+use Rattle.line_tool.specs.Tokens.{line_end}
+use Rattle.line_tool.proofs.tokens.line_end.Goals as goal
+
+pub returns : goal.returns
+unfolding line_end
+returns c = (simp (← c.after_all.ensures), rw c.after_all.ensures (after-bounds _ _ _))

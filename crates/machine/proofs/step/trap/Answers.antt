@@ -1,0 +1,7 @@
+use mathlib.Core.Path.{◌∙◌}
+use native.Mathlib.Omega.{arith}
+use Rattle.machine.proofs.Stepping.{trap-set}
+use Rattle.machine.proofs.step.trap.Goals as goal
+
+pub returns : goal.returns
+returns c = let a = c.args in (cc) ∙ trap-set a.seg.now a.class a.number (omega arith) (omega arith)

@@ -1,0 +1,4 @@
+use Rattle.procedure.proofs.bytes.half_at.Goals as goal
+
+pub returns : goal.returns
+returns c = simp (← c.byte_at.ensures, ← c.byte_at-2.ensures)

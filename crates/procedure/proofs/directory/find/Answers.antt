@@ -1,0 +1,7 @@
+use Rattle.procedure.proofs.directory.find.Goals as goal
+
+pub returns-then-has_function : goal.returns-then-has_function
+returns-then-has_function c = simp (← c.has_function.ensures, c.if-has_function.true, ← c.start_of-start.ensures, ← c.header_at.ensures)
+
+pub returns : goal.returns
+returns c = simp (← c.has_function.ensures, c.if-has_function.false)

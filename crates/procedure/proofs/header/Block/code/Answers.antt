@@ -1,0 +1,12 @@
+use Rattle.procedure.proofs.Parts.{part-whole, part-rest, part_none}
+use native.Mathlib.Omega.{arith}
+use Rattle.procedure.proofs.header.Block.code.Goals as goal
+
+pub returns-then-end-all : goal.returns-then-end-all
+returns-then-end-all c = cc (part-whole c.args.p.now c.first_byte-start.result c.code_end.result)
+
+pub returns-then-start-all : goal.returns-then-start-all
+returns-then-start-all c = cc (part-rest c.args.p.now c.first_byte-start.result c.code_end.result (omega arith))
+
+pub returns : goal.returns
+returns c = cc (part_none c.args.p.now c.first_byte-start.result c.code_end.result _ (omega arith))

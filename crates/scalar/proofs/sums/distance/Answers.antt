@@ -1,0 +1,8 @@
+use Rattle.std.proofs.Common.{le-ltb, lt-ltb}
+use Rattle.scalar.proofs.sums.distance.Goals as goal
+
+pub returns-then-x-lt9223372036854775808 : goal.returns-then-x-lt9223372036854775808
+returns-then-x-lt9223372036854775808 c = simp (lt-ltb _ _ c.if-x-lt9223372036854775808.true)
+
+pub returns-else-x-lt9223372036854775808 : goal.returns-else-x-lt9223372036854775808
+returns-else-x-lt9223372036854775808 c = simp (le-ltb _ _ c.if-x-lt9223372036854775808.false)

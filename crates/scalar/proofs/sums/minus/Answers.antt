@@ -1,0 +1,6 @@
+use Rattle.scalar.specs.Operators.{plus, minus}
+use Rattle.scalar.proofs.sums.minus.Goals as goal
+
+pub returns : goal.returns
+unfolding minus
+returns c = c.plus.ensures

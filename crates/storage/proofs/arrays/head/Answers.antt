@@ -1,0 +1,4 @@
+use Rattle.storage.proofs.arrays.head.Goals as goal
+
+pub returns : goal.returns
+returns c = cc
