@@ -11,18 +11,18 @@ blocks_test-requires c = let a = c.args in
 pub judge_marked-requires : goal.judge_marked-requires
 judge_marked-requires c = let a = c.args in
     let h = c.requires in
-    let k = proper a.seg.now c.blocks_test.ensures.0 _ c.in-Proper.is in
+    let k = proper a.seg.now c.blocks_test.ensures.value _ c.in-Proper.is in
     record {
       head = h.0;
       blocks = k.0;
       longest = h.1;
       long = omega (arith, h.3.long);
       frees = k.1;
-      marked = c.blocks_test.ensures.1 k.0;
+      marked = c.blocks_test.ensures.marked k.0;
     }
 
 pub returns-in-Improper : goal.returns-in-Improper
 returns-in-Improper c = let a = c.args in
     let h = c.requires in
     table-14 a.seg.now a.regular.now a.alternate.now h.0
-    (improper a.seg.now c.blocks_test.ensures.0 c.in-Improper.is)
+    (improper a.seg.now c.blocks_test.ensures.value c.in-Improper.is)

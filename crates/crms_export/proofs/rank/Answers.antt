@@ -4,4 +4,4 @@ use Rattle.crms_export.proofs.Numbers.{shape-short}
 use Rattle.crms_export.proofs.rank.Goals as goal
 
 pub returns : goal.returns
-returns c = (ap length c.lengths.ensures, rw c.lengths.ensures (shape-short _ _))
+returns c = record { value = ap length c.lengths.ensures; upper_bound = rw c.lengths.ensures (shape-short _ _) }

@@ -11,7 +11,7 @@ pub jump_to-requires : goal.jump_to-requires
 jump_to-requires c = c.after.ensures ∙ ap (λ (sub : EtcSuboperation). next_after c.args.place (etc_length sub)) (sym c.etc_of.ensures ∙ c.in-Jump.is)
 
 pub constant_scalar-requires : goal.constant_scalar-requires
-constant_scalar-requires c = (search rules, c.after-in-ConstantScalar.ensures ∙ ap (λ (sub : EtcSuboperation). next_after c.args.place (etc_length sub)) (sym c.etc_of.ensures ∙ c.in-ConstantScalar.is))
+constant_scalar-requires c = record { seg_len_bound = search rules; next_value = c.after-in-ConstantScalar.ensures ∙ ap (λ (sub : EtcSuboperation). next_after c.args.place (etc_length sub)) (sym c.etc_of.ensures ∙ c.in-ConstantScalar.is) }
 
 pub returns-in-Jump : goal.returns-in-Jump
 returns-in-Jump c = λ f. λ of. etc-by _ f _ _ (sym c.etc_of.ensures ∙ c.in-Jump.is) (c.jump_to.ensures f of)

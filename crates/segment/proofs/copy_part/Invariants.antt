@@ -6,7 +6,7 @@ use Rattle.segment.specs.Blocks.{part}
 use Rattle.segment.proofs.copy_part.Given as goal
 
 abbrev pub invariant-loop-i : goal.invariant-loop-i
-invariant-loop-i l = (l.i ≤ l.initial.seg) × (length l.seg ≡ length l.from) × (l.seg ≡ sets l.from l.n (part l.from l.to l.i))
+invariant-loop-i l = (l.i ≤ l.n) × (length l.seg ≡ length l.initial.seg) × (l.seg ≡ sets l.initial.seg l.to (part l.initial.seg l.from l.i))
 
 abbrev pub decreases-loop-i : goal.decreases-loop-i
-decreases-loop-i l = l.initial.seg - l.i
+decreases-loop-i l = l.n - l.i

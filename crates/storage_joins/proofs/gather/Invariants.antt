@@ -6,7 +6,7 @@ use Rattle.segment.specs.Blocks.{part}
 use Rattle.storage_joins.proofs.gather.Given as goal
 
 abbrev pub invariant-loop-i : goal.invariant-loop-i
-invariant-loop-i l = (l.i ≤ l.initial.out) × (length l.out ≡ length l.at) × (l.out ≡ sets l.at l.start (part l.seg l.n l.i))
+invariant-loop-i l = (l.i ≤ l.n) × (length l.out ≡ length l.initial.out) × (l.out ≡ sets l.initial.out l.at (part l.seg l.start l.i))
 
 abbrev pub decreases-loop-i : goal.decreases-loop-i
-decreases-loop-i l = l.initial.out - l.i
+decreases-loop-i l = l.n - l.i

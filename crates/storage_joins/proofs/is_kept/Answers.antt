@@ -14,7 +14,7 @@ pub returns-then-touches-2 : goal.returns-then-touches-2
 returns-then-touches-2 c = kept_block c.args.seg.now c.args.f.0 c.args.part (omega (arith, c.if-seg-index.false, c.index.ensures)) (sym c.touches.ensures ∙ c.if-touches.false) (rw (c.index-2.ensures, c.index-3.ensures, c.size_at.ensures) at (sym c.touches-2.ensures ∙ c.if-touches-2.true))
 
 pub returns-then-touches-3 : goal.returns-then-touches-3
-returns-then-touches-3 c = kept_next c.args.seg.now c.args.f.0 c.args.part (omega (arith, c.if-seg-index.false, c.index.ensures)) (sym c.touches.ensures ∙ c.if-touches.false) (rw (c.index-2.ensures, c.index-3.ensures, c.size_at.ensures) at (sym c.touches-2.ensures ∙ c.if-touches-2.false)) (rw (c.index-next.ensures, c.next_at.ensures.0) at (sym c.touches-3.ensures ∙ c.if-touches-3.true))
+returns-then-touches-3 c = kept_next c.args.seg.now c.args.f.0 c.args.part (omega (arith, c.if-seg-index.false, c.index.ensures)) (sym c.touches.ensures ∙ c.if-touches.false) (rw (c.index-2.ensures, c.index-3.ensures, c.size_at.ensures) at (sym c.touches-2.ensures ∙ c.if-touches-2.false)) (rw (c.index-next.ensures, c.next_at.ensures.result_value) at (sym c.touches-3.ensures ∙ c.if-touches-3.true))
 
 pub returns : goal.returns
-returns c = ap not (rw (c.index-last.ensures, c.last_at.ensures.0) at c.touches-4.ensures) ∙ kept-last c.args.seg.now c.args.f.0 c.args.part (omega (arith, c.if-seg-index.false, c.index.ensures)) (sym c.touches.ensures ∙ c.if-touches.false) (rw (c.index-2.ensures, c.index-3.ensures, c.size_at.ensures) at (sym c.touches-2.ensures ∙ c.if-touches-2.false)) (rw (c.index-next.ensures, c.next_at.ensures.0) at (sym c.touches-3.ensures ∙ c.if-touches-3.false))
+returns c = ap not (rw (c.index-last.ensures, c.last_at.ensures.result_value) at c.touches-4.ensures) ∙ kept-last c.args.seg.now c.args.f.0 c.args.part (omega (arith, c.if-seg-index.false, c.index.ensures)) (sym c.touches.ensures ∙ c.if-touches.false) (rw (c.index-2.ensures, c.index-3.ensures, c.size_at.ensures) at (sym c.touches-2.ensures ∙ c.if-touches-2.false)) (rw (c.index-next.ensures, c.next_at.ensures.result_value) at (sym c.touches-3.ensures ∙ c.if-touches-3.false))

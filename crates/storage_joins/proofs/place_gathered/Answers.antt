@@ -8,5 +8,4 @@ pub slice_bounds-place-end-2 : goal.slice_bounds-place-end-2
 slice_bounds-place-end-2 c = sym (length-take-le _ _ (omega arith))
 
 pub returns : goal.returns
-returns c = let e = gathered c.args.seg.now c.args.first c.args.second c.args.scratch.now c.gather.ensures c.gather-2.ensures c.requires in
-    (rw e at c.place.ensures.0, rw e at c.place.ensures.1)
+returns c = let e = gathered c.args.seg.now c.args.first c.args.second c.args.scratch.now c.gather.ensures c.gather-2.ensures c.requires in record { value = rw e at c.place.ensures.value; seg_after = rw e at c.place.ensures.seg_after }

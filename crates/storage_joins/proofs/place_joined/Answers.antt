@@ -8,14 +8,12 @@ use borrow.Author.Rules.{rules}
 use Rattle.storage_joins.proofs.place_joined.Goals as goal
 
 pub returns-then-number-eq0 : goal.returns-then-number-eq0
-returns-then-number-eq0 c = let a = c.args in
-    place_none a.seg.now a.shape.now (part_of a.seg.now a.first ++ part_of a.seg.now a.second) _ _
-    (joined-need a.seg.now a.shape.now a.first a.second) c.find-f.ensures.0 (sym c.number.ensures ∙ c.if-number-eq0.true)
+returns-then-number-eq0 c = let a = c.args in let answer = place_none a.seg.now a.shape.now (part_of a.seg.now a.first ++ part_of a.seg.now a.second) _ _
+    (joined-need a.seg.now a.shape.now a.first a.second) c.find-f.ensures.result_value (sym c.number.ensures ∙ c.if-number-eq0.true) in record { value = answer.0; seg_after = answer.1 }
 
 pub join-requires : goal.join-requires
-join-requires c = (search rules, find-room _ _ _ c.find-f.ensures.0 (λ z. c.if-number-eq0.false (c.number.ensures ∙ z)), (cc))
+join-requires c = (search rules, find-room _ _ _ c.find-f.ensures.result_value (λ z. c.if-number-eq0.false (c.number.ensures ∙ z)), (cc))
 
 pub returns-then-is_straight : goal.returns-then-is_straight
-returns-then-is_straight c = let a = c.args in
-    place-given a.seg.now a.shape.now (part_of a.seg.now a.first ++ part_of a.seg.now a.second) _ _
-    (joined-need a.seg.now a.shape.now a.first a.second) c.find-f.ensures.0 (λ z. c.if-number-eq0.false (c.number.ensures ∙ z)) _ c.join.ensures.0 c.join.ensures.1
+returns-then-is_straight c = let a = c.args in let answer = place-given a.seg.now a.shape.now (part_of a.seg.now a.first ++ part_of a.seg.now a.second) _ _
+    (joined-need a.seg.now a.shape.now a.first a.second) c.find-f.ensures.result_value (λ z. c.if-number-eq0.false (c.number.ensures ∙ z)) _ c.join.ensures.result_value c.join.ensures.seg_after in record { value = answer.0; seg_after = answer.1 }

@@ -62,5 +62,5 @@ pub returns : goal.returns
 returns c = all-added c.loop-left.invariant
     (⊎_elim (λ k. inl k.left) (λ k. inr (k.0.taken, k.1.taken)) c.loop-left-test.branch)
     (c.number-from.ensures ∙ c.blockptr.ensures)
-    (c.number-end.ensures ∙ c.dummy.ensures.0)
+    (c.number-end.ensures ∙ c.dummy.ensures.result_value)
     (c.minus.ensures ∙ rw (c.number.ensures ∙ c.sbase.ensures))

@@ -12,11 +12,11 @@ pub shape_of-arrays-then-not-plain_cells : goal.shape_of-arrays-then-not-plain_c
 shape_of-arrays-then-not-plain_cells c = c.arrays-1.given
 
 pub returns-then-not-plain_cells : goal.returns-then-not-plain_cells
-returns-then-not-plain_cells c = (
+returns-then-not-plain_cells c = let answer = (
   sym (globals-wrong c.requires (c.index-end.ensures ∙ c.blockptr.ensures)
       c.plain_cells.ensures (not-true _ c.if-not-plain_cells.true)),
   never,
-)
+) in record { value = answer.0; met = answer.1 }
 
 pub mark_variables-requires : goal.mark_variables-requires
 mark_variables-requires c = base-low c.requires (c.index-end.ensures ∙ c.blockptr.ensures)
@@ -38,10 +38,10 @@ pub shape_of-marks : goal.shape_of-marks
 shape_of-marks c = c.marks-2-1.given ∙ c.marks-1.given
 
 pub returns : goal.returns
-returns c = all-cells c.requires
+returns c = let answer = all-cells c.requires
     (c.index-end.ensures
     ∙ c.blockptr.ensures)
     c.plain_cells.ensures (not-false _ c.if-not-plain_cells.false) c.lbase-base.ensures
     c.number.ensures
     (c.number-top.ensures
-    ∙ c.ltop.ensures) c.cells_from.ensures
+    ∙ c.ltop.ensures) c.cells_from.ensures in record { value = answer.0; met = answer.1 }

@@ -11,11 +11,11 @@ pub shape_of-arrays-then-not-free_cells : goal.shape_of-arrays-then-not-free_cel
 shape_of-arrays-then-not-free_cells c = c.arrays-1.given
 
 pub returns-then-not-free_cells : goal.returns-then-not-free_cells
-returns-then-not-free_cells c = (
+returns-then-not-free_cells c = let answer = (
   temporaries-fail c.requires (c.index-stack.ensures ∙ c.sbase.ensures)
       c.free_cells.ensures (not-true _ c.if-not-free_cells.true),
   (never, (never, never)),
-)
+) in record { value = answer.0; gains = answer.1.0; met = answer.1.1.0; can_rise = answer.1.1.1 }
 
 pub unmark-requires : goal.unmark-requires
 unmark-requires c = rw (c.of.ensures, c.of-2.ensures)
@@ -39,8 +39,7 @@ returns-then-not-free_cells-2 c = let fails = arguments-fail c.requires
     ∙ c.sbase.ensures)
     c.free_cells.ensures (not-false _ c.if-not-free_cells.false)
     c.of.ensures c.of-2.ensures c.unmark.ensures c.free_cells-2.ensures
-    (not-true _ c.if-not-free_cells-2.true) in
-    (fails, (never, (never, never)))
+    (not-true _ c.if-not-free_cells-2.true) in record { value = fails; gains = never; met = never; can_rise = never }
 
 pub plain_cells-requires : goal.plain_cells-requires
 plain_cells-requires c = locals-room c.requires
@@ -58,10 +57,10 @@ pub shape_of-marks : goal.shape_of-marks
 shape_of-marks c = c.marks-1.given
 
 pub returns : goal.returns
-returns c = frame-done c.requires
+returns c = let answer = frame-done c.requires
     (c.index-stack.ensures
     ∙ c.sbase.ensures)
     c.free_cells.ensures (not-false _ c.if-not-free_cells.false)
     c.of.ensures c.of-2.ensures c.unmark.ensures
     c.free_cells-2.ensures
-    (not-false _ c.if-not-free_cells-2.false) c.plain_cells.ensures
+    (not-false _ c.if-not-free_cells-2.false) c.plain_cells.ensures in record { value = answer.0; gains = answer.1.0; met = answer.1.1.0; can_rise = answer.1.1.1 }

@@ -8,10 +8,10 @@ pub counts_from-requires : goal.counts_from-requires
 unfolding array_starts
 counts_from-requires c = (
   search rules,
-  rw (c.number-2.ensures, c.dummy.ensures.0, c.number.ensures, c.blockptr.ensures)
+  rw (c.number-2.ensures, c.dummy.ensures.result_value, c.number.ensures, c.blockptr.ensures)
       c.requires,
 )
 
 pub returns : goal.returns
 returns c = c.counts_from.ensures ∙ counts-are _ _ _ (c.number.ensures ∙ c.blockptr.ensures)
-    (c.number-2.ensures ∙ c.dummy.ensures.0)
+    (c.number-2.ensures ∙ c.dummy.ensures.result_value)

@@ -5,8 +5,7 @@ use Rattle.acceptance_storage.proofs.blocks.blocks_test.Goals as goal
 
 pub returns-then-word-ne0 : goal.returns-then-word-ne0
 returns-then-word-ne0 c = let s = c.args.seg.now in
-    let end = ap (λ (n : ℕ). n - 3) (c.index-end.ensures ∙ c.sbase.ensures) in
-    improper s _ _ (dummy-bad s _ end (λ z. c.if-word-ne0.true (c.word.ensures ∙ z)))
+    let end = ap (λ (n : ℕ). n - 3) (c.index-end.ensures ∙ c.sbase.ensures) in let answer = improper s _ _ (dummy-bad s _ end (λ z. c.if-word-ne0.true (c.word.ensures ∙ z))) in record { value = answer.0; marked = answer.1 }
 
 pub walk-requires : goal.walk-requires
 walk-requires c = let h = c.requires in

@@ -10,18 +10,17 @@ pub loop-left-init : goal.loop-left-init
 loop-left-init c = (refl, round-start _ _ _ _ _ c.requires.0 c.requires.1)
 
 pub returns-then-not-linked_to : goal.returns-then-not-linked_to
-returns-then-not-linked_to c = let unlinked = sym c.linked_to.ensures ∙ not-true _ c.if-not-linked_to.true in (
+returns-then-not-linked_to c = let unlinked = sym c.linked_to.ensures ∙ not-true _ c.if-not-linked_to.true in let answer = (
   sym (round-bad _ _ _ _ _ _ c.loop-left.invariant.1 c.loop-left-test.true _
-      c.next_at-next.ensures.0 unlinked),
+      c.next_at-next.ensures.result_value unlinked),
   λ t. absurd (never t),
-)
+) in record { value = answer.0; tally = answer.1 }
 
 pub returns-then-mark_at-eq0 : goal.returns-then-mark_at-eq0
 returns-then-mark_at-eq0 c = let l = c.loop-left in
     let linked = sym c.linked_to.ensures ∙ not-false _ c.if-not-linked_to.false in
-    let none = round-missing _ _ _ _ _ _ l.invariant.1 c.loop-left-test.true _ c.next_at-next.ensures.0 linked
-    c.index-place.ensures c.mark_at.ensures c.if-mark_at-eq0.true in
-    (sym none, λ t. absurd (never t))
+    let none = round-missing _ _ _ _ _ _ l.invariant.1 c.loop-left-test.true _ c.next_at-next.ensures.result_value linked
+    c.index-place.ensures c.mark_at.ensures c.if-mark_at-eq0.true in record { value = sym none; tally = λ t. absurd (never t) }
 
 pub lower-requires : goal.lower-requires
 lower-requires c = omega (arith, c.mark_at.ensures)
@@ -30,14 +29,14 @@ pub loop-left-preserved : goal.loop-left-preserved
 loop-left-preserved c = let l = c.loop-left in
     let linked = sym c.linked_to.ensures ∙ not-false _ c.if-not-linked_to.false in
     let on = round-on _ _ _ _ _ _ l.invariant.1 c.loop-left-test.true _
-    c.next_at-next.ensures.0 linked
+    c.next_at-next.ensures.result_value linked
     c.index-place.ensures c.mark_at.ensures c.if-mark_at-eq0.false
     c.lower.ensures in
     (search rules, on)
 
 pub returns : goal.returns
-returns c = (
+returns c = let answer = (
   c.linked_to-2.ensures ∙ sym (round-last _ _ _ _ _ _ c.loop-left.invariant.1 (omega arith)),
   λ t. round-clear _ _ _ _ _ _
       c.loop-left.invariant.1 (omega arith),
-)
+) in record { value = answer.0; tally = answer.1 }

@@ -10,4 +10,4 @@ pub copy-requires : goal.copy-requires
 copy-requires c = sym (length-take-le _ _ (omega arith))
 
 pub returns : goal.returns
-returns c = (refl, rw c.copy.ensures (take_at c.args.from.now _ _ refl))
+returns c = record { value = refl; to_after = rw c.copy.ensures (take_at c.args.from.now _ _ refl) }

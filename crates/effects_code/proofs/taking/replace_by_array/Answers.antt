@@ -5,23 +5,22 @@ use Rattle.effects_code.proofs.Placing.{long_kept, none_kept, found-done, replac
 use Rattle.effects_code.proofs.taking.replace_by_array.Goals as goal
 
 pub returns-then-shape-ravel-gt16384 : goal.returns-then-shape-ravel-gt16384
-returns-then-shape-ravel-gt16384 c = let a = c.args in long_kept a.seg.now a.shape.now a.ravel.now _ refl (omega arith)
+returns-then-shape-ravel-gt16384 c = let a = c.args in let answer = long_kept a.seg.now a.shape.now a.ravel.now _ refl (omega arith) in record { value = answer.0; seg_after = answer.1 }
 
 pub array-requires : goal.array-requires
 array-requires c = let a = c.args in
-    block-below a.seg.now c.slice_known-1.given a.shape.now a.ravel.now c.in-At.block (sym c.place.ensures.0 ∙ c.in-At.is)
+    block-below a.seg.now c.slice_known-1.given a.shape.now a.ravel.now c.in-At.block (sym c.place.ensures.value ∙ c.in-At.is)
 
 pub returns-in-Full : goal.returns-in-Full
 returns-in-Full c = let a = c.args in
-    let kept = none_kept a.seg.now a.shape.now a.ravel.now (replaces a.n (made a.shape.now a.ravel.now)) refl (sym c.place.ensures.0 ∙ c.in-Full.is) in
-    (kept.0, c.place.ensures.1 ∙ kept.1)
+    let kept = none_kept a.seg.now a.shape.now a.ravel.now (replaces a.n (made a.shape.now a.ravel.now)) refl (sym c.place.ensures.value ∙ c.in-Full.is) in record { value = kept.0; seg_after = c.place.ensures.seg_after ∙ kept.1 }
 
 pub returns-in-At : goal.returns-in-At
 returns-in-At c = let a = c.args in
     let block = c.block-1.given in
-    let at = sym c.place.ensures.0 ∙ block.1 in
-    let done = found-done a.seg.now a.shape.now a.ravel.now (replaces a.n (made a.shape.now a.ravel.now)) refl block.0.0 (omega arith) at in (
+    let at = sym c.place.ensures.value ∙ block.1 in
+    let done = found-done a.seg.now a.shape.now a.ravel.now (replaces a.n (made a.shape.now a.ravel.now)) refl block.0.0 (omega arith) at in let answer = (
       done.0,
-      rw (c.take.ensures, c.word.ensures, c.array.ensures, c.place.ensures.1, c.bottom-b.ensures)
+      rw (c.take.ensures, c.word.ensures, c.array.ensures, c.place.ensures.seg_after, c.bottom-b.ensures)
           (replace-block _ _ _ block.0.0 at _ ∙ done.1),
-    )
+    ) in record { value = answer.0; seg_after = answer.1 }

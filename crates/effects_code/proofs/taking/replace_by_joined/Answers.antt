@@ -8,22 +8,21 @@ use Rattle.effects_code.proofs.Placing.{long_kept, none_kept, found-done, replac
 use Rattle.effects_code.proofs.taking.replace_by_joined.Goals as goal
 
 pub returns-then-shape-first-gt16384 : goal.returns-then-shape-first-gt16384
-returns-then-shape-first-gt16384 c = let a = c.args in long_kept a.seg.now a.shape.now (part_of a.seg.now a.first ++ part_of a.seg.now a.second) _ refl (omega (arith, joined-need a.seg.now a.shape.now a.first a.second, c.if-shape-first-gt16384.true))
+returns-then-shape-first-gt16384 c = let a = c.args in let answer = long_kept a.seg.now a.shape.now (part_of a.seg.now a.first ++ part_of a.seg.now a.second) _ refl (omega (arith, joined-need a.seg.now a.shape.now a.first a.second, c.if-shape-first-gt16384.true)) in record { value = answer.0; seg_after = answer.1 }
 
 pub array-requires : goal.array-requires
-array-requires c = let a = c.args in block-below a.seg.now c.slice_known-1.given a.shape.now (part_of a.seg.now a.first ++ part_of a.seg.now a.second) c.in-At.block (sym c.place_joined.ensures.0 ∙ c.in-At.is)
+array-requires c = let a = c.args in block-below a.seg.now c.slice_known-1.given a.shape.now (part_of a.seg.now a.first ++ part_of a.seg.now a.second) c.in-At.block (sym c.place_joined.ensures.value ∙ c.in-At.is)
 
 pub returns-in-Full : goal.returns-in-Full
 returns-in-Full c = let a = c.args in
-    let kept = none_kept a.seg.now a.shape.now (part_of a.seg.now a.first ++ part_of a.seg.now a.second) (replaces a.n (made a.shape.now (part_of a.seg.now a.first ++ part_of a.seg.now a.second))) refl (sym c.place_joined.ensures.0 ∙ c.in-Full.is) in
-    (kept.0, c.place_joined.ensures.1 ∙ kept.1)
+    let kept = none_kept a.seg.now a.shape.now (part_of a.seg.now a.first ++ part_of a.seg.now a.second) (replaces a.n (made a.shape.now (part_of a.seg.now a.first ++ part_of a.seg.now a.second))) refl (sym c.place_joined.ensures.value ∙ c.in-Full.is) in record { value = kept.0; seg_after = c.place_joined.ensures.seg_after ∙ kept.1 }
 
 pub returns-in-At : goal.returns-in-At
 returns-in-At c = let a = c.args in
     let block = c.block-1.given in
-    let at = sym c.place_joined.ensures.0 ∙ block.1 in
-    let done = found-done a.seg.now a.shape.now (part_of a.seg.now a.first ++ part_of a.seg.now a.second) (replaces a.n (made a.shape.now (part_of a.seg.now a.first ++ part_of a.seg.now a.second))) refl block.0.0 (omega (arith, joined-need a.seg.now a.shape.now a.first a.second, c.if-shape-first-gt16384.false)) at in (
+    let at = sym c.place_joined.ensures.value ∙ block.1 in
+    let done = found-done a.seg.now a.shape.now (part_of a.seg.now a.first ++ part_of a.seg.now a.second) (replaces a.n (made a.shape.now (part_of a.seg.now a.first ++ part_of a.seg.now a.second))) refl block.0.0 (omega (arith, joined-need a.seg.now a.shape.now a.first a.second, c.if-shape-first-gt16384.false)) at in let answer = (
       done.0,
-      rw (c.take.ensures, c.word.ensures, c.array.ensures, c.place_joined.ensures.1, c.bottom-b.ensures)
+      rw (c.take.ensures, c.word.ensures, c.array.ensures, c.place_joined.ensures.seg_after, c.bottom-b.ensures)
           (replace-block a.seg.now a.shape.now (part_of a.seg.now a.first ++ part_of a.seg.now a.second) block.0.0 at a.n ∙ done.1),
-    )
+    ) in record { value = answer.0; seg_after = answer.1 }

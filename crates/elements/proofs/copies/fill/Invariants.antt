@@ -5,7 +5,7 @@ use Rattle.elements.proofs.Filling.{Filled}
 use Rattle.elements.proofs.copies.fill.Given as goal
 
 abbrev pub invariant-loop-i : goal.invariant-loop-i
-invariant-loop-i l = (l.i ≤ l.initial.to) × (l.initial.to ≡ length l.n) × (length l.to ≡ length l.n) × Filled (replicate l.initial.to l.w) l.n l.to l.i
+invariant-loop-i l = (l.i ≤ l.n) × (l.n ≡ length l.initial.to) × (length l.to ≡ length l.initial.to) × Filled (replicate l.n l.w) l.initial.to l.to l.i
 
 abbrev pub decreases-loop-i : goal.decreases-loop-i
-decreases-loop-i l = l.initial.to - l.i
+decreases-loop-i l = l.n - l.i

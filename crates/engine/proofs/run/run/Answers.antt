@@ -1,4 +1,4 @@
 use Rattle.engine.proofs.run.run.Goals as goal
 
 pub returns : goal.returns
-returns c = rw c.manual_table-table.ensures at c.run_with.ensures
+returns c = let answer = rw c.manual_table-table.ensures at c.run_with.ensures in record { seg_after = answer.0; promised = answer.1 }

@@ -5,7 +5,7 @@ use borrow.Author.Rules.{rules}
 use Rattle.engine.proofs.run.run_tallied.Goals as goal
 
 pub returns-then-refused-ne0 : goal.returns-then-refused-ne0
-returns-then-refused-ne0 c = let a = c.args in unaccepted _ _ a.budget a.counts.now _ c.run_refusal-refused.ensures c.if-refused-ne0.true
+returns-then-refused-ne0 c = let a = c.args in let answer = unaccepted _ _ a.budget a.counts.now _ c.run_refusal-refused.ensures c.if-refused-ne0.true in record { seg_after = answer.0; promised = answer.1.0; counts_after = answer.1.1 }
 
 pub sixteen-operators-requires : goal.sixteen-operators-requires
 sixteen-operators-requires c = sixteen-places _ _ (sym c.run_refusal-refused.ensures ∙ c.if-refused-ne0.false)
@@ -15,12 +15,10 @@ run-requires c = let h = short-enough _ _ (sym c.run_refusal-refused.ensures ∙
 
 pub returns-in-Done : goal.returns-in-Done
 returns-in-Done c = let answered = c.run.ensures in
-    let lent = c.sixteen-operators.ensures in
-    has_ended _ _ _ _ (sym c.if-refused-ne0.false ∙ c.run_refusal-refused.ensures) _ _ _ c.put.ensures _ (Done c.in-Done.steps)
-    c.in-Done.is (rw lent at answered.0) (rw lent at answered.1)
+    let lent = c.sixteen-operators.ensures in let answer = has_ended _ _ _ _ (sym c.if-refused-ne0.false ∙ c.run_refusal-refused.ensures) _ _ _ c.put.ensures _ (Done c.in-Done.steps)
+    c.in-Done.is (rw lent at answered.0) (rw lent at answered.1) in record { seg_after = answer.0; promised = answer.1.0; counts_after = answer.1.1 }
 
 pub returns-in-Trapped : goal.returns-in-Trapped
 returns-in-Trapped c = let answered = c.run.ensures in
-    let lent = c.sixteen-operators.ensures in
-    has_ended _ _ _ _ (sym c.if-refused-ne0.false ∙ c.run_refusal-refused.ensures) _ _ _ c.put.ensures _ (Trapped c.in-Trapped.steps)
-    c.in-Trapped.is (rw lent at answered.0) (rw lent at answered.1)
+    let lent = c.sixteen-operators.ensures in let answer = has_ended _ _ _ _ (sym c.if-refused-ne0.false ∙ c.run_refusal-refused.ensures) _ _ _ c.put.ensures _ (Trapped c.in-Trapped.steps)
+    c.in-Trapped.is (rw lent at answered.0) (rw lent at answered.1) in record { seg_after = answer.0; promised = answer.1.0; counts_after = answer.1.1 }

@@ -4,7 +4,7 @@ use lib.ListN.{length}
 use Rattle.engine_cases.proofs.lent.put_bytes.Given as goal
 
 abbrev pub invariant-loop-i : goal.invariant-loop-i
-invariant-loop-i l = length l.bytes ≡ length l.numbers
+invariant-loop-i l = length l.bytes ≡ length l.initial.bytes
 
 abbrev pub decreases-loop-i : goal.decreases-loop-i
-decreases-loop-i l = length l.initial.bytes - l.i
+decreases-loop-i l = length l.numbers - l.i

@@ -43,7 +43,7 @@ pub loop-groups-init : goal.loop-groups-init
 loop-groups-init c = start
 
 pub returns-then-rest-lt128 : goal.returns-then-rest-lt128
-returns-then-rest-lt128 c = last c.loop-groups.invariant (c.loop-groups.groups - 1) (omega arith) (omega arith)
+returns-then-rest-lt128 c = let answer = last c.loop-groups.invariant (c.loop-groups.groups - 1) (omega arith) (omega arith) in record { out_after = answer.0; value = answer.1 }
 
 pub loop-groups-preserved : goal.loop-groups-preserved
 loop-groups-preserved c = more c.loop-groups.invariant (c.loop-groups.groups - 1) (omega arith) (omega arith)
@@ -52,4 +52,4 @@ pub shape_of-out : goal.shape_of-out
 shape_of-out c = c.loop-groups.invariant.as_long
 
 pub returns : goal.returns
-returns c = none c.loop-groups.invariant (omega arith)
+returns c = let answer = none c.loop-groups.invariant (omega arith) in record { out_after = answer.0; value = answer.1 }

@@ -3,7 +3,7 @@ use Rattle.imports.proofs.write.write_number.Given as goal
 
 -- ---- the answers
 abbrev pub invariant-loop-groups : goal.invariant-loop-groups
-invariant-loop-groups l = Writing l.n l.initial.out l.at l.out l.rest l.to l.groups
+invariant-loop-groups l = Writing l.n l.at l.initial.out l.out l.rest l.to l.groups
 
 abbrev pub decreases-loop-groups : goal.decreases-loop-groups
 decreases-loop-groups l = l.groups

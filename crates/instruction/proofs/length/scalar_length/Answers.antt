@@ -12,7 +12,9 @@ abbrev by : ℕ → Length
 by number = scalar_length (operator_of number)
 
 pub returns-then-number-lt16 : goal.returns-then-number-lt16
+unfolding operator_of
 returns-then-number-lt16 c = sym (length_from by (Fixed 1) 0 15 refl c.args.number (omega arith) (omega arith))
 
 pub returns : goal.returns
+unfolding operator_of
 returns c = sym (length_from by NoInstruction 16 255 refl c.args.number (omega arith) (omega arith))

@@ -11,7 +11,7 @@ pub returns-in_default : goal.returns-in_default
 returns-in_default c = indexed-other _ _ _ _ _ (omega (arith, c.if-count-rank.false, c.count.ensures)) (sym c.value_of.ensures ∙ c.in_default.is)
 
 pub element_in-requires : goal.element_in-requires
-element_in-requires c = ((search rules, search rules, search rules, search rules), indexed-array _ c.args.next.0 _ _ _ (omega arith) _ (sym c.value_of.ensures ∙ c.in-Value.is) _ _ _ c.in-Words.is c.take_scalars.ensures c.in-Array.is c.requires.3)
+element_in-requires c = record { seg_len_bound = (search rules, search rules, search rules, search rules); indexed = indexed-array _ c.args.next.0 _ _ _ (omega arith) _ (sym c.value_of.ensures ∙ c.in-Value.is) _ _ _ c.in-Words.is c.take_scalars.ensures c.in-Array.is c.requires.3 }
 
 pub returns-in-Foreign : goal.returns-in-Foreign
 returns-in-Foreign c = indexed-foreign _ _ _ _ _ (omega arith) _ (sym c.value_of.ensures ∙ c.in-Value.is) _ _ c.in-Foreign.is c.take_scalars.ensures

@@ -19,7 +19,7 @@ pub place-requires : goal.place-requires
 place-requires c = (length-take-le _ _ (omega arith) ∙ c.if-r-lengths.false, rw c.lengths_of-lengths.ensures (few-elements _ _ _ _ _ c.requires.indexed))
 
 pub store_at-requires : goal.store_at-requires
-store_at-requires c = (block_held _ _ _ _ _ c.requires.indexed, search rules)
+store_at-requires c = record { held = block_held _ _ _ _ _ c.requires.indexed; n_nonzero = search rules }
 
 pub returns-in-Trap : goal.returns-in-Trap
 returns-in-Trap c = outside _ _ _ _ _ c.requires.indexed _ (c.if-r-lengths.false ∙ ap length c.lengths_of-lengths.ensures) _ _ _ c.in-Trap.is (c.place.ensures ∙ rw (c.iorg.ensures, c.lengths_of-lengths.ensures))

@@ -21,8 +21,7 @@ returns-then-n-ne0 c = let a = c.args in
 
 pub repeated-requires : goal.repeated-requires
 repeated-requires c = let a = c.args in
-    let filled : values.size (held a.seg.now a.b) ≡ 0 → c.product-n.result ≡ 0 = λ none. ⊎_elim (λ w. eqb-true _ _ (not-false _ w.1.left)) (λ w. absurd (w.left (c.type_size.ensures ∙ none))) c.else-size_of-eq0.branch in
-    ((c.requires.0, search rules, search rules), (shaped-count a.lengths.now (held a.seg.now a.b) c.product-n.result c.product-n.ensures (omega arith), filled))
+    let filled : values.size (held a.seg.now a.b) ≡ 0 → c.product-n.result ≡ 0 = λ none. ⊎_elim (λ w. eqb-true _ _ (not-false _ w.1.left)) (λ w. absurd (w.left (c.type_size.ensures ∙ none))) c.else-size_of-eq0.branch in record { readable = (c.requires.0, search rules, search rules); n_value = (shaped-count a.lengths.now (held a.seg.now a.b) c.product-n.result c.product-n.ensures (omega arith), filled) }
 
 pub returns : goal.returns
 returns c = let a = c.args in

@@ -8,7 +8,7 @@ use Rattle.instructions_values.proofs.Vectors.{part-words, part-few}
 use Rattle.instructions_values.proofs.arrays.join_as.Goals as goal
 
 pub replace_by_joined-requires : goal.replace_by_joined-requires
-replace_by_joined-requires c = (omega (arith, c.slice_known-1.given 0), (part-few c.args.seg.now c.requires.1 0 c.args.a c.requires.0.first c.elements_part-first.result c.elements_part-first.ensures, part-few c.args.seg.now c.requires.1 1 c.args.b c.requires.0.second c.elements_part-second.result c.elements_part-second.ensures, c.requires.2))
+replace_by_joined-requires c = record { n_bound = omega (arith, c.slice_known-1.given 0); count_bound = (part-few c.args.seg.now c.requires.1 0 c.args.a c.requires.0.first c.elements_part-first.result c.elements_part-first.ensures, part-few c.args.seg.now c.requires.1 1 c.args.b c.requires.0.second c.elements_part-second.result c.elements_part-second.ensures, c.requires.2) }
 
 pub returns-in-Full : goal.returns-in-Full
 returns-in-Full c = let a = c.args in

@@ -22,7 +22,7 @@ unfolding plan.reshape
 returns-then-size_of-gt15 c = two-refused c.both_values.ensures c.in-Values.is (λ v w. plan.replace_by c.args.next.0 2 (values.reshape v w)) (refused-by c.args.next.0 2 (reshape-many _ _ (omega arith) (omega arith)))
 
 pub read_lengths-requires : goal.read_lengths-requires
-read_lengths-requires c = let both = c.both_values.ensures.readable _ _ c.in-Values.is in ((both.0, both.1, search rules, search rules), (omega arith, omega arith))
+read_lengths-requires c = let both = c.both_values.ensures.readable _ _ c.in-Values.is in record { readable = (both.0, both.1, search rules, search rules); a_bound = (omega arith, omega arith) }
 
 pub returns-in-Trap : goal.returns-in-Trap
 unfolding plan.reshape

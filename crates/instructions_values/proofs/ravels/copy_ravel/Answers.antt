@@ -11,7 +11,7 @@ pub keep-requires-in-Array : goal.keep-requires-in-Array
 keep-requires-in-Array c = rw c.elements_of.ensures (rw c.in-Array.is at c.requires.1)
 
 pub returns-in-Scalar : goal.returns-in-Scalar
-returns-in-Scalar c = rw c.in-Scalar.is (kept _ _ _ c.keep.ensures.0 c.keep.ensures.1)
+returns-in-Scalar c = rw c.in-Scalar.is (kept _ _ _ c.keep.ensures.value c.keep.ensures.to_after)
 
 pub returns-in-Array : goal.returns-in-Array
-returns-in-Array c = rw (c.in-Array.is, ← c.elements_of.ensures) (kept _ _ _ c.keep-in-Array.ensures.0 c.keep-in-Array.ensures.1)
+returns-in-Array c = rw (c.in-Array.is, ← c.elements_of.ensures) (kept _ _ _ c.keep-in-Array.ensures.value c.keep-in-Array.ensures.to_after)

@@ -8,4 +8,4 @@ pub keep-requires : goal.keep-requires
 keep-requires c = rw c.lengths_of.ensures (rw c.in-Array.is at c.requires.1)
 
 pub returns-in-Array : goal.returns-in-Array
-returns-in-Array c = rw (c.in-Array.is, ← c.lengths_of.ensures) (kept _ _ _ c.keep.ensures.0 c.keep.ensures.1)
+returns-in-Array c = rw (c.in-Array.is, ← c.lengths_of.ensures) (kept _ _ _ c.keep.ensures.value c.keep.ensures.to_after)

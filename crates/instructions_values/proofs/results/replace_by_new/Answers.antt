@@ -10,8 +10,8 @@ replace_by_array-requires c = omega (arith, c.slice_known-1.given 0)
 
 pub returns-in-Full : goal.returns-in-Full
 returns-in-Full c = let a = c.args in
-    rw c.replace_by_array.ensures.1 (carry-refused a.seg.now (replaces a.n (made a.lengths.now a.ravel.now)) (jumps a.next.0 ∷ []) (sym c.in-Full.is ∙ c.replace_by_array.ensures.0))
+    rw c.replace_by_array.ensures.seg_after (carry-refused a.seg.now (replaces a.n (made a.lengths.now a.ravel.now)) (jumps a.next.0 ∷ []) (sym c.in-Full.is ∙ c.replace_by_array.ensures.value))
 
 pub returns-in-Done : goal.returns-in-Done
 returns-in-Done c = let a = c.args in
-    rw (c.jump.ensures, c.replace_by_array.ensures.1) (carry-served a.seg.now (replaces a.n (made a.lengths.now a.ravel.now)) (jumps a.next.0 ∷ []) (sym c.in-Done.is ∙ c.replace_by_array.ensures.0))
+    rw (c.jump.ensures, c.replace_by_array.ensures.seg_after) (carry-served a.seg.now (replaces a.n (made a.lengths.now a.ravel.now)) (jumps a.next.0 ∷ []) (sym c.in-Done.is ∙ c.replace_by_array.ensures.value))

@@ -9,13 +9,11 @@ use Rattle.instructions_values.proofs.scalars.array_array.Goals as goal
 
 pub paired-requires : goal.paired-requires
 paired-requires c = let a = c.args in
-    let h = rw c.in-First.is at (conformed a.seg.now a.first.0 a.second.0 c.conform.result _ _ _ _ c.lengths_of.ensures c.lengths_of-2.ensures c.elements_of-m.ensures c.elements_of-n.ensures c.conform.ensures) in
-    ((c.requires.0, c.requires.1, c.requires.0, search rules, search rules), (arrays-paired a.seg.now a.first.0 a.second.0 a.first.0 c.requires.0 c.requires.1 c.requires.0 h, arrays-extent a.seg.now a.first.0 a.second.0 a.first.0 c.requires.0 c.requires.1 c.requires.0 h))
+    let h = rw c.in-First.is at (conformed a.seg.now a.first.0 a.second.0 c.conform.result _ _ _ _ c.lengths_of.ensures c.lengths_of-2.ensures c.elements_of-m.ensures c.elements_of-n.ensures c.conform.ensures) in record { whole_at = (c.requires.0, c.requires.1, c.requires.0, search rules, search rules); pairable = (arrays-paired a.seg.now a.first.0 a.second.0 a.first.0 c.requires.0 c.requires.1 c.requires.0 h, arrays-extent a.seg.now a.first.0 a.second.0 a.first.0 c.requires.0 c.requires.1 c.requires.0 h) }
 
 pub paired-requires-in-Second : goal.paired-requires-in-Second
 paired-requires-in-Second c = let a = c.args in
-    let h = rw c.in-Second.is at (conformed a.seg.now a.first.0 a.second.0 c.conform.result _ _ _ _ c.lengths_of.ensures c.lengths_of-2.ensures c.elements_of-m.ensures c.elements_of-n.ensures c.conform.ensures) in
-    ((c.requires.0, c.requires.1, c.requires.1, search rules, search rules), (arrays-paired a.seg.now a.first.0 a.second.0 a.second.0 c.requires.0 c.requires.1 c.requires.1 h, arrays-extent a.seg.now a.first.0 a.second.0 a.second.0 c.requires.0 c.requires.1 c.requires.1 h))
+    let h = rw c.in-Second.is at (conformed a.seg.now a.first.0 a.second.0 c.conform.result _ _ _ _ c.lengths_of.ensures c.lengths_of-2.ensures c.elements_of-m.ensures c.elements_of-n.ensures c.conform.ensures) in record { whole_at = (c.requires.0, c.requires.1, c.requires.1, search rules, search rules); pairable = (arrays-paired a.seg.now a.first.0 a.second.0 a.second.0 c.requires.0 c.requires.1 c.requires.1 h, arrays-extent a.seg.now a.first.0 a.second.0 a.second.0 c.requires.0 c.requires.1 c.requires.1 h) }
 
 pub returns-in-Trap : goal.returns-in-Trap
 returns-in-Trap c = let a = c.args in

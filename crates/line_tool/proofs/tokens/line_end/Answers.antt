@@ -4,4 +4,4 @@ use Rattle.line_tool.proofs.tokens.line_end.Goals as goal
 
 pub returns : goal.returns
 unfolding line_end
-returns c = (simp (← c.after_all.ensures), rw c.after_all.ensures (after-bounds _ _ _))
+returns c = record { value = simp (← c.after_all.ensures); lower_bound = rw c.after_all.ensures (after-bounds _ _ _) }

@@ -6,7 +6,7 @@ use Rattle.line_tool.proofs.writing.put.Given as goal
 
 abbrev pub invariant-loop-i : goal.invariant-loop-i
 invariant-loop-i l =
-    (l.i ≤ length l.initial.out) × (l.to ≡ l.text + l.i) × (l.to ≤ max l.text (length l.at)) × Putting l.initial.out l.at l.text (drop l.i l.initial.out) l.out l.to
+    (l.i ≤ length l.text) × (l.to ≡ l.at + l.i) × (l.to ≤ max l.at (length l.initial.out)) × Putting l.text l.initial.out l.at (drop l.i l.text) l.out l.to
 
 abbrev pub decreases-loop-i : goal.decreases-loop-i
-decreases-loop-i l = length l.initial.out - l.i
+decreases-loop-i l = length l.text - l.i

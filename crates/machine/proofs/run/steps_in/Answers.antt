@@ -22,7 +22,7 @@ pub returns-then-here-function : goal.returns-then-here-function
 returns-then-here-function c = let l = c.loop-steps in (l.invariant.6, (left-later l.invariant.0 l.invariant.4 c.here.ensures c.if-here-function.true, l.invariant.1))
 
 pub step_in-requires : goal.step_in-requires
-step_in-requires c = (search rules, (c.requires.code_value, (cc)))
+step_in-requires c = record { seg_len_bound = search rules; code_value = c.requires.code_value; place_value = (cc) }
 
 pub count_step-requires : goal.count_step-requires
 count_step-requires c = let q = c.requires in let p = c.step_in in finished-stands c.loop-steps.seg _ (cc) q.1.0 p.ensures c.in-Finished.is

@@ -5,8 +5,7 @@ use Rattle.replay.proofs.Replaying.{known}
 use Rattle.replay.proofs.records.load_record.Goals as goal
 
 pub returns-then-tested : goal.returns-then-tested
-returns-then-tested c = let told = c.load_accepted.ensures _ _ (known _ _ _ c.if-tested.true c.requires) in
-    (c.number.ensures ∙ ap status_of told.0 ∙ status-answer _, told.1)
+returns-then-tested c = let told = c.load_accepted.ensures _ _ (known _ _ _ c.if-tested.true c.requires) in record { value = c.number.ensures ∙ ap status_of told.0 ∙ status-answer _; seg_after = told.1 }
 
 pub returns : goal.returns
-returns c = let p = c.load in (c.number-2.ensures ∙ ap status_of p.ensures.0 ∙ status-answer _, p.ensures.1.0)
+returns c = let p = c.load in record { value = c.number-2.ensures ∙ ap status_of p.ensures.0 ∙ status-answer _; seg_after = p.ensures.1.0 }

@@ -12,7 +12,7 @@ loop-place-init c = (refl, refl, c.requires.0, c.requires.1, refl, tt)
 
 pub returns-in-Malformed : goal.returns-in-Malformed
 returns-in-Malformed c = let l = c.loop-place in
-    no_record _ _ _ _ _ c.loop-place-test.true (parsed-malformed _ _ c.record_at.ensures.0 c.in-Malformed.is) ∙ l.invariant.4
+    no_record _ _ _ _ _ c.loop-place-test.true (parsed-malformed _ _ c.record_at.ensures.ravel_after c.in-Malformed.is) ∙ l.invariant.4
 
 pub returns-then-halt-ne0 : goal.returns-then-halt-ne0
 returns-then-halt-ne0 c = let l = c.loop-place in
@@ -23,7 +23,7 @@ returns-then-halt-ne0 c = let l = c.loop-place in
     halts _ _ done c.if-halt-ne0.true ∙ l.invariant.4
 
 pub loop-place-smaller-in-Run : goal.loop-place-smaller-in-Run
-loop-place-smaller-in-Run c = let w = run-within c.record_at.ensures.1 _ _ c.in-Run.is in omega (arith, w)
+loop-place-smaller-in-Run c = let w = run-within c.record_at.ensures.usable _ _ c.in-Run.is in omega (arith, w)
 
 pub loop-place-preserved-in-Run : goal.loop-place-preserved-in-Run
 loop-place-preserved-in-Run c = let l = c.loop-place in
@@ -69,7 +69,7 @@ returns-then-halt-ne0-2 c = let l = c.loop-place in
     halts _ _ done c.if-halt-ne0-2.true ∙ l.invariant.4
 
 pub loop-place-smaller : goal.loop-place-smaller
-loop-place-smaller c = let w = load-within c.record_at.ensures.1 _ _ _ _ c.in-Load.is in omega (arith, w)
+loop-place-smaller c = let w = load-within c.record_at.ensures.usable _ _ _ _ c.in-Load.is in omega (arith, w)
 
 pub loop-place-preserved : goal.loop-place-preserved
 loop-place-preserved c = let l = c.loop-place in

@@ -8,8 +8,8 @@ fill-requires c = let a = c.args in place-small a.seg.now a.shape.now a.elements
 
 pub returns-in-Full : goal.returns-in-Full
 unfolding place_at
-returns-in-Full c = ((cc), (cc) ∙ place-full _ _ _ (cc))
+returns-in-Full c = record { value = (cc); seg_after = (cc) ∙ place-full _ _ _ (cc) }
 
 pub returns-in-At : goal.returns-in-At
 unfolding place_at
-returns-in-At c = ((cc), (cc) ∙ place_at_lem _ _ _ c.in-At.block (cc))
+returns-in-At c = record { value = (cc); seg_after = (cc) ∙ place_at_lem _ _ _ c.in-At.block (cc) }

@@ -3,4 +3,4 @@ use Rattle.storage.proofs.ring.unlink.Goals as goal
 
 pub returns : goal.returns
 unfolding unlink
-returns c = rw (c.set_last.ensures, c.set_next.ensures, c.last_at-last.ensures.0, c.next_at-next.ensures.0)
+returns c = rw (c.set_last.ensures, c.set_next.ensures, c.last_at-last.ensures.result_value, c.next_at-next.ensures.result_value)
