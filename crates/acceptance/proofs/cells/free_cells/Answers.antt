@@ -17,14 +17,14 @@ is_proper-requires c =    meeting-room c.loop-i.invariant.1 c.loop-i-test.true
 pub returns-then-not-is_proper : goal.returns-then-not-is_proper
 returns-then-not-is_proper c = record { value = meeting-bad c.loop-i.invariant.1
           c.loop-i-test.true (free-alike c.args.seg.now (in_table c.args.variables.now))
-          c.is_proper.ensures.value (not-true _ c.if-not-is_proper.true); met = (never, never); x_bound =  }
+          c.is_proper.ensures.value c.if-not-is_proper.true; met = (never, never); x_bound =  }
 
 pub loop-i-preserved : goal.loop-i-preserved
 loop-i-preserved c =    (
       search rules,
       meeting-on c.loop-i.invariant.1
           c.loop-i-test.true (free-alike c.args.seg.now (in_table c.args.variables.now))
-          c.is_proper.ensures.value (not-false _ c.if-not-is_proper.false) c.is_proper.ensures.arrays_after,
+          c.is_proper.ensures.value c.if-not-is_proper.false c.is_proper.ensures.arrays_after,
     )
 
 pub returns : goal.returns

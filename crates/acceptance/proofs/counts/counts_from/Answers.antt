@@ -17,14 +17,14 @@ is_counted-requires c = rw c.of-block.ensures (λ f. c.requires.1 _
 pub returns-then-not-is_counted : goal.returns-then-not-is_counted
 returns-then-not-is_counted c = sym (c.loop-left.invariant.0
     ∙ array-fails _ _ _ _ _ c.loop-left-test.true c.if-end-a.false
-    (rw c.of-block.ensures at c.is_counted.ensures) (not-true _ c.if-not-is_counted.true))
+    (rw c.of-block.ensures at c.is_counted.ensures) c.if-not-is_counted.true)
 
 pub loop-left-preserved : goal.loop-left-preserved
 loop-left-preserved c = (
   c.loop-left.invariant.0
       ∙ rw (c.span_at-a.ensures, c.of-block.ensures)
       (array-passes _ _ _ _ _ c.loop-left-test.true c.if-end-a.false
-      (rw c.of-block.ensures at c.is_counted.ensures) (not-false _ c.if-not-is_counted.false)),
+      (rw c.of-block.ensures at c.is_counted.ensures) c.if-not-is_counted.false),
   rw
       (c.span_at-a.ensures, c.of-block.ensures)
       (λ x k. c.loop-left.invariant.1 x

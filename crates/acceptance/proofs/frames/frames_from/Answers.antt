@@ -11,18 +11,18 @@ pub returns-then-not-in_its_directory : goal.returns-then-not-in_its_directory
 returns-then-not-in_its_directory c = sym (c.loop-left.invariant.1
     ∙ absent _ _ _ _ _ c.loop-left-test.true
     (rw c.of.ensures at c.frame_at-frame.ensures)
-    (sym c.in_its_directory.ensures ∙ not-true _ c.if-not-in_its_directory.true))
+    (sym c.in_its_directory.ensures ∙ c.if-not-in_its_directory.true))
 
 pub returns-then-last-base : goal.returns-then-last-base
 returns-then-last-base c = sym (c.loop-left.invariant.1
     ∙ bottom _ _ _ _ _ c.loop-left-test.true (rw c.of.ensures at c.frame_at-frame.ensures)
-    (sym c.in_its_directory.ensures ∙ not-false _ c.if-not-in_its_directory.false)
+    (sym c.in_its_directory.ensures ∙ c.if-not-in_its_directory.false)
     (sym c.number-last.ensures ∙ c.if-last-base.true))
 
 pub returns-then-base-last : goal.returns-then-base-last
 returns-then-base-last c = sym (c.loop-left.invariant.1
     ∙ low _ _ _ _ _ c.loop-left-test.true (rw c.of.ensures at c.frame_at-frame.ensures)
-    (sym c.in_its_directory.ensures ∙ not-false _ c.if-not-in_its_directory.false)
+    (sym c.in_its_directory.ensures ∙ c.if-not-in_its_directory.false)
     (λ z. c.if-last-base.false (c.number-last.ensures ∙ z)) (omega arith))
 
 pub loop-left-preserved : goal.loop-left-preserved
@@ -32,7 +32,7 @@ loop-left-preserved c = (
       ∙ rw c.number-last.ensures
       (further _ _ _ _ _ c.loop-left-test.true
       (rw c.of.ensures at c.frame_at-frame.ensures)
-      (sym c.in_its_directory.ensures ∙ not-false _ c.if-not-in_its_directory.false)
+      (sym c.in_its_directory.ensures ∙ c.if-not-in_its_directory.false)
       (λ z. c.if-last-base.false (c.number-last.ensures ∙ z)) (omega arith)),
 )
 

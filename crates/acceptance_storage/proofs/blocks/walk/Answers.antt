@@ -29,7 +29,7 @@ pub returns-then-not-inside_test : goal.returns-then-not-inside_test
 returns-then-not-inside_test c = let answer = improper _ _ _
     (walking-inside c.requires c.loop-a.invariant.2
     c.loop-a-test.true c.block_span-span.ensures c.if-span-eq0.false c.if-end-a.false
-    c.of-block.ensures c.inside_test.ensures (not-true _ c.if-not-inside_test.true)) in record { value = answer.0; marked = answer.1 }
+    c.of-block.ensures c.inside_test.ensures c.if-not-inside_test.true) in record { value = answer.0; marked = answer.1 }
 
 pub mark-found-requires : goal.mark-found-requires
 mark-found-requires c = walking-room c.requires c.loop-a.invariant.2
@@ -52,7 +52,7 @@ loop-a-preserved c = let on = walking_on c.requires
     c.loop-a.invariant.2 c.loop-a-test.true
     c.block_span-span.ensures c.if-span-eq0.false
     c.if-end-a.false
-    c.of-block.ensures c.inside_test.ensures (not-false _ c.if-not-inside_test.false)
+    c.of-block.ensures c.inside_test.ensures c.if-not-inside_test.false
     c.free_at-before.ensures
     c.mark-found.ensures.value c.mark-found.ensures.arrays_after
     c.mark-found.ensures.frees_after in

@@ -10,7 +10,7 @@ pub loop-left-init : goal.loop-left-init
 loop-left-init c = (refl, round-start _ _ _ _ _ c.requires.0 c.requires.1)
 
 pub returns-then-not-linked_to : goal.returns-then-not-linked_to
-returns-then-not-linked_to c = let unlinked = sym c.linked_to.ensures ∙ not-true _ c.if-not-linked_to.true in let answer = (
+returns-then-not-linked_to c = let unlinked = sym c.linked_to.ensures ∙ c.if-not-linked_to.true in let answer = (
   sym (round-bad _ _ _ _ _ _ c.loop-left.invariant.1 c.loop-left-test.true _
       c.next_at-next.ensures.result_value unlinked),
   λ t. absurd (never t),
@@ -18,7 +18,7 @@ returns-then-not-linked_to c = let unlinked = sym c.linked_to.ensures ∙ not-tr
 
 pub returns-then-mark_at-eq0 : goal.returns-then-mark_at-eq0
 returns-then-mark_at-eq0 c = let l = c.loop-left in
-    let linked = sym c.linked_to.ensures ∙ not-false _ c.if-not-linked_to.false in
+    let linked = sym c.linked_to.ensures ∙ c.if-not-linked_to.false in
     let none = round-missing _ _ _ _ _ _ l.invariant.1 c.loop-left-test.true _ c.next_at-next.ensures.result_value linked
     c.index-place.ensures c.mark_at.ensures c.if-mark_at-eq0.true in record { value = sym none; tally = λ t. absurd (never t) }
 
@@ -27,7 +27,7 @@ lower-requires c = omega (arith, c.mark_at.ensures)
 
 pub loop-left-preserved : goal.loop-left-preserved
 loop-left-preserved c = let l = c.loop-left in
-    let linked = sym c.linked_to.ensures ∙ not-false _ c.if-not-linked_to.false in
+    let linked = sym c.linked_to.ensures ∙ c.if-not-linked_to.false in
     let on = round-on _ _ _ _ _ _ l.invariant.1 c.loop-left-test.true _
     c.next_at-next.ensures.result_value linked
     c.index-place.ensures c.mark_at.ensures c.if-mark_at-eq0.false

@@ -20,21 +20,21 @@ returns-then-are_plain c = c.vector.ensures ∙ simp (← c.are_plain.ensures, c
 
 pub returns-then-not-has_rows : goal.returns-then-not-has_rows
 unfolding joined_shape
-returns-then-not-has_rows c = simp (← c.are_plain.ensures, c.if-are_plain.false, ← c.has_rows.ensures, not-true c.has_rows.result c.if-not-has_rows.true)
+returns-then-not-has_rows c = simp (← c.are_plain.ensures, c.if-are_plain.false, ← c.has_rows.ensures, c.if-not-has_rows.true)
 
 pub returns-then-not-has_rows-2 : goal.returns-then-not-has_rows-2
 unfolding joined_shape
-returns-then-not-has_rows-2 c = simp (← c.are_plain.ensures, c.if-are_plain.false, ← c.has_rows.ensures, not-false c.has_rows.result c.if-not-has_rows.false, ← c.has_rows-2.ensures, not-true c.has_rows-2.result c.if-not-has_rows-2.true)
+returns-then-not-has_rows-2 c = simp (← c.are_plain.ensures, c.if-are_plain.false, ← c.has_rows.ensures, c.if-not-has_rows.false, ← c.has_rows-2.ensures, c.if-not-has_rows-2.true)
 
 pub width-w-requires : goal.width-w-requires
-width-w-requires c = (rows-rank c.args.a.now (sym c.has_rows.ensures ∙ not-false _ c.if-not-has_rows.false)).0
+width-w-requires c = (rows-rank c.args.a.now (sym c.has_rows.ensures ∙ c.if-not-has_rows.false)).0
 
 pub width-requires : goal.width-requires
-width-requires c = (rows-rank c.args.b.now (sym c.has_rows-2.ensures ∙ not-false _ c.if-not-has_rows-2.false)).0
+width-requires c = (rows-rank c.args.b.now (sym c.has_rows-2.ensures ∙ c.if-not-has_rows-2.false)).0
 
 pub returns-then-w-width : goal.returns-then-w-width
 unfolding joined_shape
-returns-then-w-width c = simp (← c.are_plain.ensures, c.if-are_plain.false, ← c.has_rows.ensures, not-false c.has_rows.result c.if-not-has_rows.false, ← c.has_rows-2.ensures, not-false c.has_rows-2.result c.if-not-has_rows-2.false, ← c.width-w.ensures, ← c.width.ensures, ne_eqb c.width-w.result c.width.result (λ e. omega (arith, c.if-w-width.true, e)))
+returns-then-w-width c = simp (← c.are_plain.ensures, c.if-are_plain.false, ← c.has_rows.ensures, c.if-not-has_rows.false, ← c.has_rows-2.ensures, c.if-not-has_rows-2.false, ← c.width-w.ensures, ← c.width.ensures, ne_eqb c.width-w.result c.width.result (λ e. omega (arith, c.if-w-width.true, e)))
 
 pub returns : goal.returns
-returns c = c.matrix.ensures ∙ rw (c.rows.ensures, c.rows-2.ensures, c.width-w.ensures) (sym (joined-table c.args.a.now c.args.b.now (sym c.are_plain.ensures ∙ c.if-are_plain.false) (sym c.has_rows.ensures ∙ not-false _ c.if-not-has_rows.false) (sym c.has_rows-2.ensures ∙ not-false _ c.if-not-has_rows-2.false) (omega (arith, c.width-w.ensures, c.if-w-width.false, c.width.ensures))))
+returns c = c.matrix.ensures ∙ rw (c.rows.ensures, c.rows-2.ensures, c.width-w.ensures) (sym (joined-table c.args.a.now c.args.b.now (sym c.are_plain.ensures ∙ c.if-are_plain.false) (sym c.has_rows.ensures ∙ c.if-not-has_rows.false) (sym c.has_rows-2.ensures ∙ c.if-not-has_rows-2.false) (omega (arith, c.width-w.ensures, c.if-w-width.false, c.width.ensures))))

@@ -5,19 +5,19 @@ use Rattle.engine.proofs.Loading.{one-scalar, no-global, no_value, scalar-stored
 use Rattle.engine.proofs.load.load_accepted.Goals as goal
 
 pub returns-then-not-is_global : goal.returns-then-not-is_global
-returns-then-not-is_global c = λ regular alternate ok. (no-global _ regular alternate _ _ _ ok (sym c.is_global.ensures ∙ not-true _ c.if-not-is_global.true))
+returns-then-not-is_global c = λ regular alternate ok. (no-global _ regular alternate _ _ _ ok (sym c.is_global.ensures ∙ c.if-not-is_global.true))
 
 pub returns-then-not-is_value : goal.returns-then-not-is_value
-returns-then-not-is_value c = λ regular alternate ok. (no_value _ regular alternate _ _ _ ok (sym c.is_global.ensures ∙ not-false _ c.if-not-is_global.false) (sym c.is_value.ensures ∙ not-true _ c.if-not-is_value.true))
+returns-then-not-is_value c = λ regular alternate ok. (no_value _ regular alternate _ _ _ ok (sym c.is_global.ensures ∙ c.if-not-is_global.false) (sym c.is_value.ensures ∙ c.if-not-is_value.true))
 
 pub bounds-ravel-0 : goal.bounds-ravel-0
-bounds-ravel-0 c = omega (arith, (one-scalar _ _ (sym c.is_value.ensures ∙ not-false _ c.if-not-is_value.false) c.if-lengths-eq0.true).0)
+bounds-ravel-0 c = omega (arith, (one-scalar _ _ (sym c.is_value.ensures ∙ c.if-not-is_value.false) c.if-lengths-eq0.true).0)
 
 pub returns-then-lengths-eq0 : goal.returns-then-lengths-eq0
-returns-then-lengths-eq0 c = λ regular alternate ok. (scalar-stored _ regular alternate _ _ _ ok (sym c.is_global.ensures ∙ not-false _ c.if-not-is_global.false) (sym c.is_value.ensures ∙ not-false _ c.if-not-is_value.false) _ c.of.ensures _ c.if-lengths-eq0.true (cc))
+returns-then-lengths-eq0 c = λ regular alternate ok. (scalar-stored _ regular alternate _ _ _ ok (sym c.is_global.ensures ∙ c.if-not-is_global.false) (sym c.is_value.ensures ∙ c.if-not-is_value.false) _ c.of.ensures _ c.if-lengths-eq0.true (cc))
 
 pub returns-in-Full : goal.returns-in-Full
-returns-in-Full c = λ regular alternate ok. (full _ regular alternate _ _ _ ok (sym c.is_global.ensures ∙ not-false _ c.if-not-is_global.false) (sym c.is_value.ensures ∙ not-false _ c.if-not-is_value.false) _ c.of.ensures _ c.if-lengths-eq0.false (cc) (cc))
+returns-in-Full c = λ regular alternate ok. (full _ regular alternate _ _ _ ok (sym c.is_global.ensures ∙ c.if-not-is_global.false) (sym c.is_value.ensures ∙ c.if-not-is_value.false) _ c.of.ensures _ c.if-lengths-eq0.false (cc) (cc))
 
 pub returns-in-Done : goal.returns-in-Done
-returns-in-Done c = λ regular alternate ok. (array-stored _ regular alternate _ _ _ ok (sym c.is_global.ensures ∙ not-false _ c.if-not-is_global.false) (sym c.is_value.ensures ∙ not-false _ c.if-not-is_value.false) _ c.of.ensures _ c.if-lengths-eq0.false (cc) (cc))
+returns-in-Done c = λ regular alternate ok. (array-stored _ regular alternate _ _ _ ok (sym c.is_global.ensures ∙ c.if-not-is_global.false) (sym c.is_value.ensures ∙ c.if-not-is_value.false) _ c.of.ensures _ c.if-lengths-eq0.false (cc) (cc))

@@ -9,8 +9,8 @@ returns-then-refused-ne0 c = let answer = promised _ _ _ _ _ (simp (← c.refusa
 
 pub returns-then-not-is_global : goal.returns-then-not-is_global
 unfolding looked
-returns-then-not-is_global c = let answer = promised _ _ _ _ _ (simp (← c.refusal_of-refused.ensures, eq-eqb _ _ c.if-refused-ne0.false, ← c.is_global.ensures, not-true c.is_global.result c.if-not-is_global.true)) in record { value = answer.0; promised = answer.1 }
+returns-then-not-is_global c = let answer = promised _ _ _ _ _ (simp (← c.refusal_of-refused.ensures, eq-eqb _ _ c.if-refused-ne0.false, ← c.is_global.ensures, c.if-not-is_global.true)) in record { value = answer.0; promised = answer.1 }
 
 pub returns : goal.returns
 unfolding looked
-returns c = let answer = promised _ _ _ _ _ (simp (← c.refusal_of-refused.ensures, eq-eqb _ _ c.if-refused-ne0.false, ← c.is_global.ensures, not-false c.is_global.result c.if-not-is_global.false, ← c.word.ensures, ← c.seen_as.ensures)) in record { value = answer.0; promised = answer.1 }
+returns c = let answer = promised _ _ _ _ _ (simp (← c.refusal_of-refused.ensures, eq-eqb _ _ c.if-refused-ne0.false, ← c.is_global.ensures, c.if-not-is_global.false, ← c.word.ensures, ← c.seen_as.ensures)) in record { value = answer.0; promised = answer.1 }

@@ -15,4 +15,4 @@ pub returns-in-Trap : goal.returns-in-Trap
 returns-in-Trap c = left
 
 pub returns-in-Word : goal.returns-in-Word
-returns-in-Word c = went refl (scalar-computed _ (subst (◌≤◌ 1) c.count.ensures c.if-count-lt1.false) c.operand_at-x.ensures (sym c.is_scalar.ensures ∙ not-false _ c.if-not-is_scalar.false) _ _ c.monadic.ensures c.in-Word.is c.replace.ensures c.jump.ensures)
+returns-in-Word c = went refl (scalar-computed _ (subst (◌≤◌ 1) c.count.ensures c.if-count-lt1.false) c.operand_at-x.ensures (sym c.is_scalar.ensures ∙ c.if-not-is_scalar.false) _ _ c.monadic.ensures c.in-Word.is c.replace.ensures c.jump.ensures)

@@ -10,10 +10,10 @@ returns-then-word-eq0 c = simp (eq-eqb _ _ c.if-word-eq0.true)
 
 pub returns-then-not-is_numeral : goal.returns-then-not-is_numeral
 unfolding decimal_number
-returns-then-not-is_numeral c = simp (ne_eqb _ _ c.if-word-eq0.false, ← c.is_numeral.ensures, not-true c.is_numeral.result c.if-not-is_numeral.true)
+returns-then-not-is_numeral c = simp (ne_eqb _ _ c.if-word-eq0.false, ← c.is_numeral.ensures, c.if-not-is_numeral.true)
 
 pub returns-then-n-gt4294967295 : goal.returns-then-n-gt4294967295
-returns-then-n-gt4294967295 c = decimal-large _ c.if-word-eq0.false (sym c.is_numeral.ensures ∙ not-false _ c.if-not-is_numeral.false) c.capped-n.ensures c.if-n-gt4294967295.true
+returns-then-n-gt4294967295 c = decimal-large _ c.if-word-eq0.false (sym c.is_numeral.ensures ∙ c.if-not-is_numeral.false) c.capped-n.ensures c.if-n-gt4294967295.true
 
 pub returns : goal.returns
-returns c = decimal-value _ c.if-word-eq0.false (sym c.is_numeral.ensures ∙ not-false _ c.if-not-is_numeral.false) c.capped-n.ensures c.if-n-gt4294967295.false
+returns c = decimal-value _ c.if-word-eq0.false (sym c.is_numeral.ensures ∙ c.if-not-is_numeral.false) c.capped-n.ensures c.if-n-gt4294967295.false

@@ -7,10 +7,10 @@ use Rattle.line_tool.proofs.Places.{after_none, after_stop, after-step}
 use Rattle.line_tool.proofs.tokens.after_all.Goals as goal
 
 pub returns-then-not-is_of : goal.returns-then-not-is_of
-returns-then-not-is_of c = sym (after_stop _ _ _ (omega arith) (sym c.is_of.ensures ∙ not-true _ c.if-not-is_of.true)) ∙ c.loop-i.invariant
+returns-then-not-is_of c = sym (after_stop _ _ _ (omega arith) (sym c.is_of.ensures ∙ c.if-not-is_of.true)) ∙ c.loop-i.invariant
 
 pub loop-i-preserved : goal.loop-i-preserved
-loop-i-preserved c = sym (after-step _ _ _ (omega arith) (sym c.is_of.ensures ∙ not-false _ c.if-not-is_of.false)) ∙ c.loop-i.invariant
+loop-i-preserved c = sym (after-step _ _ _ (omega arith) (sym c.is_of.ensures ∙ c.if-not-is_of.false)) ∙ c.loop-i.invariant
 
 pub returns : goal.returns
 returns c = sym (after_none _ _ _ (omega arith)) ∙ c.loop-i.invariant

@@ -14,10 +14,10 @@ pub shape_of-out-then-not-is_scalar : goal.shape_of-out-then-not-is_scalar
 shape_of-out-then-not-is_scalar c = c.loop-k.invariant.1
 
 pub returns-then-not-is_scalar : goal.returns-then-not-is_scalar
-returns-then-not-is_scalar c = stored-stop c.loop-k.invariant.2 (omega arith) (omega arith) _ c.operand_at-w.ensures (ap is_scalar (sym c.of.ensures) ∙ sym c.is_scalar.ensures ∙ not-true _ c.if-not-is_scalar.true)
+returns-then-not-is_scalar c = stored-stop c.loop-k.invariant.2 (omega arith) (omega arith) _ c.operand_at-w.ensures (ap is_scalar (sym c.of.ensures) ∙ sym c.is_scalar.ensures ∙ c.if-not-is_scalar.true)
 
 pub loop-k-preserved : goal.loop-k-preserved
-loop-k-preserved c = (omega arith, simp length-set c.loop-k.invariant.1, stored_on c.loop-k.invariant.2 (omega arith) (omega arith) _ c.operand_at-w.ensures (omega arith) (ap is_scalar (sym c.of.ensures) ∙ sym c.is_scalar.ensures ∙ not-false _ c.if-not-is_scalar.false))
+loop-k-preserved c = (omega arith, simp length-set c.loop-k.invariant.1, stored_on c.loop-k.invariant.2 (omega arith) (omega arith) _ c.operand_at-w.ensures (omega arith) (ap is_scalar (sym c.of.ensures) ∙ sym c.is_scalar.ensures ∙ c.if-not-is_scalar.false))
 
 pub shape_of-out : goal.shape_of-out
 shape_of-out c = c.loop-k.invariant.1

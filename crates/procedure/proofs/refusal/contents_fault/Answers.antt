@@ -8,11 +8,11 @@ use Rattle.procedure.proofs.refusal.contents_fault.Goals as goal
 
 pub returns-then-not-entries_pass : goal.returns-then-not-entries_pass
 unfolding contents_fault
-returns-then-not-entries_pass c = simp (← c.entries_pass.ensures, not-true c.entries_pass.result c.if-not-entries_pass.true)
+returns-then-not-entries_pass c = simp (← c.entries_pass.ensures, c.if-not-entries_pass.true)
 
 pub returns-in_default : goal.returns-in_default
 unfolding contents_fault
-returns-in_default c = simp (← c.entries_pass.ensures, not-false c.entries_pass.result c.if-not-entries_pass.false, ← c.entries-end.ensures) (c.function_fault-found.ensures ∙ sym (at-fault _ _ _ c.loop-k-test.true (subst (λ (f : Fault). Faulty f) c.function_fault-found.ensures c.in_default.in_default-own.keys2)) ∙ c.loop-k.invariant)
+returns-in_default c = simp (← c.entries_pass.ensures, c.if-not-entries_pass.false, ← c.entries-end.ensures) (c.function_fault-found.ensures ∙ sym (at-fault _ _ _ c.loop-k-test.true (subst (λ (f : Fault). Faulty f) c.function_fault-found.ensures c.in_default.in_default-own.keys2)) ∙ c.loop-k.invariant)
 
 pub loop-k-preserved : goal.loop-k-preserved
 unfolding contents_fault
@@ -20,4 +20,4 @@ loop-k-preserved c = sym (past-sound _ _ _ c.loop-k-test.true (sym c.function_fa
 
 pub returns : goal.returns
 unfolding contents_fault
-returns c = simp (← c.entries_pass.ensures, not-false c.entries_pass.result c.if-not-entries_pass.false, ← c.entries-end.ensures) (sym (none_left _ _ _ c.loop-k-test.false) ∙ c.loop-k.invariant)
+returns c = simp (← c.entries_pass.ensures, c.if-not-entries_pass.false, ← c.entries-end.ensures) (sym (none_left _ _ _ c.loop-k-test.false) ∙ c.loop-k.invariant)

@@ -16,12 +16,12 @@ returns-then-h-gt15 c = simp (eq-eqb _ _ c.if-length-h.false, eq-eqb _ _ c.if-wo
 
 pub returns-then-not-result_has_local : goal.returns-then-not-result_has_local
 unfolding header_fault
-returns-then-not-result_has_local c = simp (eq-eqb _ _ c.if-length-h.false, eq-eqb _ _ c.if-word0-ne0.false, le-leb _ _ c.if-h-gt15.false, ← c.result_has_local.ensures, not-true c.result_has_local.result c.if-not-result_has_local.true)
+returns-then-not-result_has_local c = simp (eq-eqb _ _ c.if-length-h.false, eq-eqb _ _ c.if-word0-ne0.false, le-leb _ _ c.if-h-gt15.false, ← c.result_has_local.ensures, c.if-not-result_has_local.true)
 
 pub returns-then-h-gt4096 : goal.returns-then-h-gt4096
 unfolding header_fault
-returns-then-h-gt4096 c = simp (eq-eqb _ _ c.if-length-h.false, eq-eqb _ _ c.if-word0-ne0.false, le-leb _ _ c.if-h-gt15.false, ← c.result_has_local.ensures, not-false c.result_has_local.result c.if-not-result_has_local.false, lt-leb _ _ c.if-h-gt4096.true)
+returns-then-h-gt4096 c = simp (eq-eqb _ _ c.if-length-h.false, eq-eqb _ _ c.if-word0-ne0.false, le-leb _ _ c.if-h-gt15.false, ← c.result_has_local.ensures, c.if-not-result_has_local.false, lt-leb _ _ c.if-h-gt4096.true)
 
 pub returns : goal.returns
 unfolding header_fault
-returns c = simp (eq-eqb _ _ c.if-length-h.false, eq-eqb _ _ c.if-word0-ne0.false, le-leb _ _ c.if-h-gt15.false, ← c.result_has_local.ensures, not-false c.result_has_local.result c.if-not-result_has_local.false, le-leb _ _ c.if-h-gt4096.false)
+returns c = simp (eq-eqb _ _ c.if-length-h.false, eq-eqb _ _ c.if-word0-ne0.false, le-leb _ _ c.if-h-gt15.false, ← c.result_has_local.ensures, c.if-not-result_has_local.false, le-leb _ _ c.if-h-gt4096.false)
