@@ -12,11 +12,11 @@ pub shape_of-arrays-then-not-plain_cells : goal.shape_of-arrays-then-not-plain_c
 shape_of-arrays-then-not-plain_cells c = c.arrays-1.given
 
 pub returns-then-not-plain_cells : goal.returns-then-not-plain_cells
-returns-then-not-plain_cells c = let answer = (
-  sym (globals-wrong c.requires (c.index-end.ensures ∙ c.blockptr.ensures)
-      c.plain_cells.ensures c.if-not-plain_cells.true),
-  never,
-) in record { value = answer.0; met = answer.1 }
+returns-then-not-plain_cells c = record {
+  value = sym (globals-wrong c.requires (c.index-end.ensures ∙ c.blockptr.ensures)
+      c.plain_cells.ensures c.if-not-plain_cells.true);
+  met = never;
+}
 
 pub mark_variables-requires : goal.mark_variables-requires
 mark_variables-requires c = base-low c.requires (c.index-end.ensures ∙ c.blockptr.ensures)
