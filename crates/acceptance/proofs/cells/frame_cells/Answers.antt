@@ -11,11 +11,12 @@ pub shape_of-arrays-then-not-free_cells : goal.shape_of-arrays-then-not-free_cel
 shape_of-arrays-then-not-free_cells c = c.arrays-1.given
 
 pub returns-then-not-free_cells : goal.returns-then-not-free_cells
-returns-then-not-free_cells c = let answer = (
-  temporaries-fail c.requires (c.index-stack.ensures ∙ c.sbase.ensures)
-      c.free_cells.ensures c.if-not-free_cells.true,
-  (never, (never, never)),
-) in record { value = answer.0; gains = answer.1.0; met = answer.1.1.0; can_rise = answer.1.1.1 }
+returns-then-not-free_cells c = record {
+  value = temporaries-fail c.requires (c.index-stack.ensures ∙ c.sbase.ensures) c.free_cells.ensures c.if-not-free_cells.true;
+  gains = never;
+  met = never;
+  can_rise = never;
+}
 
 pub unmark-requires : goal.unmark-requires
 unmark-requires c = rw (c.of.ensures, c.of-2.ensures)
