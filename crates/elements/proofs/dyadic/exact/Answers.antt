@@ -1,9 +1,5 @@
-use Prim.Native.Nat.{ℕ, ◌-◌}
 use mathlib.Core.Path.{sym, ap, ◌∙◌}
 use native.Mathlib.Omega.{arith}
-use Rattle.operator.specs.declared.Dyadic.{Dyadic}
-use Rattle.scalar.specs.Operators.{dyadic_of}
-use Rattle.manual.specs.OrTrap.{OrTrap}
 use Rattle.manual.specs.Values.{answered}
 use Rattle.elements.proofs.Collecting.{exact-start, exact-trap, exact_word, exact-end, pair-at, pairs-are, length_pairs, spans-below}
 use Rattle.elements.proofs.dyadic.exact.Invariants.{applied}

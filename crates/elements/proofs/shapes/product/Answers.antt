@@ -1,4 +1,3 @@
-use Prim.Native.Nat.{◌-◌}
 use native.Mathlib.Omega.{arith}
 use Rattle.elements.proofs.Lengths.{bounded-start, bounded-on, bounded-fits, bounded-done}
 use Rattle.elements.proofs.shapes.product.Goals as goal
