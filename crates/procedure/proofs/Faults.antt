@@ -78,10 +78,10 @@ contents-told p = directory (entries_test p)
 
 -- A fault that is not `Nothing`.
 abbrev pub Faulty : Fault → Type 0
-Faulty f = OneOf (1 ∷ 2 ∷ 3 ∷ []) (tag_of the_type f)
+Faulty f = f ≡ F.Nothing → ⊥
 
 faulty-refuses : (f : Fault) → Faulty f → refuses f ≡ true
-faulty-refuses F.Nothing h = absurd (miss (1 ∷ 2 ∷ 3 ∷ []) 0 tt h)
+faulty-refuses F.Nothing h = absurd (h refl)
 faulty-refuses F.SegmentLength h = refl
 faulty-refuses F.Entries h = refl
 faulty-refuses (F.Function k wrong) h = refl
@@ -97,7 +97,7 @@ module _ (p : List ℕ) (f : Fault) (is : f ≡ contents_fault p) where
   sound-passes e = tested false (ap refuses e)
 
 fault-first : (f others : Fault) → Faulty f → or_else f others ≡ f
-fault-first F.Nothing others h = absurd (miss (1 ∷ 2 ∷ 3 ∷ []) 0 tt h)
+fault-first F.Nothing others h = absurd (h refl)
 fault-first F.SegmentLength others h = refl
 fault-first F.Entries others h = refl
 fault-first (F.Function k wrong) others h = refl

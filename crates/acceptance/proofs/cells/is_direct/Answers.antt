@@ -7,35 +7,35 @@ use Rattle.acceptance.proofs.Meeting.{meet-other, meet-array, direct-small, dire
 use Rattle.acceptance.proofs.cells.is_direct.Goals as goal
 
 pub returns-then-w-le-INTEGER_LIMIT : goal.returns-then-w-le-INTEGER_LIMIT
-returns-then-w-le-INTEGER_LIMIT c = let answer = (
-  direct-small (in_table c.args.arrays.now) c.args.w (search rules) c.if-w-le-INTEGER_LIMIT.true,
-  meet-other
-      c.args.arrays.now c.args.w (λ z. omega arith),
-) in record { value = answer.0; arrays_after = answer.1 }
+returns-then-w-le-INTEGER_LIMIT c = record {
+  value = direct-small (in_table c.args.arrays.now) c.args.w (search rules) c.if-w-le-INTEGER_LIMIT.true;
+  arrays_after = meet-other
+      c.args.arrays.now c.args.w (λ z. omega arith);
+}
 
 pub raise_marked-requires : goal.raise_marked-requires
 raise_marked-requires c = c.requires _
 
 pub returns-then-w : goal.returns-then-w
-returns-then-w c = let answer = (
-  c.raise_marked.ensures.value
+returns-then-w c = record {
+  value = c.raise_marked.ensures.value
       ∙ direct-array (in_table c.args.arrays.now) c.args.w (search rules)
-      c.if-w.true,
-  c.raise_marked.ensures.table_after
-      ∙ meet-array c.args.arrays.now c.args.w c.if-w.true,
-) in record { value = answer.0; arrays_after = answer.1 }
+      c.if-w.true;
+  arrays_after = c.raise_marked.ensures.table_after
+      ∙ meet-array c.args.arrays.now c.args.w c.if-w.true;
+}
 
 pub returns-then-w-eq-UNDEFINED : goal.returns-then-w-eq-UNDEFINED
-returns-then-w-eq-UNDEFINED c = let answer = (
-  direct-undefined (in_table c.args.arrays.now) c.args.w (search rules) c.if-w-eq-UNDEFINED.true,
-  meet-other c.args.arrays.now
-      c.args.w c.if-w.false,
-) in record { value = answer.0; arrays_after = answer.1 }
+returns-then-w-eq-UNDEFINED c = record {
+  value = direct-undefined (in_table c.args.arrays.now) c.args.w (search rules) c.if-w-eq-UNDEFINED.true;
+  arrays_after = meet-other c.args.arrays.now
+      c.args.w c.if-w.false;
+}
 
 pub returns : goal.returns
-returns c = let answer = (
-  c.is_scalar.ensures ∙ ap is_scalar c.of.ensures
+returns c = record {
+  value = c.is_scalar.ensures ∙ ap is_scalar c.of.ensures
       ∙ direct-scalar (in_table c.args.arrays.now) c.args.w (search rules) c.if-w.false
-      c.if-w-eq-UNDEFINED.false,
-  meet-other c.args.arrays.now c.args.w c.if-w.false,
-) in record { value = answer.0; arrays_after = answer.1 }
+      c.if-w-eq-UNDEFINED.false;
+  arrays_after = meet-other c.args.arrays.now c.args.w c.if-w.false;
+}

@@ -10,11 +10,11 @@ pub loop-left-init : goal.loop-left-init
 loop-left-init c = (refl, round-start _ _ _ _ _ c.requires.0 c.requires.1)
 
 pub returns-then-not-linked_to : goal.returns-then-not-linked_to
-returns-then-not-linked_to c = let unlinked = sym c.linked_to.ensures ∙ c.if-not-linked_to.true in let answer = (
-  sym (round-bad _ _ _ _ _ _ c.loop-left.invariant.1 c.loop-left-test.true _
-      c.next_at-next.ensures.result_value unlinked),
-  λ t. absurd (never t),
-) in record { value = answer.0; tally = answer.1 }
+returns-then-not-linked_to c = let unlinked = sym c.linked_to.ensures ∙ c.if-not-linked_to.true in record {
+  value = sym (round-bad _ _ _ _ _ _ c.loop-left.invariant.1 c.loop-left-test.true _
+      c.next_at-next.ensures.result_value unlinked);
+  tally = λ t. absurd (never t);
+}
 
 pub returns-then-mark_at-eq0 : goal.returns-then-mark_at-eq0
 returns-then-mark_at-eq0 c = let l = c.loop-left in
@@ -35,8 +35,8 @@ loop-left-preserved c = let l = c.loop-left in
     (search rules, on)
 
 pub returns : goal.returns
-returns c = let answer = (
-  c.linked_to-2.ensures ∙ sym (round-last _ _ _ _ _ _ c.loop-left.invariant.1 (omega arith)),
-  λ t. round-clear _ _ _ _ _ _
-      c.loop-left.invariant.1 (omega arith),
-) in record { value = answer.0; tally = answer.1 }
+returns c = record {
+  value = c.linked_to-2.ensures ∙ sym (round-last _ _ _ _ _ _ c.loop-left.invariant.1 (omega arith));
+  tally = λ t. round-clear _ _ _ _ _ _
+      c.loop-left.invariant.1 (omega arith);
+}

@@ -21,8 +21,8 @@ pub returns-in-At : goal.returns-in-At
 returns-in-At c = let a = c.args in
     let block = c.block-1.given in
     let at = sym c.place_joined.ensures.value ∙ block.1 in
-    let done = found-done a.seg.now a.shape.now (part_of a.seg.now a.first ++ part_of a.seg.now a.second) (replaces a.n (made a.shape.now (part_of a.seg.now a.first ++ part_of a.seg.now a.second))) refl block.0.0 (omega (arith, joined-need a.seg.now a.shape.now a.first a.second, c.if-shape-first-gt16384.false)) at in let answer = (
-      done.0,
-      rw (c.take.ensures, c.word.ensures, c.array.ensures, c.place_joined.ensures.seg_after, c.bottom-b.ensures)
-          (replace-block a.seg.now a.shape.now (part_of a.seg.now a.first ++ part_of a.seg.now a.second) block.0.0 at a.n ∙ done.1),
-    ) in record { value = answer.0; seg_after = answer.1 }
+    let done = found-done a.seg.now a.shape.now (part_of a.seg.now a.first ++ part_of a.seg.now a.second) (replaces a.n (made a.shape.now (part_of a.seg.now a.first ++ part_of a.seg.now a.second))) refl block.0.0 (omega (arith, joined-need a.seg.now a.shape.now a.first a.second, c.if-shape-first-gt16384.false)) at in record {
+  value = done.0;
+  seg_after = rw (c.take.ensures, c.word.ensures, c.array.ensures, c.place_joined.ensures.seg_after, c.bottom-b.ensures)
+          (replace-block a.seg.now a.shape.now (part_of a.seg.now a.first ++ part_of a.seg.now a.second) block.0.0 at a.n ∙ done.1);
+}

@@ -12,7 +12,7 @@ returns-then-not-entries_pass c = simp (← c.entries_pass.ensures, c.if-not-ent
 
 pub returns-in_default : goal.returns-in_default
 unfolding contents_fault
-returns-in_default c = simp (← c.entries_pass.ensures, c.if-not-entries_pass.false, ← c.entries-end.ensures) (c.function_fault-found.ensures ∙ sym (at-fault _ _ _ c.loop-k-test.true (subst (λ (f : Fault). Faulty f) c.function_fault-found.ensures c.in_default.in_default-own.keys2)) ∙ c.loop-k.invariant)
+returns-in_default c = simp (← c.entries_pass.ensures, c.if-not-entries_pass.false, ← c.entries-end.ensures) (c.function_fault-found.ensures ∙ sym (at-fault _ _ _ c.loop-k-test.true (subst (λ (f : Fault). Faulty f) c.function_fault-found.ensures c.in_default.not-Nothing)) ∙ c.loop-k.invariant)
 
 pub loop-k-preserved : goal.loop-k-preserved
 unfolding contents_fault

@@ -13,11 +13,11 @@ returns-then-not-length_passes-2 c = simp (← c.length_passes.ensures, c.if-not
 
 pub returns-in_default : goal.returns-in_default
 unfolding procedure_refusal
-returns-in_default c = simp (← c.length_passes.ensures, c.if-not-length_passes.false, ← c.length_passes-2.ensures, c.if-not-length_passes-2.false, faulty-fails _ _ c.contents_fault.ensures c.in_default.in_default-own.keys2)
+returns-in_default c = simp (← c.length_passes.ensures, c.if-not-length_passes.false, ← c.length_passes-2.ensures, c.if-not-length_passes-2.false, faulty-fails _ _ c.contents_fault.ensures c.in_default.not-Nothing)
 
 pub returns-in_default-contents_fault : goal.returns-in_default-contents_fault
 unfolding procedure_refusal
-returns-in_default-contents_fault c = simp (← c.length_passes.ensures, c.if-not-length_passes.false, ← c.length_passes-2.ensures, c.if-not-length_passes-2.false, sound-passes _ _ c.contents_fault.ensures c.in-Nothing.is, faulty-fails _ _ c.contents_fault-2.ensures c.in_default-contents_fault.in_default-contents_fault-own.keys2)
+returns-in_default-contents_fault c = simp (← c.length_passes.ensures, c.if-not-length_passes.false, ← c.length_passes-2.ensures, c.if-not-length_passes-2.false, sound-passes _ _ c.contents_fault.ensures c.in-Nothing.is, faulty-fails _ _ c.contents_fault-2.ensures c.in_default-contents_fault.not-Nothing)
 
 pub returns : goal.returns
 unfolding procedure_refusal

@@ -12,7 +12,7 @@ pub give-requires : goal.give-requires
 give-requires c = (search rules, find-room _ _ _ c.find-f.ensures.result_value (λ e. c.if-number-eq0.false (c.number.ensures ∙ e)))
 
 pub returns : goal.returns
-returns c = let f = c.find-f.ensures.result_value in let answer = (
-  found_some _ _ _ (λ z. c.if-number-eq0.false (c.number.ensures ∙ f ∙ z)) (rw f at c.give.ensures.result_value),
-  rw (c.give.ensures.seg_after, f) (sym (request-some _ _ (λ z. c.if-number-eq0.false (c.number.ensures ∙ f ∙ z)))),
-) in record { value = answer.0; seg_after = answer.1 }
+returns c = let f = c.find-f.ensures.result_value in record {
+  value = found_some _ _ _ (λ z. c.if-number-eq0.false (c.number.ensures ∙ f ∙ z)) (rw f at c.give.ensures.result_value);
+  seg_after = rw (c.give.ensures.seg_after, f) (sym (request-some _ _ (λ z. c.if-number-eq0.false (c.number.ensures ∙ f ∙ z))));
+}
