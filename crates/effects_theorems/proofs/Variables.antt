@@ -35,7 +35,8 @@ downward-set s a zero j w h l = absurd (omega arith)
 downward-set s a (suc n) zero w h l =
     let e : a + suc n - 1 - 0 ≡ a + n = omega arith in
     let k : a + n < length s = omega arith in
-    rw (e, get_or-set_same, downward-same s (set s (a + n) w) a n (λ i p q. let d : i ≢ a + n = omega arith in rw get_or-set_other))
+    subst (λ (i : ℕ). downward (set s i w) a (suc n) ≡ set (downward s a (suc n)) 0 w) (sym e)
+    (rw (get_or-set_same, downward-same s (set s (a + n) w) a n (λ i p q. let d : i ≢ a + n = omega arith in rw get_or-set_other)))
 downward-set s a (suc n) (suc j) w h l =
     let d : a + n ≢ a + suc n - 1 - suc j = omega arith in
     let e : a + suc n - 1 - suc j ≡ a + n - 1 - j = omega arith in
@@ -57,7 +58,7 @@ in-base {s} {base} (bottom q) (suc n) a l h = go (rw (frames-bottom n s base _ _
     go (inl k) = omega (arith, k, downward-length s (sbase s + 0) (base - 0))
     go (inr k) = absurd k
 in-base {s} {base} (upon q c) (suc n) a l h =
-    go (in-base c n a (omega arith)) (depth_is c n (omega arith)) (rw (frames-next n s base _ _ _ refl refl refl (omega arith)) at h)
+    go (in-base {base = last_lbase_at s base} c n a (omega arith)) (depth_is c n (omega arith)) (rw (frames-next n s base _ _ _ refl refl refl (omega arith)) at h)
   where
     go : (InFrames a (frames_from n s (last_lbase_at s base)) → a < last_lbase_at s base)
         → depth_of_frames (frames_from n s (last_lbase_at s base)) ≡ last_lbase_at s base + 2
