@@ -1,6 +1,6 @@
 -- A variable's cell among the words: where it stands, a store to it, and what it is seen as.
 use Prim.Native.Nat.{ℕ, zero, suc, ◌+◌, ◌-◌, ◌/◌, ◌^◌, ◌<◌, ◌≤◌}
-use mathlib.Core.Path.{◌≡◌, refl, sym, ◌∙◌, ap}
+use mathlib.Core.Path.{◌≡◌, refl, sym, subst, ◌∙◌, ap}
 use mathlib.Core.List.{List, [], ◌∷◌, map}
 use mathlib.Core.Logic.{◌↔◌, ◌≢◌, ◌⊎◌, inl, inr, ⊎_elim}
 use native.Mathlib.Omega.{arith}
@@ -154,7 +154,7 @@ module _ (s : List ℕ) (w : ℕ) (some : 1 ≤ sbase s) where
       (rw e
       (⊎_elim (λ (k : last_lbase_at s base + 2 ≤ a). chain_same (set s (sbase s + a) w) c (bound (sbase s + a) (omega arith))
       (λ i x y. other (sbase s + a) (omega arith) i (omega arith)))
-      (λ (k : a < last_lbase_at s base + 2). chain-put c n a (omega arith) (in-older n base a q (depth_is c n (omega arith)) k h))
+      (λ (k : a < last_lbase_at s base + 2). chain-put {base = last_lbase_at s base} c n a (omega arith) (in-older n base a q (depth_is c n (omega arith)) k h))
       (order (last_lbase_at s base + 2) a)))
 
   frames-put : {base : ℕ} → Chain s base → (n a : ℕ) → base < n → InFrames a (frames_from n s base) → sbase s + base ≤ length s
@@ -165,7 +165,7 @@ module _ (s : List ℕ) (w : ℕ) (some : 1 ≤ sbase s) where
   frames-put {base} (upon q c) (suc n) a l h f =
       put-upon (sbase s + a) (omega arith) n base a (omega arith) f refl (in-base (upon {base = base} q c) (suc n) a l h) (depth_is c n (omega arith)) q
       (λ k. let older = in-older n base a q (depth_is c n (omega arith)) k h in
-      (in-base c n a (omega arith) older, frames-put c n a (omega arith) older (omega arith)))
+      (in-base c n a (omega arith) older, frames-put {base = last_lbase_at s base} c n a (omega arith) older (omega arith)))
 
 -- where the variables stand
 pub record Place (s : List ℕ) (i : ℕ) : Type 0 where
