@@ -9,7 +9,7 @@ returns-in_default c = record { ravel_after = simp (← c.number_at.ensures, c.i
 
 pub returns-then-kind-eq0 : goal.returns-then-kind-eq0
 returns-then-kind-eq0 c = let called = c.load_at in
-    let told = called.ensures in let answer = whole called.result called.new.1.1.0 called.new.1.1.1.0 _ _
+    let told = called.ensures in let answer = whole called.result called.new.lengths called.new.ravel _ _
     (told.0
     ∙ loads _ _ _ _ (sym c.number_at.ensures ∙ c.in-Number.is) c.if-kind-eq0.true)
     told.1 in record { ravel_after = answer.0; usable = answer.1 }

@@ -13,4 +13,4 @@ returns c = let a = c.args in
     let q = c.requires in
     let p = c.try_fast in
     let f = running (program a.regular.now a.alternate.now a.table.now) a.selector a.block in
-    c.long_step.ensures ∙ step_kept a.seg.now f q.place_value p.new.0 ((p.ensures f (refl, refl)).kept c.if-try_fast.false)
+    c.long_step.ensures ∙ step_kept a.seg.now f q.place_value p.new.seg ((p.ensures f (refl, refl)).kept c.if-try_fast.false)
