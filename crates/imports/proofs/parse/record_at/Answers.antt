@@ -8,11 +8,14 @@ unfolding record_at
 returns-in_default c = record { ravel_after = simp (← c.number_at.ensures, c.in_default.is); usable = (tt, tt) }
 
 pub returns-then-kind-eq0 : goal.returns-then-kind-eq0
-returns-then-kind-eq0 c = let called = c.load_at in
-    let told = called.ensures in let answer = whole called.result called.new.lengths called.new.ravel _ _
-    (told.0
+returns-then-kind-eq0 c =
+    let called = c.load_at in
+    let told = called.ensures in
+    let answer = whole called.result called.new.lengths called.new.ravel _ _
+    (told.ravel_after
     ∙ loads _ _ _ _ (sym c.number_at.ensures ∙ c.in-Number.is) c.if-kind-eq0.true)
-    told.1 in record { ravel_after = answer.0; usable = answer.1 }
+    told.few in
+    record { ravel_after = answer.0; usable = answer.1 }
 
 pub returns-then-kind-eq1 : goal.returns-then-kind-eq1
 returns-then-kind-eq1 c = let args = c.args in
