@@ -31,6 +31,7 @@ covered a (free n ∷ blocks) = omega (arith, covered (a + n) blocks)
 covered a (array n slop ∷ blocks) = omega (arith, covered (a + (n + slop)) blocks)
 
 room_small : (blocks : List Block) (n : ℕ) → HasRoom blocks n → n ≤ free_sizes blocks
+room_small [] n h = elim h [ ]
 room_small (free m ∷ blocks) n (inl h) = omega arith
 room_small (free m ∷ blocks) n (inr h) = omega (arith, room_small blocks n h)
 room_small (array m slop ∷ blocks) n h = room_small blocks n h

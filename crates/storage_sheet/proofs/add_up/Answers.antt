@@ -1,7 +1,8 @@
 use mathlib.Core.Path.{sym, ◌∙◌}
-use mathlib.Core.Logic.{inl, inr, ⊎_elim}
+use mathlib.Core.Logic.{inl, inr}
 use native.Mathlib.Omega.{arith}
 use Rattle.storage_sheet.proofs.Adding.{adding-start, free-fits, free_on, array-fits, slop-fits, array-on, all-added}
+use Rattle.storage_sheet.proofs.add_up.Goals.{then-free_at, else-free_at, else-loop-left-test, then-loop-left-test+then-end-a}
 use Rattle.storage_sheet.proofs.add_up.Goals as goal
 
 pub loop-left-init : goal.loop-left-init
@@ -53,14 +54,20 @@ loop-left-preserved c = let of = c.of-block.ensures in
     let inv = c.loop-left.invariant in
     let some = c.loop-left-test.true in
     let low = c.if-end-a.false in
-    ⊎_elim
-    (λ k. rw (k.1, k.2, k.3, span, size) (free_on inv some low (rw of at (sym c.free_at.ensures ∙ k.0.taken))))
-    (λ k. rw (k.2, k.3, k.4, span, size, rw of at k.1.ensures) (array-on inv some low (rw of at (sym c.free_at.ensures ∙ k.0.left))))
-    c.if-free_at.branch
+    elim c.if-free_at.branch [
+      then-free_at w ↦
+        rw (w.arrays-is, w.slop-is, w.free-is, span, size) (free_on inv some low (rw of at (sym c.free_at.ensures ∙ w.if-free_at.true)))
+    | else-free_at w ↦
+        rw (w.arrays-is, w.slop-is, w.free-is, span, size, rw of at w.slop_at-slop.ensures)
+        (array-on inv some low (rw of at (sym c.free_at.ensures ∙ w.if-free_at.false)))
+    ]
 
 pub returns : goal.returns
 returns c = all-added c.loop-left.invariant
-    (⊎_elim (λ k. inl k.left) (λ k. inr (k.0.taken, k.1.taken)) c.loop-left-test.branch)
+    (elim c.loop-left-test.branch [
+      else-loop-left-test w ↦ inl w.loop-left-test.false
+    | then-loop-left-test+then-end-a w ↦ inr (w.loop-left-test.true, w.if-end-a.true)
+    ])
     (c.number-from.ensures ∙ c.blockptr.ensures)
     (c.number-end.ensures ∙ c.dummy.ensures.result_value)
     (c.minus.ensures ∙ rw (c.number.ensures ∙ c.sbase.ensures))
