@@ -43,14 +43,12 @@ fn obey_arguments(
     data: &mut [u32],
     bytes: &mut [u8],
 ) -> usize {
-    let mut k: usize = 0;
-    while k < 0xffff_ffff {
+    for k in 0..usize::MAX {
         if !obey_argument(rt, k + 1, line, data, bytes) {
             return k;
         }
-        k += 1;
     }
-    k
+    usize::MAX
 }
 
 // The file that argument k names. Is there such an argument?
