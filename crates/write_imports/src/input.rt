@@ -64,15 +64,16 @@ fn plus(count: u32, more: usize) -> u32 {
 }
 
 // All lines. The last may lack its line feed.
-pub fn read_all(rt: &impl Input, start: Reading, line: &mut [u8], out: &mut [u8]) {
+pub fn read_all(rt: &(impl Input + Eprint), start: Reading, line: &mut [u8], out: &mut [u8]) {
     let mut buffer = io::large_buffer();
     let mut from = rt.reader();
-    let reading = read_lines(&mut from, start, &mut buffer, line, out);
+    let reading = read_lines(rt, &mut from, start, &mut buffer, line, out);
     end_line(reading, line, out);
 }
 
 // Reads until the input ends. Where it cannot be read on, the line that was begun is dropped.
 fn read_lines<R: Read>(
+    rt: &impl Eprint,
     from: &mut R,
     start: Reading,
     buffer: &mut [u8],
@@ -82,18 +83,22 @@ fn read_lines<R: Read>(
     let mut reading = start;
     let mut left: u64 = 0xffff_ffff_ffff_ffff;
     while 0 < left {
-        let Ok(n) = from.read(buffer) else {
-            io::write_all(STDERR, b"write_imports: cannot read standard input\n");
-            return reading.with_held(0, false);
-        };
-        if n == 0 {
-            return reading;
+        match from.read(buffer) {
+            Err(why) => {
+                let _ = eprintln!(rt; "write_imports: cannot read standard input: {why}");
+                return reading.with_held(0, false);
+            }
+            Ok(n) => {
+                if n == 0 {
+                    return reading;
+                }
+                reading = take(reading, &buffer[..n], line, out);
+                if reading.failed {
+                    return reading;
+                }
+                left -= 1;
+            }
         }
-        reading = take(reading, &buffer[..n], line, out);
-        if reading.failed {
-            return reading;
-        }
-        left -= 1;
     }
     reading
 }
