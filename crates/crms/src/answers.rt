@@ -1,11 +1,12 @@
 // Answers on standard output, a line each.
 use crate::buffers::first_bytes;
-use libc::STDOUT_FILENO;
 use line_tool::explain::{Last, put_last};
 use line_tool::fault::{Fault, put_fault, put_token};
 use line_tool::number::Base;
+use line_tool::streams::{STDERR, STDOUT};
 use line_tool::tokens::{Token, text, token_at};
 use line_tool::writing::{put, put_decimal, put_hex};
+use std::io::Error;
 use storage_sheet::Sheet;
 
 pub fn error(fault: Fault, line: &[u8], token: Token) {
@@ -188,14 +189,16 @@ fn end(out: &mut [u8], at: usize) {
 
 fn flush(out: &[u8], at: usize) {
     if at <= out.len() {
-        io::write_all(STDOUT_FILENO, &out[0..at]);
+        io::write_all(STDOUT, &out[0..at]);
     }
 }
 
-// Told on standard error, with the reason why the last call failed.
-pub fn cannot_read(name: &[u8]) {
+// Told on standard error, with the reason why.
+pub fn cannot_read(rt: &impl Eprint, name: &[u8], why: Error) {
     let mut out = io::large_buffer();
     let a = put(&mut out, 0, b"crms: cannot read ");
     let b = put(&mut out, a, name);
-    os::fail(first_bytes(&out, b));
+    let c = put(&mut out, b, b": ");
+    io::write_all(STDERR, first_bytes(&out, c));
+    let _ = rt.eprintln(why);
 }

@@ -6,17 +6,26 @@ use crate::session::Session;
 use line_tool::fault::Fault;
 use line_tool::tokens::{is_passed_over, line_end, token_at};
 use line_tool::writing::put;
+use std::io::Read;
 
 // All lines of a file, in a session of their own. The last may lack its line feed.
-pub fn obey_all(fd: i32, name: &[u8], line: &mut [u8], data: &mut [u32], bytes: &mut [u8]) {
+pub fn obey_all<R: Read>(
+    rt: &impl Eprint,
+    from: &mut R,
+    name: &[u8],
+    line: &mut [u8],
+    data: &mut [u32],
+    bytes: &mut [u8],
+) {
     let mut buffer = io::large_buffer();
-    let session = read_all(fd, name, &mut buffer, line, data, bytes);
+    let session = read_all(rt, from, name, &mut buffer, line, data, bytes);
     end_line(session, line, data, bytes);
 }
 
 // Reads until the file ends. Where it cannot be read on, the line that was begun is dropped.
-fn read_all(
-    fd: i32,
+fn read_all<R: Read>(
+    rt: &impl Eprint,
+    from: &mut R,
     name: &[u8],
     buffer: &mut [u8],
     line: &mut [u8],
@@ -26,17 +35,19 @@ fn read_all(
     let mut session = Session::new();
     let mut left: u64 = 0xffff_ffff_ffff_ffff;
     while 0 < left {
-        let got = libc::read(fd, buffer);
-        if got < 0 {
-            cannot_read(name);
-            return session.with_held(0, false);
+        match from.read(buffer) {
+            Err(why) => {
+                cannot_read(rt, name, why);
+                return session.with_held(0, false);
+            }
+            Ok(n) => {
+                if n == 0 {
+                    return session;
+                }
+                session = take(session, &buffer[..n], line, data, bytes);
+                left -= 1;
+            }
         }
-        let n = io::count(got, buffer);
-        if n == 0 {
-            return session;
-        }
-        session = take(session, &buffer[..n], line, data, bytes);
-        left -= 1;
     }
     session
 }

@@ -2,7 +2,7 @@
 use crate::buffers::NO_TABLE;
 use line_tool::explain::Last;
 
-#[derive(Drop)]
+#[derive(Clone, Copy)]
 pub struct Session {
     // Bytes of the line that is being read, and whether it has more than there is room for.
     pub held: usize,

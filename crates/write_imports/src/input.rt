@@ -2,12 +2,13 @@
 use crate::output::{give, tell};
 use crate::records::{Written, write_line};
 use crate::wrong::Wrong;
-use libc::STDIN_FILENO;
 use line_tool::fault::Fault;
+use line_tool::streams::STDERR;
 use line_tool::tokens::{is_passed_over, line_end, token_at};
 use line_tool::writing::put;
+use std::io::{Input, Read};
 
-#[derive(Drop)]
+#[derive(Clone, Copy)]
 pub struct Reading {
     pub show: bool,
     // Bytes of the line that is being read, and whether it has more than there is room for.
@@ -63,31 +64,41 @@ fn plus(count: u32, more: usize) -> u32 {
 }
 
 // All lines. The last may lack its line feed.
-pub fn read_all(start: Reading, line: &mut [u8], out: &mut [u8]) {
+pub fn read_all(rt: &(impl Input + Eprint), start: Reading, line: &mut [u8], out: &mut [u8]) {
     let mut buffer = io::large_buffer();
-    let reading = read_lines(start, &mut buffer, line, out);
+    let mut from = rt.reader();
+    let reading = read_lines(rt, &mut from, start, &mut buffer, line, out);
     end_line(reading, line, out);
 }
 
 // Reads until the input ends. Where it cannot be read on, the line that was begun is dropped.
-fn read_lines(start: Reading, buffer: &mut [u8], line: &mut [u8], out: &mut [u8]) -> Reading {
+fn read_lines<R: Read>(
+    rt: &impl Eprint,
+    from: &mut R,
+    start: Reading,
+    buffer: &mut [u8],
+    line: &mut [u8],
+    out: &mut [u8],
+) -> Reading {
     let mut reading = start;
     let mut left: u64 = 0xffff_ffff_ffff_ffff;
     while 0 < left {
-        let got = libc::read(STDIN_FILENO, buffer);
-        if got < 0 {
-            os::fail(b"write_imports: cannot read standard input");
-            return reading.with_held(0, false);
+        match from.read(buffer) {
+            Err(why) => {
+                let _ = eprintln!(rt; "write_imports: cannot read standard input: {why}");
+                return reading.with_held(0, false);
+            }
+            Ok(n) => {
+                if n == 0 {
+                    return reading;
+                }
+                reading = take(reading, &buffer[..n], line, out);
+                if reading.failed {
+                    return reading;
+                }
+                left -= 1;
+            }
         }
-        let n = io::count(got, buffer);
-        if n == 0 {
-            return reading;
-        }
-        reading = take(reading, &buffer[..n], line, out);
-        if reading.failed {
-            return reading;
-        }
-        left -= 1;
     }
     reading
 }
@@ -167,7 +178,7 @@ fn write_record(reading: Reading, line: &[u8], out: &mut [u8]) -> Reading {
 fn give_record(reading: Reading, record: &[u8], out: &mut [u8]) -> Reading {
     let done = give(reading.show, reading.place, reading.lines, record, out);
     if !done {
-        os::fail(b"write_imports: cannot write a record");
+        io::write_all(STDERR, b"write_imports: cannot write a record\n");
     }
     reading.wrote(record.len(), done)
 }

@@ -15,42 +15,56 @@ mod records;
 mod wrong;
 
 use input::{Reading, read_all};
-use libc::STDERR_FILENO;
 use line_tool::command::is;
+use line_tool::streams::STDERR;
+use std::env::FillError;
+use std::rt::Env;
 
 // A line may have the most elements that a record may have, with room to spare.
-fn main() {
-    let Asked::For(show) = argument() else {
+fn main(rt: HostRuntime) {
+    let Asked::For(show) = argument(&rt) else {
         io::write_all(
-            STDERR_FILENO,
+            STDERR,
             b"write_imports: the one argument that it takes is show\n",
         );
         return;
     };
     let mut line = [0u8; 262144];
     let mut out = io::large_buffer();
-    read_all(Reading::new(show), &mut line, &mut out);
+    read_all(&rt, Reading::new(show), &mut line, &mut out);
 }
 
 // Are the records to be shown?
-#[derive(Drop)]
+#[derive(Clone, Copy)]
 enum Asked {
     For(bool),
     Unclear,
 }
 
-fn argument() -> Asked {
-    let count = os::arg_count();
-    if count < 2 {
-        return Asked::For(false);
+fn argument(rt: &impl Env) -> Asked {
+    let mut word = io::buffer();
+    match rt.arg(1, &mut word) {
+        Err(FillError::NotPresent) => Asked::For(false),
+        Err(FillError::TooLong) => Asked::Unclear,
+        Ok(n) => asked_by(&word[..n], has_argument(rt, 2)),
     }
-    if 2 < count {
+}
+
+// What the first argument asks for, where there is a second one or none.
+fn asked_by(word: &[u8], has_second: bool) -> Asked {
+    if has_second {
         return Asked::Unclear;
     }
-    let mut word = io::buffer();
-    let n = os::arg(1, &mut word);
-    if is(&word[..n], b"show") {
+    if is(word, b"show") {
         return Asked::For(true);
     }
     Asked::Unclear
+}
+
+fn has_argument(rt: &impl Env, i: usize) -> bool {
+    let mut word = io::buffer();
+    match rt.arg(i, &mut word) {
+        Err(FillError::NotPresent) => false,
+        _ => true,
+    }
 }

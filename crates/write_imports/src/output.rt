@@ -1,21 +1,21 @@
 // Records and faults, written out.
 use crate::wrong::{Wrong, put_wrong};
-use libc::{STDERR_FILENO, STDOUT_FILENO};
 use line_tool::fault::put_token;
+use line_tool::streams::{STDERR, STDOUT};
 use line_tool::tokens::{Token, text, token_at};
 use line_tool::writing::{put, put_decimal};
 
 // The bytes of a record; or the place where it begins, the number of its line, and its bytes in HEX.
 pub fn give(show: bool, place: u32, number: u32, record: &[u8], out: &mut [u8]) -> bool {
     if !show {
-        return io::write_all(STDOUT_FILENO, record);
+        return io::write_all(STDOUT, record);
     }
     let a = put_decimal(out, 0, place);
     let b = put(out, a, b" line ");
     let c = put_decimal(out, b, number);
     let d = put(out, c, b": ");
     let e = put_bytes(out, d, record);
-    end(STDOUT_FILENO, out, e)
+    end(STDOUT, out, e)
 }
 
 // What is wrong with a line: among the records where they are shown.
@@ -34,7 +34,7 @@ fn put_line(out: &mut [u8], number: u32) -> usize {
 }
 
 fn faults(show: bool) -> i32 {
-    if show { STDOUT_FILENO } else { STDERR_FILENO }
+    if show { STDOUT } else { STDERR }
 }
 
 // Where the line ends too soon, what there is of it.
@@ -60,7 +60,7 @@ fn put_bytes(out: &mut [u8], from: usize, bytes: &[u8]) -> usize {
 }
 
 fn put_byte(out: &mut [u8], from: usize, byte: u8) -> usize {
-    let at = room(STDOUT_FILENO, out, from);
+    let at = room(STDOUT, out, from);
     put(out, at, &[glyph(byte / 16), glyph(byte % 16)])
 }
 

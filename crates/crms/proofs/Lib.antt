@@ -1,2 +1,0 @@
--- What the loops of the line tool keep.
-pub mod Kept
