@@ -17,13 +17,15 @@ returns-then-n-ge65536 c = let a = c.args in
 
 pub returns-then-n-ne0 : goal.returns-then-n-ne0
 returns-then-n-ne0 c = let a = c.args in
-    rw (← shaped-empty a.lengths.now (held a.seg.now a.b) c.product-n.result c.product-n.ensures (omega arith) (omega arith) (eqb-false _ _ (not-true _ c.if-n-ne0.true)))
+    rw (← shaped-empty a.lengths.now (held a.seg.now a.b) c.product-n.result c.product-n.ensures (omega arith) (omega arith) c.if-n-ne0.true)
 
 pub repeated-requires : goal.repeated-requires
 repeated-requires c = let a = c.args in
-    let filled : values.size (held a.seg.now a.b) ≡ 0 → c.product-n.result ≡ 0 = λ none. ⊎_elim (λ w. eqb-true _ _ (not-false _ w.1.left)) (λ w. absurd (w.left (c.type_size.ensures ∙ none))) c.else-size_of-eq0.branch in record { readable = (c.requires.0, search rules, search rules); n_value = (shaped-count a.lengths.now (held a.seg.now a.b) c.product-n.result c.product-n.ensures (omega arith), filled) }
+    let filled : values.size (held a.seg.now a.b) ≡ 0 → c.product-n.result ≡ 0 = λ none.
+      ⊎_elim (λ w. w.1) (λ w. absurd (w (c.size_of.ensures ∙ none))) c.else-size_of-eq0.either in record { readable = (c.requires.0, search rules, search rules); n_value = (shaped-count a.lengths.now (held a.seg.now a.b) c.product-n.result c.product-n.ensures (omega arith), filled) }
 
 pub returns : goal.returns
 returns c = let a = c.args in
-    let filled : values.size (held a.seg.now a.b) ≡ 0 → c.product-n.result ≡ 0 = λ none. ⊎_elim (λ w. eqb-true _ _ (not-false _ w.1.left)) (λ w. absurd (w.left (c.type_size.ensures ∙ none))) c.else-size_of-eq0.branch in
+    let filled : values.size (held a.seg.now a.b) ≡ 0 → c.product-n.result ≡ 0 = λ none.
+      ⊎_elim (λ w. w.1) (λ w. absurd (w (c.size_of.ensures ∙ none))) c.else-size_of-eq0.either in
     c.repeated.ensures ∙ ap (λ (r : OrTrap values.Value). carry a.seg.now (plan.replace_by a.next.0 2 r)) (shaped-filled a.lengths.now (held a.seg.now a.b) c.product-n.result c.product-n.ensures (omega arith) filled)
