@@ -1,4 +1,5 @@
 use native.Mathlib.Omega.{arith}
+use Rattle.manual.specs.Instructions.{header_of}
 use Rattle.fast_path.proofs.Answers.{left}
 use Rattle.fast_path.proofs.Decoding.{load-by}
 use Rattle.fast_path.proofs.load_long.Goals as goal
@@ -7,4 +8,4 @@ pub returns-then-i-eq0 : goal.returns-then-i-eq0
 returns-then-i-eq0 c = λ f. λ of. left
 
 pub returns : goal.returns
-returns c = λ f. λ of. let named = c.long-i.ensures c.if-i-eq0.false in load-by _ f _ _ (omega arith) _ _ named c.after.ensures (c.load_from.ensures _ _ (named.stands _ of))
+returns c = λ f. λ of. let named = c.long-i.ensures c.if-i-eq0.false in load-by _ f _ _ (omega arith) _ _ named c.after.ensures (c.load_from.ensures (header_of f) _ (named.stands _ of))
