@@ -1,6 +1,6 @@
 // Makes the calls of standard input and writes what each answers, with a hash of the data segment, so that a wrong word shows.
 // The first lines of the file stdin say what its lines mean; make_calls.py writes it, and knows most answers. (`rt try` ends its
-// interpreter at ten million steps, before the list does; its compiled runs make all calls.)
+// interpreter at twenty million steps, before the list does; its compiled runs make all calls.)
 #![tactic(auto)]
 
 mod calls;

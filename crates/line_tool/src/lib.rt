@@ -9,6 +9,7 @@ pub mod fault;
 pub mod hash;
 pub mod list;
 pub mod number;
+pub mod streams;
 pub mod tables;
 pub mod tokens;
 pub mod writing;
