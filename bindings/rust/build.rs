@@ -1,4 +1,4 @@
-//! Finds `libcrms_export.a`: in the folder that `CRMS_LIB_DIR` names, else in `target/staticlib` of the repository.
+//! Finds `libcrms_export.a`: in the folder that `CRMS_LIB_DIR` names, else in `crates/crms_export/out` of the repository.
 use std::env;
 use std::path::PathBuf;
 
@@ -8,14 +8,14 @@ fn main() {
         Some(named) => PathBuf::from(named),
         None => {
             let here = env::var_os("CARGO_MANIFEST_DIR").expect("cargo names the crate's folder");
-            PathBuf::from(here).join("../../target/staticlib")
+            PathBuf::from(here).join("../../crates/crms_export/out")
         }
     };
     let archive = folder.join("libcrms_export.a");
     println!("cargo:rerun-if-changed={}", archive.display());
     assert!(
         archive.exists(),
-        "{} is not there: write it by `rt staticlib crms_export`, or name its folder in CRMS_LIB_DIR",
+        "{} is not there: write it by `rt lib` in crates/crms_export, or name its folder in CRMS_LIB_DIR",
         archive.display()
     );
     println!("cargo:rustc-link-search=native={}", folder.display());

@@ -38,6 +38,7 @@ module _ (s : List ℕ) (n : ℕ) where
   walk-room a before (array m slop ∷ blocks) w l h = walk-room (a + (m + slop)) false blocks w.1 l h
 
   room-walk : (a : ℕ) (before : Bool) (blocks : List Block) → Walk s a before blocks → over a blocks < 2 ^ 16 → HasRoom blocks n → some fits (frees a blocks) ≡ true
+  room-walk a before [] w l h = elim h [ ]
   room-walk a before (free m ∷ blocks) w l (inl h) = simp (le-leb n (size_at s a) (omega (arith, free-size a before m blocks w l)))
   room-walk a before (free m ∷ blocks) w l (inr h) = either (fits a) (room-walk (a + m) true blocks w.1 l h)
   room-walk a before (array m slop ∷ blocks) w l h = room-walk (a + (m + slop)) false blocks w.1 l h

@@ -71,6 +71,7 @@ walk-starts n s a before (array z m ∷ blocks) h l k =
 -- an array among the blocks, by its address and by its SIZE
 pub array-counted : (s : List ℕ) (a : ℕ) (before : Bool) (blocks : List Block) (x size : ℕ) → Walk s a before blocks → over a blocks < 2 ^ 16 → ArrayIn a blocks x size
     → (0 < count x (arrays a blocks)) × (size_at s x ≡ size)
+array-counted s a before [] x size h l k = elim k [ ]
 array-counted s a before (free m ∷ blocks) x size h l k = array-counted s (a + m) true blocks x size h.1 l k
 array-counted s a before (array z m ∷ blocks) x size h l k =
     ⊎_elim (λ (e : (x ≡ a) × (size ≡ z)). rw (e.0, e.1) (omega (arith, hit_same a), array_size s a before z m h.0 (omega (arith, over-le (a + (z + m)) blocks))))

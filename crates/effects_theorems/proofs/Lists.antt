@@ -94,6 +94,7 @@ wanted-size s g (sets_origin v) h = inl refl
 
 -- a free block is shorter than the longest segment
 room_within : (a : ℕ) (blocks : List Block) (size : ℕ) → HasRoom blocks size → a + size ≤ over a blocks
+room_within a [] size h = elim h [ ]
 room_within a (free n ∷ blocks) size (inl h) = omega (arith, h, over-le (a + n) blocks)
 room_within a (free n ∷ blocks) size (inr h) = omega (arith, room_within (a + n) blocks size h)
 room_within a (array n slop ∷ blocks) size h = omega (arith, room_within (a + (n + slop)) blocks size h)

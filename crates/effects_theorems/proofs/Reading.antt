@@ -2,7 +2,7 @@
 use Prim.Native.Nat.{ℕ, ◌+◌, ◌^◌, ◌<◌}
 use mathlib.Core.Path.{◌≡◌, refl, sym, ◌∙◌}
 use mathlib.Core.Bool.{Bool, true, false, true≢false}
-use mathlib.Core.List.{List, ◌∷◌}
+use mathlib.Core.List.{List, [], ◌∷◌}
 use mathlib.Core.Logic.{inl, inr, ⊎_elim}
 use native.Mathlib.Omega.{arith}
 use lib.ListN.{length}
@@ -27,6 +27,7 @@ use Rattle.effects.specs.Sound.{Sound}
 
 -- SIZE of an array among the blocks
 array_size : (s : List ℕ) (a : ℕ) (p : Bool) (bs : List Block) (x z : ℕ) → Walk s a p bs → ArrayIn a bs x z → over a bs < 2 ^ 16 → size_at s x ≡ z
+array_size s a p [] x z w h l = elim h [ ]
 array_size s a p (free n ∷ bs) x z w h l = array_size s (a + n) true bs x z w.1 h l
 array_size s a p (array y k ∷ bs) x z w (inl h) l =
     rw (h.0, h.1) (array-fields s a p y k w.0 (omega (arith, l, over-le (a + (y + k)) bs))).0

@@ -1,6 +1,6 @@
 -- A variable's cell among the words: where it stands, a store to it, and what it is seen as.
 use Prim.Native.Nat.{ℕ, zero, suc, ◌+◌, ◌-◌, ◌/◌, ◌^◌, ◌<◌, ◌≤◌}
-use mathlib.Core.Path.{◌≡◌, refl, sym, ◌∙◌, ap}
+use mathlib.Core.Path.{◌≡◌, refl, sym, subst, ◌∙◌, ap}
 use mathlib.Core.List.{List, [], ◌∷◌, map}
 use mathlib.Core.Logic.{◌↔◌, ◌≢◌, ◌⊎◌, inl, inr, ⊎_elim}
 use native.Mathlib.Omega.{arith}
@@ -35,7 +35,8 @@ downward-set s a zero j w h l = absurd (omega arith)
 downward-set s a (suc n) zero w h l =
     let e : a + suc n - 1 - 0 ≡ a + n = omega arith in
     let k : a + n < length s = omega arith in
-    rw (e, get_or-set_same, downward-same s (set s (a + n) w) a n (λ i p q. let d : i ≢ a + n = omega arith in rw get_or-set_other))
+    subst (λ (i : ℕ). downward (set s i w) a (suc n) ≡ set (downward s a (suc n)) 0 w) (sym e)
+    (rw (get_or-set_same, downward-same s (set s (a + n) w) a n (λ i p q. let d : i ≢ a + n = omega arith in rw get_or-set_other)))
 downward-set s a (suc n) (suc j) w h l =
     let d : a + n ≢ a + suc n - 1 - suc j = omega arith in
     let e : a + suc n - 1 - suc j ≡ a + n - 1 - j = omega arith in
@@ -57,7 +58,7 @@ in-base {s} {base} (bottom q) (suc n) a l h = go (rw (frames-bottom n s base _ _
     go (inl k) = omega (arith, k, downward-length s (sbase s + 0) (base - 0))
     go (inr k) = absurd k
 in-base {s} {base} (upon q c) (suc n) a l h =
-    go (in-base c n a (omega arith)) (depth_is c n (omega arith)) (rw (frames-next n s base _ _ _ refl refl refl (omega arith)) at h)
+    go (in-base {base = last_lbase_at s base} c n a (omega arith)) (depth_is c n (omega arith)) (rw (frames-next n s base _ _ _ refl refl refl (omega arith)) at h)
   where
     go : (InFrames a (frames_from n s (last_lbase_at s base)) → a < last_lbase_at s base)
         → depth_of_frames (frames_from n s (last_lbase_at s base)) ≡ last_lbase_at s base + 2
@@ -153,7 +154,7 @@ module _ (s : List ℕ) (w : ℕ) (some : 1 ≤ sbase s) where
       (rw e
       (⊎_elim (λ (k : last_lbase_at s base + 2 ≤ a). chain_same (set s (sbase s + a) w) c (bound (sbase s + a) (omega arith))
       (λ i x y. other (sbase s + a) (omega arith) i (omega arith)))
-      (λ (k : a < last_lbase_at s base + 2). chain-put c n a (omega arith) (in-older n base a q (depth_is c n (omega arith)) k h))
+      (λ (k : a < last_lbase_at s base + 2). chain-put {base = last_lbase_at s base} c n a (omega arith) (in-older n base a q (depth_is c n (omega arith)) k h))
       (order (last_lbase_at s base + 2) a)))
 
   frames-put : {base : ℕ} → Chain s base → (n a : ℕ) → base < n → InFrames a (frames_from n s base) → sbase s + base ≤ length s
@@ -164,7 +165,7 @@ module _ (s : List ℕ) (w : ℕ) (some : 1 ≤ sbase s) where
   frames-put {base} (upon q c) (suc n) a l h f =
       put-upon (sbase s + a) (omega arith) n base a (omega arith) f refl (in-base (upon {base = base} q c) (suc n) a l h) (depth_is c n (omega arith)) q
       (λ k. let older = in-older n base a q (depth_is c n (omega arith)) k h in
-      (in-base c n a (omega arith) older, frames-put c n a (omega arith) older (omega arith)))
+      (in-base c n a (omega arith) older, frames-put {base = last_lbase_at s base} c n a (omega arith) older (omega arith)))
 
 -- where the variables stand
 pub record Place (s : List ℕ) (i : ℕ) : Type 0 where

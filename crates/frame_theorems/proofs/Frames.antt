@@ -81,7 +81,7 @@ depth_is {s} {base} (bottom q) (suc n) h =
     ap depth_of_frames (frames-bottom n s base _ _ _ refl refl refl (omega arith)) ∙ omega (arith, downward-length s (sbase s + 0) (base - 0))
 depth_is {s} {base} (upon q c) (suc n) h =
     ap depth_of_frames (frames-next n s base _ _ _ refl refl refl (omega arith))
-    ∙ omega (arith, depth_is c n (omega arith), downward-length s (sbase s + (last_lbase_at s base + 2)) (base - (last_lbase_at s base + 2)))
+    ∙ omega (arith, depth_is {base = last_lbase_at s base} c n (omega arith), downward-length s (sbase s + (last_lbase_at s base + 2)) (base - (last_lbase_at s base + 2)))
 
 -- the machine where the words of globals and frames stay
 pub words_left : (s s' : List ℕ) → 8 ≤ blockptr s → sbase s' ≡ sbase s → lbase s' ≡ lbase s → Same s s' 4 (blockptr s)

@@ -10,3 +10,4 @@ pub mod ReadBack
 pub mod OneEncoding
 pub mod Theorem
 pub mod Bounds
+pub mod Writing

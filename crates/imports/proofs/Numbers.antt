@@ -1,6 +1,6 @@
 -- Numbers: what a byte of a number comes to, and where a number ends.
 use Prim.Native.Nat.{ℕ, suc, ◌+◌, ◌*◌, ◌-◌, ◌^◌, ◌<◌, ◌≤◌}
-use mathlib.Core.Path.{◌≡◌, ap, ◌∙◌}
+use mathlib.Core.Path.{◌≡◌, refl, ap, ◌∙◌}
 use mathlib.Core.List.{List}
 use native.Mathlib.Omega.{arith}
 use lib.ListN.{get_or, length}
@@ -42,3 +42,9 @@ module _ (first second : ℕ) where
 
   pub weighed-twice : (high next : ℕ) → (high ≡ 0 → ⊥) → above first (above second (Number high next)) ≡ Number (first + 2 ^ 7 * (second + 2 ^ 7 * high)) next
   weighed-twice high next some = ap (above first) (weighed second high next some) ∙ weighed first (second + 2 ^ 7 * high) next (λ none. some (omega arith))
+
+  -- four groups, and the last one says that another follows
+  pub never_ending : (file : List ℕ) (place : ℕ) → place < length file → 2 ^ 7 ≤ get_or file place 0 → place + 1 < length file → 2 ^ 7 ≤ get_or file (place + 1) 0
+      → above first (above second (groups_at 2 file place)) ≡ Bad
+  never_ending file place inside high within marked =
+      both (more 1 file place inside _ refl high ∙ ap (above _) (unfinished file (place + 1) within _ refl marked))

@@ -42,6 +42,7 @@ pub fn number_at(file: &[u8], place: usize) -> FoundNumber
 }
 
 // The number whose two low groups are given: one or two follow.
+#[tactic(auto, using(crate::proofs::Numbers::never_ending))]
 fn long_at(file: &[u8], place: usize, first: u32, second: u32) -> FoundNumber
     requires { (first < 2 ^ 7) × (second < 2 ^ 7) }
     ensures { result ≡ meaning.above first (meaning.above second (meaning.groups_at 2 file.now place)) }

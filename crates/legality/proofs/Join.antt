@@ -61,7 +61,7 @@ module _ (s regular alternate : List ℕ) (m : Machine Cell) where
       )
   full-chain {base} (sound.upon q c) (suc n) l h =
       let k = rw (seen-upon n s base (last_lbase_at s base) refl (omega arith)) at h in
-      let r = full-chain c n (omega arith) (older-ones (deep c n (omega arith)) k) in (
+      let r = full-chain {base = last_lbase_at s base} c n (omega arith) (older-ones (deep c n (omega arith)) k) in (
         last_lbase_at s base ∷ r.0,
         (
           record {

@@ -5,3 +5,4 @@ pub mod Putting
 pub mod Listing
 pub mod Sameness
 pub mod Entries
+pub mod Hashing

@@ -1,5 +1,3 @@
 -- Replays: what is done record by record, and what the walks by hand share.
 mod Replaying
-mod Giving
-mod Parting
 mod Telling

@@ -1,6 +1,6 @@
 -- A scalar written over an element of an array.
 use Prim.Native.Nat.{ℕ, zero, suc, ◌+◌, ◌/◌, ◌%◌, ◌^◌, ◌<◌, ◌≤◌}
-use mathlib.Core.Path.{◌≡◌, ◌∙◌, ap}
+use mathlib.Core.Path.{◌≡◌, sym, subst, ◌∙◌, ap}
 use mathlib.Core.Bool.{true, false}
 use mathlib.Core.List.{List, [], ◌∷◌}
 use mathlib.Core.Logic.{◌≢◌, ◌⊎◌, inl, inr, ⊎_elim}
@@ -29,7 +29,8 @@ part-set s a zero j w h l = absurd (omega arith)
 part-set s a (suc n) zero w h l =
     let e : a + 0 ≡ a = omega arith in
     let k : a < length s = omega arith in
-    rw (e, get_or-set_same, part_same s (set s a w) (a + 1) n (λ i p q. let d : i ≢ a = omega arith in rw get_or-set_other))
+    subst (λ (i : ℕ). part (set s i w) a (suc n) ≡ set (part s a (suc n)) 0 w) (sym e)
+    (rw (get_or-set_same, part_same s (set s a w) (a + 1) n (λ i p q. let d : i ≢ a = omega arith in rw get_or-set_other)))
 part-set s a (suc n) (suc j) w h l =
     let d : a ≢ a + suc j = omega arith in
     let e : a + suc j ≡ a + 1 + j = omega arith in

@@ -1,6 +1,6 @@
 -- A heap from its parts, and the walk behind a block that is free from now on.
 use Prim.Native.Nat.{ℕ, ◌+◌, ◌-◌, ◌%◌, ◌^◌, ◌<◌}
-use mathlib.Core.Path.{◌≡◌, refl, ◌∙◌}
+use mathlib.Core.Path.{◌≡◌, refl, sym, subst, ◌∙◌}
 use mathlib.Core.Bool.{Bool, true, false}
 use mathlib.Core.List.{List, [], ◌∷◌}
 use native.Mathlib.Omega.{arith}
@@ -27,15 +27,19 @@ walk-mark s s' a (array z m ∷ bs) h n e k w = (
 )
 
 -- a heap from its parts, with the ring from any member
+pub member-is : {x y : ℕ} (l : List ℕ) → x ≡ y → 0 < count y l → 0 < count x l
+member-is l e h = subst (λ (r : ℕ). 0 < count r l) (sym e) h
+
 pub heap-make : {s : List ℕ} {bs : List Block} {t : List ℕ} → Heap s bs t → (s' : List ℕ) (bs' : List Block) → length s' ≡ length s
     → get_or s' 0 0 ≡ get_or s 0 0 → get_or s' 4 0 ≡ get_or s 4 0
     → get_or s' (sbase s - 1) 0 ≡ get_or s (sbase s - 1) 0
     → Walk s' (blockptr s) false bs' → over (blockptr s) bs' ≡ over (blockptr s) bs → (a : ℕ) (u : List ℕ) → Links s' a u a
-    → ((x : ℕ) → count x (a ∷ u) ≡ count x (over (blockptr s) bs ∷ frees (blockptr s) bs')) → 0 < count (rover s')
-    (over (blockptr s) bs ∷ frees (blockptr s) bs')
+    → ((x : ℕ) → count x (a ∷ u) ≡ count x (over (blockptr s) bs ∷ frees (blockptr s) bs')) → (r : ℕ) → rover s' ≡ r
+    → 0 < count r (over (blockptr s) bs ∷ frees (blockptr s) bs')
     → (t' : List ℕ) × Heap s' bs' t'
-heap-make {s} {bs} g s' bs' len z0 z4 ze walk ov a u links c m =
-    let r = ring-at s' a u (rover s') links (omega (arith, c (rover s'), m)) in (
+heap-make {s} {bs} g s' bs' len z0 z4 ze walk ov a u links c r e m =
+    let member : 0 < count (rover s') (a ∷ u) = member-is (a ∷ u) e (omega (arith, c r, m)) in
+    let r = ring-at s' a u (rover s') links member in (
       r.0,
       record {
         low = omega (arith, z4, g.low);

@@ -40,11 +40,13 @@ walk-second s s' x e a p (array z m ∷ bs) h k =
 
 -- an array's words stand clear of the free blocks and of the dummy
 pub inner-above : (a : ℕ) (bs : List Block) (i : ℕ) → Inner a bs i → a < i
+inner-above a [] i h = elim h [ ]
 inner-above a (free n ∷ bs) i h = omega (arith, inner-above (a + n) bs i h)
 inner-above a (array z k ∷ bs) i (inl h) = h.0
 inner-above a (array z k ∷ bs) i (inr h) = omega (arith, inner-above (a + (z + k)) bs i h)
 
 pub inner_below : (a : ℕ) (bs : List Block) (i : ℕ) → Inner a bs i → i < over a bs
+inner_below a [] i h = elim h [ ]
 inner_below a (free n ∷ bs) i h = inner_below (a + n) bs i h
 inner_below a (array z k ∷ bs) i (inl h) = omega (arith, over-le (a + (z + k)) bs)
 inner_below a (array z k ∷ bs) i (inr h) = inner_below (a + (z + k)) bs i h
@@ -57,6 +59,7 @@ inner-cases a (array z k ∷ xs) n ys i (inr h) = inner-cases (a + (z + k)) xs n
 
 pub inner-apart : (s : List ℕ) (a : ℕ) (p : Bool) (bs : List Block) (x i : ℕ) → Walk s a p bs → Inner a bs i → 0 < count x (over a bs ∷ frees a bs)
     → i ≢ x + 1
+inner-apart s a p [] x i w h k = elim h [ ]
 inner-apart s a p (free n ∷ bs) x i w h k =
     ⊎_elim (λ e. omega (arith, e, w.0.least, inner-above (a + n) bs i h)) (λ e. inner-apart s (a + n) true bs x i w.1 h (omega (arith, e, k)))
     (hit-cases x a)
@@ -79,6 +82,7 @@ inner-here a (array y m ∷ xs) z k ys i l u = inr (inner-here (a + (y + m)) xs 
 -- a store to a word of an array but its first leaves the walk
 pub walk-inner : (s s' : List ℕ) (j : ℕ) → ((i : ℕ) → i ≢ j → get_or s' i 0 ≡ get_or s i 0) → (a : ℕ) (p : Bool) (bs : List Block) → Walk s a p bs
     → Inner a bs j → Walk s' a p bs
+walk-inner s s' j e a p [] h k = elim k [ ]
 walk-inner s s' j e a p (free n ∷ bs) h k =
     (block_same s s' a p (free n) h.0 (λ i l u. e i (omega (arith, inner-above (a + n) bs j k))), walk-inner s s' j e (a + n) true bs h.1 k)
 walk-inner s s' j e a p (array z m ∷ bs) h (inl k) = (

@@ -1,6 +1,6 @@
 -- A release that joins the free block after the array keeps the heap.
 use Prim.Native.Nat.{ℕ, ◌+◌, ◌-◌, ◌<◌, ◌≤◌}
-use mathlib.Core.Path.{◌≡◌, refl, sym, ◌∙◌, ap}
+use mathlib.Core.Path.{◌≡◌, refl, sym, subst, ◌∙◌, ap}
 use mathlib.Core.Bool.{Bool, true, false}
 use mathlib.Core.List.{List, ◌∷◌, ◌++◌}
 use mathlib.Core.Logic.{◌≢◌, ◌⊎◌, inl, inr, ⊎_elim}
@@ -18,7 +18,7 @@ use Rattle.storage_theorems.proofs.Ring.{links-same, links-last}
 use Rattle.storage_theorems.proofs.Search.{members-once, free-ring}
 use Rattle.storage_theorems.proofs.Merge.{merged, merged-length, merged-other, merged-first, merged-end, merged-base, merged-moves, merged-rover}
 use Rattle.storage_theorems.proofs.Inner.{inner-cases, inner-apart, inner-swap, inner-here}
-use Rattle.storage_theorems.proofs.Heaps.{heap-make, not-prev}
+use Rattle.storage_theorems.proofs.Heaps.{heap-make, member-is, not-prev}
 use Rattle.storage_theorems.proofs.Hook.{hook-length, hook-other, hook-walk, relink-ring}
 
 module _ {s : List ℕ} {t : List ℕ} (xs : List Block) (z k m : ℕ) (ys : List Block) (g : Heap s (xs ++ array z k ∷ free m ∷ ys) t)
@@ -100,7 +100,7 @@ module _ {s : List ℕ} {t : List ℕ} (xs : List Block) (z k m : ℕ) (ys : Lis
 
     ring1 : Links s1 a (b ∷ vs) a
     ring1 =
-        rw h.0.next
+        subst (λ (y : ℕ). Links (hook s a (get_or s (q + 1) 0) (last_at s q) y) a (b ∷ vs) a) (sym h.0.next)
         (relink-ring s a (get_or s (q + 1) 0) q b (last_at s q) vs h (λ x. omega (arith, c x, members-once g x))
         (λ x w. let f = others x w in (omega (arith, place, f), f.0)) (omega (arith, place)) (omega (arith, place)) h.0.next refl refl)
 
@@ -156,7 +156,7 @@ module _ {s : List ℕ} {t : List ℕ} (xs : List Block) (z k m : ℕ) (ys : Lis
     rover-in : 0 < count (rover after) (end ∷ frees (blockptr s) new)
     rover-in =
         ⊎_elim (λ e. omega (arith, after-count (rover after), hit-eq (rover after) a e, far-q (rover after) e))
-        (λ e. rw e.1 (omega (arith, after-count (rover s), g.once (rover s), hit_same (rover s), hit-not (rover s) q e.0)))
+        (λ e. member-is (end ∷ frees (blockptr s) new) e.1 (omega (arith, after-count (rover s), g.once (rover s), hit_same (rover s), hit-not (rover s) q e.0)))
         (merged-rover s s1 a (z + k + m) q s1-length fits (s1-tag 1 (inr (omega arith))))
       where
         far-q : (x : ℕ) → x ≡ a → hit x q ≡ 0
@@ -184,7 +184,7 @@ module _ {s : List ℕ} {t : List ℕ} (xs : List Block) (z k m : ℕ) (ys : Lis
         a (b ∷ vs)
         linked
         (λ x. omega (arith, c x, after-count x))
-        rover-in
+        (rover after) refl rover-in
 
     was : (i : ℕ) → Inner (blockptr s) new i → Inner (blockptr s) old i
     was i w =
@@ -224,7 +224,7 @@ module _ {s : List ℕ} {t : List ℕ} (xs : List Block) (z k m : ℕ) (ys : Lis
   pub after-links : (b : ℕ) (vs : List ℕ) → Links s q (b ∷ vs) q → ((x : ℕ) → count x (q ∷ b ∷ vs) ≡ count x ring)
       → Links (join_after s a (z + k) q) a (b ∷ vs) a
   unfolding join_after relink
-  after-links b vs h c = rw size-q (linked b vs h c)
+  after-links b vs h c = subst (λ (n : ℕ). Links (merged s1 a (z + k + n) q) a (b ∷ vs) a) (sym size-q) (linked b vs h c)
 
   pub after-moves : (rover s ≡ q → rover (join_after s a (z + k) q) ≡ a) × (rover s ≢ q → rover (join_after s a (z + k) q) ≡ rover s)
   unfolding join_after relink

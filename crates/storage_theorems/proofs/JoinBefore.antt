@@ -111,7 +111,7 @@ module _ {s : List ℕ} {t : List ℕ} (xs : List Block) (m z k : ℕ) (ys : Lis
       (over-append (blockptr s) xs (free m ∷ array z k ∷ ys)))
       (rover s) t (before-links (rover s) t g.links g.once)
       (λ x. omega (arith, g.once x, after-count x))
-      (rw before-rover (omega (arith, g.once (rover s), hit_same (rover s), after-count (rover s))))
+      (rover s) before-rover (omega (arith, g.once (rover s), hit_same (rover s), after-count (rover s)))
 
   quiet_same : (i : ℕ) → i ≢ 1 → Quiet s new i → get_or after i 0 ≡ get_or s i 0
   quiet_same i n (inl h) = after-other i (omega (arith, place, h))

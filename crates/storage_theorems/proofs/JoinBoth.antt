@@ -1,6 +1,6 @@
 -- A release that joins the free blocks on both sides keeps the heap.
 use Prim.Native.Nat.{ℕ, ◌+◌, ◌-◌, ◌<◌, ◌≤◌}
-use mathlib.Core.Path.{◌≡◌, sym, ◌∙◌, ap}
+use mathlib.Core.Path.{◌≡◌, refl, sym, ◌∙◌, ap}
 use mathlib.Core.Bool.{Bool, true, false}
 use mathlib.Core.List.{List, ◌∷◌, ◌++◌}
 use mathlib.Core.Logic.{◌≢◌, inl, inr, ⊎_elim}
@@ -19,7 +19,7 @@ use Rattle.storage_theorems.proofs.Ring.{links-same, links-last}
 use Rattle.storage_theorems.proofs.Search.{members-once, free-ring}
 use Rattle.storage_theorems.proofs.Merge.{merged, merged-length, merged-other, merged-first, merged-end, merged-base, merged-moves, merged-rover}
 use Rattle.storage_theorems.proofs.Inner.{inner-cases, inner-apart, inner-swap}
-use Rattle.storage_theorems.proofs.Heaps.{heap-make}
+use Rattle.storage_theorems.proofs.Heaps.{heap-make, member-is}
 use Rattle.storage_theorems.proofs.Unlink.{unlink-ring, unlink-walk}
 
 module _ {s : List ℕ} {t : List ℕ} (xs : List Block) (j z k m : ℕ) (ys : List Block) (g : Heap s (xs ++ free j ∷ array z k ∷ free m ∷ ys) t) where
@@ -141,8 +141,8 @@ module _ {s : List ℕ} {t : List ℕ} (xs : List Block) (j z k m : ℕ) (ys : L
 
     rover-in : 0 < count (rover after) (end ∷ frees (blockptr s) new)
     rover-in =
-        ⊎_elim (λ e. rw e (omega (arith, p-in)))
-        (λ e. rw e.1 (omega (arith, after-count (rover s), g.once (rover s), hit_same (rover s), hit-not (rover s) q e.0)))
+        ⊎_elim (λ e. member-is (end ∷ frees (blockptr s) new) e (omega (arith, p-in)))
+        (λ e. member-is (end ∷ frees (blockptr s) new) e.1 (omega (arith, after-count (rover s), g.once (rover s), hit_same (rover s), hit-not (rover s) q e.0)))
         (merged-rover s (unlink s q) p (j + (z + k) + m) q (unlink-length s q) fits (low 1 (omega arith)))
 
     above : (i : ℕ) → end + 2 ≤ i → get_or after i 0 ≡ get_or s i 0
@@ -166,7 +166,7 @@ module _ {s : List ℕ} {t : List ℕ} (xs : List Block) (j z k m : ℕ) (ys : L
         b vs
         linked
         (λ x. omega (arith, c x, after-count x))
-        rover-in
+        (rover after) refl rover-in
 
     was : (i : ℕ) → Inner (blockptr s) new i → Inner (blockptr s) old i
     was i w =

@@ -1,6 +1,6 @@
 -- A release that joins no block keeps the heap.
 use Prim.Native.Nat.{ℕ, ◌+◌, ◌-◌, ◌*◌, ◌/◌, ◌%◌, ◌^◌, ◌<◌, ◌≤◌}
-use mathlib.Core.Path.{◌≡◌, refl, sym, ◌∙◌, ap}
+use mathlib.Core.Path.{◌≡◌, refl, sym, subst, ◌∙◌, ap}
 use mathlib.Core.Bool.{Bool, false}
 use mathlib.Core.List.{List, ◌∷◌, ◌++◌}
 use mathlib.Core.Logic.{◌≢◌, ◌⊎◌, inl, inr, ⊎_elim}
@@ -146,7 +146,7 @@ module _ {s : List ℕ} {t : List ℕ} (xs : List Block) (z k : ℕ) (ys : List 
       end (a ∷ turned.0)
       (linked turned.0 turned.1 turned.2)
       (λ x. omega (arith, turned.2 x, after-count x))
-      (rw same-rover (omega (arith, g.once (rover s), hit_same (rover s), after-count (rover s))))
+      (rover s) same-rover (omega (arith, g.once (rover s), hit_same (rover s), after-count (rover s)))
 
   pub none-heap : (t' : List ℕ) × Heap (join_none s a (z + k) (a + (z + k))) new t'
   unfolding join_none
@@ -155,7 +155,9 @@ module _ {s : List ℕ} {t : List ℕ} (xs : List Block) (z k : ℕ) (ys : List 
   pub none-links : (u : List ℕ) → Links s end u end → ((x : ℕ) → count x (end ∷ u) ≡ count x ring)
       → Links (join_none s a (z + k) (a + (z + k))) end (a ∷ u) end
   unfolding join_none
-  none-links u h c = let e : dummy s ≡ end = omega (arith, g.top) in rw (insert-is s a end e) (linked u h c)
+  none-links u h c =
+      let e : dummy s ≡ end = omega (arith, g.top) in
+      subst (λ (w : List ℕ). Links (set_prev_free (mark_free w a (z + k)) (a + (z + k))) end (a ∷ u) end) (sym (insert-is s a end e)) (linked u h c)
 
   pub none-rover : rover (join_none s a (z + k) (a + (z + k))) ≡ rover s
   unfolding join_none

@@ -1,6 +1,6 @@
 -- A new array, with one owner.
 use Prim.Native.Nat.{ℕ, ◌+◌, ◌*◌, ◌/◌, ◌^◌, ◌<◌, ◌≤◌}
-use mathlib.Core.Path.{◌≡◌, refl, ◌∙◌, ap}
+use mathlib.Core.Path.{◌≡◌, refl, sym, subst, ◌∙◌, ap}
 use mathlib.Core.Bool.{false}
 use mathlib.Core.List.{List, ◌∷◌}
 use mathlib.Core.Logic.{◌⊎◌, inl, inr, ⊎_elim}
@@ -117,7 +117,9 @@ module _ {s ws : List ℕ} (o : Owned s ws) (sh el : List ℕ) (ok : Proper sh e
     where
       now-counts : (y v : ℕ) → ((y ≡ x) × (v ≡ z)) ⊎ ArrayIn (blockptr s) o.blocks y v
           → (count_at s2 y ≡ count (array_word y) (array_word x ∷ ws)) × (0 < count (array_word y) (array_word x ∷ ws))
-      now-counts y v (inl e) = rw e.0 (omega (arith, second, unowned, hit_same (array_word x), ok.rank))
+      now-counts y v (inl e) = 
+          subst (λ (i : ℕ). (count_at s2 i ≡ count (array_word i) (array_word x ∷ ws)) × (0 < count (array_word i) (array_word x ∷ ws))) (sym e.0)
+          (omega (arith, second, unowned, hit_same (array_word x), ok.rank))
       now-counts y v (inr u) =
           let c = o.counts y v u in
           let q : hit (array_word y) (array_word x) ≡ 0 = ⊎_elim (λ e. absurd (omega (arith, unowned, c, ap (λ (m : ℕ). count m ws) e.0)))

@@ -2,7 +2,7 @@
 use Prim.Native.Nat.{ℕ, ◌+◌, ◌-◌, ◌^◌, ◌<◌, ◌≤◌}
 use mathlib.Core.Path.{◌≡◌, ◌∙◌, ap}
 use mathlib.Core.Bool.{Bool, true, false}
-use mathlib.Core.List.{List, ◌∷◌, ◌++◌}
+use mathlib.Core.List.{List, [], ◌∷◌, ◌++◌}
 use mathlib.Core.Logic.{◌↔◌, ◌≢◌, ◌⊎◌, inl, inr, ⊎_elim}
 use native.Mathlib.Omega.{arith}
 use Rattle.segment.specs.State.{blockptr}
@@ -110,6 +110,7 @@ served-at {s} {bs} {size} d l z = omega (arith, z, l, placed-above (request_at s
 -- a free block that is long enough, by its words
 room-free : (s : List ℕ) (a : ℕ) (p : Bool) (bs : List Block) (size : ℕ) → Walk s a p bs → over a bs < 2 ^ 16 → HasRoom bs size
     → (x : ℕ) × (0 < count x (frees a bs)) × (size ≤ size_at s x)
+room-free s a p [] size w l h = elim h [ ]
 room-free s a p (free n ∷ bs) size w l (inl h) = (a, omega (arith, hit_same a), omega (arith, w.0.first, over-le (a + n) bs))
 room-free s a p (free n ∷ bs) size w l (inr h) = let r = room-free s (a + n) true bs size w.1 l h in (r.0, omega (arith, r.1), r.2)
 room-free s a p (array n k ∷ bs) size w l h = room-free s (a + (n + k)) false bs size w.1 l h

@@ -179,7 +179,7 @@ module _ {s : List ℕ} {t : List ℕ} (xs : List Block) (n : ℕ) (ys : List Bl
       (above (sbase s - 1) (omega (arith, g.top))) after-walk after-over
       (rover s) t split-links
       (λ x. rw after-frees (g.once x))
-      (rw (split-rover, after-frees) (omega (arith, next-member, g.once (next_at s f))))
+      (next_at s f) split-rover (rw after-frees (omega (arith, next-member, g.once (next_at s f))))
 
   quiet_same : (i : ℕ) → i ≢ 1 → Quiet s old i → get_or after i 0 ≡ get_or s i 0
   quiet_same i k (inl q) = after_same i k (inl (omega (arith, place)))

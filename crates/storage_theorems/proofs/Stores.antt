@@ -33,4 +33,4 @@ module _ {s : List ℕ} {bs : List Block} {t : List ℕ} (g : Heap s bs t) (i v 
       (walk-inner s (set s i v) i same (blockptr s) false bs g.walk inn) refl
       (rover s) t (links-same s (set s i v) (rover s) t (rover s) g.links member-same (member-same (rover s) (omega (arith, hit_same (rover s)))))
       g.once
-      (rw ro (omega (arith, g.once (rover s), hit_same (rover s))))
+      (rover s) ro (omega (arith, g.once (rover s), hit_same (rover s)))

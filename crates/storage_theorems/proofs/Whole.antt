@@ -169,7 +169,7 @@ module _ {s : List ℕ} {t : List ℕ} (xs : List Block) (n : ℕ) (ys : List Bl
         (above (sbase s - 1) (omega (arith, g.top))) after-walk after-over
         b vs whole-links
         (λ x. omega (arith, c x, after-count x))
-        (rw whole-rover (omega (arith, c b, after-count b, hit_same b)))
+        b whole-rover (omega (arith, c b, after-count b, hit_same b))
 
     quiet_same : (i : ℕ) → i ≢ 1 → Quiet s old i → get_or after i 0 ≡ get_or s i 0
     quiet_same i k (inl q) =

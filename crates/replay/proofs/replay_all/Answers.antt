@@ -9,5 +9,5 @@ use Rattle.replay.proofs.replay_all.Goals as goal
 pub returns : goal.returns
 unfolding replayed
 returns c = let p = c.replay_records-answer in
-    let counted = counts-added c.of.result _ _ c.of.type-inv c.of.ensures (search rules) in
-    ap (λ (counts : List ℕ). replay p.result p.new.0 counts) counted ∙ p.ensures
+    let counted = counts-added c.of.result _ _ c.of.type_inv c.of.ensures (search rules) in
+    ap (λ (counts : List ℕ). replay p.result p.new.seg counts) counted ∙ p.ensures

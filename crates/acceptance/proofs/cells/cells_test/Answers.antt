@@ -14,19 +14,19 @@ shape_of-arrays-then-not-plain_cells c = c.arrays-1.given
 pub returns-then-not-plain_cells : goal.returns-then-not-plain_cells
 returns-then-not-plain_cells c = record {
   value = sym (globals-wrong c.requires (c.index-end.ensures ∙ c.blockptr.ensures)
-      c.plain_cells.ensures c.if-not-plain_cells.true);
+      (c.plain_cells.ensures.value, (c.plain_cells.ensures.met, c.plain_cells.ensures.x_bound)) c.if-not-plain_cells.true);
   met = never;
 }
 
 pub mark_variables-requires : goal.mark_variables-requires
 mark_variables-requires c = base-low c.requires (c.index-end.ensures ∙ c.blockptr.ensures)
-    c.plain_cells.ensures c.if-not-plain_cells.false c.lbase-base.ensures
+    (c.plain_cells.ensures.value, (c.plain_cells.ensures.met, c.plain_cells.ensures.x_bound)) c.if-not-plain_cells.false c.lbase-base.ensures
 
 pub cells_from-requires : goal.cells_from-requires
 cells_from-requires c = before-stack c.requires
     (c.index-end.ensures
     ∙ c.blockptr.ensures)
-    c.plain_cells.ensures c.if-not-plain_cells.false c.lbase-base.ensures
+    (c.plain_cells.ensures.value, (c.plain_cells.ensures.met, c.plain_cells.ensures.x_bound)) c.if-not-plain_cells.false c.lbase-base.ensures
     c.number.ensures (c.number-top.ensures ∙ c.ltop.ensures)
     c.mark_variables.ensures
 
@@ -41,7 +41,7 @@ pub returns : goal.returns
 returns c = let answer = all-cells c.requires
     (c.index-end.ensures
     ∙ c.blockptr.ensures)
-    c.plain_cells.ensures c.if-not-plain_cells.false c.lbase-base.ensures
+    (c.plain_cells.ensures.value, (c.plain_cells.ensures.met, c.plain_cells.ensures.x_bound)) c.if-not-plain_cells.false c.lbase-base.ensures
     c.number.ensures
     (c.number-top.ensures
-    ∙ c.ltop.ensures) c.cells_from.ensures in record { value = answer.0; met = answer.1 }
+    ∙ c.ltop.ensures) (c.cells_from.ensures.value, c.cells_from.ensures.met) in record { value = answer.0; met = answer.1 }

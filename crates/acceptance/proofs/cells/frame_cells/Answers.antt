@@ -11,11 +11,12 @@ pub shape_of-arrays-then-not-free_cells : goal.shape_of-arrays-then-not-free_cel
 shape_of-arrays-then-not-free_cells c = c.arrays-1.given
 
 pub returns-then-not-free_cells : goal.returns-then-not-free_cells
-returns-then-not-free_cells c = let answer = (
-  temporaries-fail c.requires (c.index-stack.ensures ∙ c.sbase.ensures)
-      c.free_cells.ensures c.if-not-free_cells.true,
-  (never, (never, never)),
-) in record { value = answer.0; gains = answer.1.0; met = answer.1.1.0; can_rise = answer.1.1.1 }
+returns-then-not-free_cells c = record {
+  value = temporaries-fail c.requires (c.index-stack.ensures ∙ c.sbase.ensures) (c.free_cells.ensures.value, (c.free_cells.ensures.met, c.free_cells.ensures.x_bound)) c.if-not-free_cells.true;
+  gains = never;
+  met = never;
+  can_rise = never;
+}
 
 pub unmark-requires : goal.unmark-requires
 unmark-requires c = rw (c.of.ensures, c.of-2.ensures)
@@ -23,7 +24,7 @@ unmark-requires c = rw (c.of.ensures, c.of-2.ensures)
 
 pub free_cells-requires-2 : goal.free_cells-requires-2
 free_cells-requires-2 c = arguments-room c.requires
-    (c.index-stack.ensures ∙ c.sbase.ensures) c.free_cells.ensures
+    (c.index-stack.ensures ∙ c.sbase.ensures) (c.free_cells.ensures.value, (c.free_cells.ensures.met, c.free_cells.ensures.x_bound))
     c.if-not-free_cells.false
 
 pub shape_of-arrays-then-not-free_cells-2 : goal.shape_of-arrays-then-not-free_cells-2
@@ -37,17 +38,17 @@ pub returns-then-not-free_cells-2 : goal.returns-then-not-free_cells-2
 returns-then-not-free_cells-2 c = let fails = arguments-fail c.requires
     (c.index-stack.ensures
     ∙ c.sbase.ensures)
-    c.free_cells.ensures c.if-not-free_cells.false
-    c.of.ensures c.of-2.ensures c.unmark.ensures c.free_cells-2.ensures
+    (c.free_cells.ensures.value, (c.free_cells.ensures.met, c.free_cells.ensures.x_bound)) c.if-not-free_cells.false
+    c.of.ensures c.of-2.ensures c.unmark.ensures (c.free_cells-2.ensures.value, (c.free_cells-2.ensures.met, c.free_cells-2.ensures.x_bound))
     c.if-not-free_cells-2.true in record { value = fails; gains = never; met = never; can_rise = never }
 
 pub plain_cells-requires : goal.plain_cells-requires
 plain_cells-requires c = locals-room c.requires
     (c.index-stack.ensures
     ∙ c.sbase.ensures)
-    c.free_cells.ensures c.if-not-free_cells.false
+    (c.free_cells.ensures.value, (c.free_cells.ensures.met, c.free_cells.ensures.x_bound)) c.if-not-free_cells.false
     c.of.ensures c.of-2.ensures c.unmark.ensures
-    c.free_cells-2.ensures c.if-not-free_cells-2.false
+    (c.free_cells-2.ensures.value, (c.free_cells-2.ensures.met, c.free_cells-2.ensures.x_bound)) c.if-not-free_cells-2.false
 
 pub shape_of-arrays : goal.shape_of-arrays
 shape_of-arrays c = c.arrays-3-1.given ∙ c.arrays-2-1.given
@@ -60,7 +61,7 @@ pub returns : goal.returns
 returns c = let answer = frame-done c.requires
     (c.index-stack.ensures
     ∙ c.sbase.ensures)
-    c.free_cells.ensures c.if-not-free_cells.false
+    (c.free_cells.ensures.value, (c.free_cells.ensures.met, c.free_cells.ensures.x_bound)) c.if-not-free_cells.false
     c.of.ensures c.of-2.ensures c.unmark.ensures
-    c.free_cells-2.ensures
-    c.if-not-free_cells-2.false c.plain_cells.ensures in record { value = answer.0; gains = answer.1.0; met = answer.1.1.0; can_rise = answer.1.1.1 }
+    (c.free_cells-2.ensures.value, (c.free_cells-2.ensures.met, c.free_cells-2.ensures.x_bound))
+    c.if-not-free_cells-2.false (c.plain_cells.ensures.value, (c.plain_cells.ensures.met, c.plain_cells.ensures.x_bound)) in record { value = answer.0; gains = answer.1.0; met = answer.1.1.0; can_rise = answer.1.1.1 }

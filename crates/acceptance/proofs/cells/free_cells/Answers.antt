@@ -17,7 +17,7 @@ is_proper-requires c =    meeting-room c.loop-i.invariant.1 c.loop-i-test.true
 pub returns-then-not-is_proper : goal.returns-then-not-is_proper
 returns-then-not-is_proper c = record { value = meeting-bad c.loop-i.invariant.1
           c.loop-i-test.true (free-alike c.args.seg.now (in_table c.args.variables.now))
-          c.is_proper.ensures.value c.if-not-is_proper.true; met = (never, never); x_bound =  }
+          c.is_proper.ensures.value c.if-not-is_proper.true; met = never; x_bound = never }
 
 pub loop-i-preserved : goal.loop-i-preserved
 loop-i-preserved c =    (

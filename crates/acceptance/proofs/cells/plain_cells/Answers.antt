@@ -14,7 +14,7 @@ is_direct-requires c =    meeting-room c.loop-i.invariant.1 c.loop-i-test.true c
 
 pub returns-then-not-is_direct : goal.returns-then-not-is_direct
 returns-then-not-is_direct c = record { value = meeting-bad c.loop-i.invariant.1 c.loop-i-test.true direct-alike c.is_direct.ensures.value
-          c.if-not-is_direct.true; met = (never, never); x_bound =  }
+          c.if-not-is_direct.true; met = never; x_bound = never }
 
 pub loop-i-preserved : goal.loop-i-preserved
 loop-i-preserved c = (

@@ -15,4 +15,4 @@ returns c = let a = c.args in
     let h = c.requires.1 in
     let on = sym c.on_ring.ensures ∙ c.if-not-on_ring.false in
     let round = c.round.ensures in
-    let e = ring-on a.seg.now a.marks.now h _ _ c.rover.ensures c.dummy-end.ensures.result_value on _ round.0 in record { value = e; tally = λ t. round.1 (e ∙ t) }
+    let e = ring-on a.seg.now a.marks.now h _ _ c.rover.ensures c.dummy-end.ensures.result_value on _ round.value in record { value = e; tally = λ t. round.tally (e ∙ t) }

@@ -16,7 +16,7 @@ pub elements_of-requires : goal.elements_of-requires
 elements_of-requires c = held_whole _ _ _ c.requires.held
 
 pub keep-m-requires : goal.keep-m-requires
-keep-m-requires c = let h = c.requires in rw c.elements_of.ensures (omega (arith, elements-few _ _ _ h.0 h.1.0))
+keep-m-requires c = let h = c.requires in rw c.elements_of.ensures (omega (arith, elements-few _ _ _ h.held h.seg_len_bound.0))
 
 pub slice_bounds-lengths-end : goal.slice_bounds-lengths-end
 slice_bounds-lengths-end c = kept-fits _ _ _ c.keep-r.ensures.value c.keep-r.ensures.to_after

@@ -17,10 +17,9 @@ returns-in-Full c = let a = c.args in
 
 pub returns-in-At : goal.returns-in-At
 returns-in-At c = let a = c.args in
-    let block = c.block-1.given in
-    let at = sym c.place.ensures.value ∙ block.1 in
-    let done = found-done a.seg.now a.shape.now a.ravel.now (replaces a.n (made a.shape.now a.ravel.now)) refl block.0.0 (omega arith) at in record {
+    let at = sym c.place.ensures.value ∙ c.in-At.is in
+    let done = found-done a.seg.now a.shape.now a.ravel.now (replaces a.n (made a.shape.now a.ravel.now)) refl c.in-At.block (omega arith) at in record {
   value = done.0;
   seg_after = rw (c.take.ensures, c.word.ensures, c.array.ensures, c.place.ensures.seg_after, c.bottom-b.ensures)
-          (replace-block _ _ _ block.0.0 at _ ∙ done.1);
+          (replace-block _ _ _ c.in-At.block at _ ∙ done.1);
 }

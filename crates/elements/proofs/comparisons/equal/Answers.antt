@@ -1,9 +1,6 @@
-use Prim.Native.Nat.{◌-◌}
 use mathlib.Core.Path.{sym, ◌∙◌}
-use mathlib.Core.Bool.{true}
 use native.Mathlib.Omega.{arith}
 use lib.Dec.{eqb}
-use Rattle.elements.specs.Parts.{one_kind}
 use Rattle.elements.proofs.Fast.{begins, first-there, second-there, goes_on, ends}
 use Rattle.elements.proofs.Compared.{fast-equal, compared}
 use Rattle.elements.proofs.comparisons.equal.Goals as goal

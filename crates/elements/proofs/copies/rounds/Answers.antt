@@ -25,7 +25,7 @@ loop-i-preserved c = let e = c.lesser-count.ensures in
     let f = round_is c.loop-i.invariant.4 c.loop-i-test.true c.requires e in (
       omega arith,
       refl,
-      same_len_mid c.loop-i.i (c.loop-i.i + c.lesser-count.result - c.loop-i.i) c.loop-i.to c.copy.new.1.0 (ap length c.copy.ensures ∙ round-fits c.lesser-count.result c.loop-i.i c.args.from.now c.loop-i.to (omega arith) (omega arith)) ∙ c.loop-i.invariant.2,
+      same_len_mid c.loop-i.i (c.loop-i.i + c.lesser-count.result - c.loop-i.i) c.loop-i.to c.copy.new.to (ap length c.copy.ensures ∙ round-fits c.lesser-count.result c.loop-i.i c.args.from.now c.loop-i.to (omega arith) (omega arith)) ∙ c.loop-i.invariant.2,
       filled-part c.loop-i.invariant.3 (omega arith) (rw (length-cycle _ _ c.requires) (omega arith)) (c.copy.ensures ∙ f),
       rounds-on c.loop-i.invariant.4 c.loop-i-test.true e,
     )

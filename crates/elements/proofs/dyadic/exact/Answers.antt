@@ -1,16 +1,9 @@
-use Prim.Native.Nat.{ℕ, ◌-◌}
 use mathlib.Core.Path.{sym, ap, ◌∙◌}
 use native.Mathlib.Omega.{arith}
-use Rattle.operator.specs.declared.Dyadic.{Dyadic}
-use Rattle.scalar.specs.Operators.{dyadic_of}
-use Rattle.manual.specs.OrTrap.{OrTrap}
 use Rattle.manual.specs.Values.{answered}
 use Rattle.elements.proofs.Collecting.{exact-start, exact-trap, exact_word, exact-end, pair-at, pairs-are, length_pairs, spans-below}
+use Rattle.elements.proofs.dyadic.exact.Invariants.{applied}
 use Rattle.elements.proofs.dyadic.exact.Goals as goal
-
--- what is done with a pair of elements
-abbrev applied : Dyadic → ℕ → ℕ → OrTrap ℕ
-applied op x y = answered (dyadic_of op x y)
 
 pub loop-i-init : goal.loop-i-init
 loop-i-init c = exact-start (length_pairs (applied c.args.op) c.requires.0) c.requires.1

@@ -1,4 +1,3 @@
-use Prim.Native.Nat.{◌-◌}
 use native.Mathlib.Omega.{arith}
 use Rattle.elements.proofs.Collecting.{spread-one, spread-all}
 use Rattle.elements.proofs.extension.pick.Goals as goal

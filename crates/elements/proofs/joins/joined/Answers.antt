@@ -2,7 +2,7 @@ use mathlib.Core.Path.{sym, ◌∙◌}
 use native.Mathlib.Omega.{arith}
 use lib.Dec.{leb}
 use lib.ListN.{length}
-use borrow.Author.Tests.{ne_eqb, not-true, not-false, leb-true}
+use borrow.Author.Tests.{ne_eqb, leb-true}
 use Rattle.manual.specs.Values.{joined_shape}
 use Rattle.manual.proofs.Tests.{both_hold}
 use Rattle.manual.proofs.Joins.{rows-rank, joined-table}

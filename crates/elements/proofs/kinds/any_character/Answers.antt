@@ -1,7 +1,5 @@
-use Prim.Native.Nat.{◌-◌}
 use mathlib.Core.Path.{sym, ◌∙◌}
 use native.Mathlib.Omega.{arith}
-use Rattle.descriptor.specs.Fields.{is_character}
 use Rattle.elements.proofs.Testing.{any-start, any-hit, any-on, any_none}
 use Rattle.elements.proofs.kinds.any_character.Goals as goal
 

@@ -1,4 +1,3 @@
-use Prim.Native.Nat.{◌-◌}
 use native.Mathlib.Omega.{arith}
 use Rattle.elements.proofs.Lengths.{agree-start, agree_on, agree-not, agree-all}
 use Rattle.elements.proofs.shapes.same.Goals as goal

@@ -1,4 +1,3 @@
-use Prim.Native.Nat.{◌-◌}
 use Rattle.elements.proofs.shapes.short.Goals as goal
 
 pub returns-in-Number : goal.returns-in-Number

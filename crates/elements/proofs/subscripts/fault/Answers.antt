@@ -1,4 +1,3 @@
-use Prim.Native.Nat.{◌-◌}
 use Rattle.elements.proofs.subscripts.fault.Goals as goal
 
 pub returns-in-Number : goal.returns-in-Number

@@ -1,6 +1,4 @@
-use Prim.Native.Nat.{◌-◌}
 use native.Mathlib.Omega.{arith}
-use Rattle.manual.specs.Values.{offset}
 use Rattle.elements.proofs.Places.{horner-start, horner-done, turn-product, turn-sum, turn}
 use Rattle.elements.proofs.subscripts.place_of.Goals as goal
 

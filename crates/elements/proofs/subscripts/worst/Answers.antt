@@ -1,5 +1,5 @@
 use Prim.Native.Nat.{max}
-use Prim.Native.Nat.{ℕ, ◌-◌}
+use Prim.Native.Nat.{ℕ}
 use mathlib.Core.Path.{ap, ◌∙◌}
 use native.Mathlib.Omega.{arith}
 use Rattle.elements.proofs.Places.{worst-start, worst-on, worst-done}

@@ -1,4 +1,3 @@
-use Prim.Native.Nat.{◌-◌}
 use native.Mathlib.Omega.{arith}
 use Rattle.elements.proofs.Integral.{fast-difference}
 use Rattle.elements.proofs.words.difference_word.Goals as goal

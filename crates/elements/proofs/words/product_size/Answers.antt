@@ -1,5 +1,4 @@
 use Rattle.scalar.proofs.Multiplication.{short-product}
-use Prim.Native.Nat.{◌-◌}
 use native.Mathlib.Omega.{arith}
 use Rattle.elements.proofs.words.product_size.Goals as goal
 

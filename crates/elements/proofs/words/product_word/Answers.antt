@@ -1,4 +1,3 @@
-use Prim.Native.Nat.{◌-◌}
 use mathlib.Core.Path.{refl}
 use Rattle.elements.proofs.Integral.{fast-product}
 use Rattle.elements.proofs.words.product_word.Goals as goal

@@ -1,4 +1,3 @@
-use Prim.Native.Nat.{◌-◌}
 use native.Mathlib.Omega.{arith}
 use Rattle.elements.proofs.Integral.{fast_sum}
 use Rattle.elements.proofs.words.sum_word.Goals as goal

@@ -16,9 +16,9 @@ run-requires c = let h = short-enough _ _ (sym c.run_refusal-refused.ensures ∙
 pub returns-in-Done : goal.returns-in-Done
 returns-in-Done c = let answered = c.run.ensures in
     let lent = c.sixteen-operators.ensures in let answer = has_ended _ _ _ _ (sym c.if-refused-ne0.false ∙ c.run_refusal-refused.ensures) _ _ _ c.put.ensures _ (Done c.in-Done.steps)
-    c.in-Done.is (rw lent at answered.0) (rw lent at answered.1) in record { seg_after = answer.0; promised = answer.1.0; counts_after = answer.1.1 }
+    c.in-Done.is (rw lent at answered.seg_after) (rw lent at answered.counts_after) in record { seg_after = answer.0; promised = answer.1.0; counts_after = answer.1.1 }
 
 pub returns-in-Trapped : goal.returns-in-Trapped
 returns-in-Trapped c = let answered = c.run.ensures in
     let lent = c.sixteen-operators.ensures in let answer = has_ended _ _ _ _ (sym c.if-refused-ne0.false ∙ c.run_refusal-refused.ensures) _ _ _ c.put.ensures _ (Trapped c.in-Trapped.steps)
-    c.in-Trapped.is (rw lent at answered.0) (rw lent at answered.1) in record { seg_after = answer.0; promised = answer.1.0; counts_after = answer.1.1 }
+    c.in-Trapped.is (rw lent at answered.seg_after) (rw lent at answered.counts_after) in record { seg_after = answer.0; promised = answer.1.0; counts_after = answer.1.1 }

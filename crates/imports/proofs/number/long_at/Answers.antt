@@ -1,7 +1,7 @@
 use native.Mathlib.Omega.{arith}
 use mathlib.Core.Path.{sym, ap, ◌∙◌}
 use Rattle.imports.specs.Numbers.{above}
-use Rattle.imports.proofs.Numbers.{cut, last, more, unfinished, needless, weighed, both, weighed-twice}
+use Rattle.imports.proofs.Numbers.{cut, last, more, needless, weighed, both, weighed-twice}
 use Rattle.imports.proofs.number.long_at.Goals as goal
 
 pub returns-then-file-place : goal.returns-then-file-place
@@ -16,17 +16,13 @@ returns-then-third-lt128 c = sym (both _ _ (last 1 _ _ c.if-file-place.false _ c
 pub returns-then-file-after : goal.returns-then-file-after
 returns-then-file-after c = sym (both _ _ (more 1 _ _ c.if-file-place.false _ c.byte_at-third.ensures.0 c.if-third-lt128.false ∙ ap (above _) (cut 0 _ _ c.if-file-after.true)))
 
-pub returns-then-fourth-ge128 : goal.returns-then-fourth-ge128
-returns-then-fourth-ge128 c = sym (both _ _ (more 1 _ _ c.if-file-place.false _ c.byte_at-third.ensures.0 c.if-third-lt128.false
-    ∙ ap (above _) (unfinished _ _ c.if-file-after.false _ c.byte_at-fourth.ensures.0 c.if-fourth-ge128.true)))
-
 pub returns-then-fourth-eq0 : goal.returns-then-fourth-eq0
 returns-then-fourth-eq0 c = sym (both _ _ (more 1 _ _ c.if-file-place.false _ c.byte_at-third.ensures.0 c.if-third-lt128.false
-    ∙ ap (above _) (last 0 _ _ c.if-file-after.false _ c.byte_at-fourth.ensures.0 c.if-fourth-ge128.false)
+    ∙ ap (above _) (last 0 _ _ c.if-file-after.false _ c.byte_at-fourth.ensures.0 (omega arith))
     ∙ needless _ _ _ c.if-fourth-eq0.true))
 
 pub returns : goal.returns
 returns c = sym (both _ _ (more 1 _ _ c.if-file-place.false _ c.byte_at-third.ensures.0 c.if-third-lt128.false
-    ∙ ap (above _) (last 0 _ _ c.if-file-after.false _ c.byte_at-fourth.ensures.0 c.if-fourth-ge128.false)
+    ∙ ap (above _) (last 0 _ _ c.if-file-after.false _ c.byte_at-fourth.ensures.0 (omega arith))
     ∙ weighed _ _ _ c.if-fourth-eq0.false)
     ∙ weighed-twice _ _ _ _ (λ none. c.if-fourth-eq0.false (omega arith)))

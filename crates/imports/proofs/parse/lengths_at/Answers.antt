@@ -13,4 +13,4 @@ returns-in_default c = record { ravel_after = simp (le-ltb _ _ c.if-rank-gt15.fa
 
 pub returns : goal.returns
 unfolding imported_lengths
-returns c = let told = c.elements_at.ensures in record { ravel_after = simp (le-ltb _ _ c.if-rank-gt15.false, sym (rw c.in-To.is at c.numbers_at.ensures)) told.0; few = told.1 }
+returns c = let told = c.elements_at.ensures in record { ravel_after = simp (le-ltb _ _ c.if-rank-gt15.false, sym (rw c.in-To.is at c.numbers_at.ensures)) told.ravel_after; few = told.few }

@@ -11,4 +11,4 @@ returns-in_default-number_at c = record { ravel_after = simp (← c.number_at.en
 
 pub returns : goal.returns
 unfolding imported_load
-returns c = let told = c.lengths_at.ensures in record { ravel_after = simp (← c.number_at.ensures, c.in-Number.is, ← c.number_at-2.ensures, c.in-Number-number_at.is) told.0; few = told.1 }
+returns c = let told = c.lengths_at.ensures in record { ravel_after = simp (← c.number_at.ensures, c.in-Number.is, ← c.number_at-2.ensures, c.in-Number-number_at.is) told.ravel_after; few = told.few }

@@ -1,55 +1,16 @@
-use Prim.Native.Nat.{ℕ, suc, ◌+◌, ◌-◌, ◌/◌, ◌%◌, ◌≤◌, ◌<◌}
-use native.Mathlib.Numerals.{add-one}
+use Prim.Native.Nat.{◌-◌}
 use native.Mathlib.Omega.{arith}
-use mathlib.Core.Path.{◌≡◌, refl, ◌∙◌}
-use mathlib.Core.List.{List}
-use borrow.Author.Tests.{lt-ltb, le-ltb}
-use lib.ListN.{length, set, length-set}
-use lib.Seq.{sets}
-use Rattle.imports.specs.Encoding.{encode_groups, encode_number}
+use Rattle.imports.proofs.Writing.{writing-start, writing-last, writing-more, writing-none}
 use Rattle.imports.proofs.write.write_number.Goals as goal
 
--- ---- the groups of the rest are still to be written, from another place on
-record Writing (n at : ℕ) (out₀ out : List ℕ) (rest to groups : ℕ) : Type 0 where
-  bytes : sets out to (encode_groups groups rest) ≡ sets out₀ at (encode_number n)
-  place : to + length (encode_groups groups rest) ≡ at + length (encode_number n)
-  as_long : length out ≡ length out₀
-  room : to + groups ≡ at + 4
-
-start : {n at : ℕ} {out : List ℕ} → Writing n at out out n at 4
-unfolding encode_number
-start = record { bytes = refl; place = refl; as_long = refl; room = refl }
-
-module _ {n at : ℕ} {out₀ out : List ℕ} {rest to groups : ℕ} (w : Writing n at out₀ out rest to groups) where
-  module _ (less : ℕ) (e : groups ≡ suc less) where
-    last : rest < 128 → (set out to rest ≡ sets out₀ at (encode_number n)) × (to + 1 ≡ at + length (encode_number n))
-    unfolding encode_groups
-    last h = (rw (e, lt-ltb rest 128 h) at w.bytes, rw (e, lt-ltb rest 128 h) at w.place)
-
-    more : 128 ≤ rest → Writing n at out₀ (set out to (128 + rest % 128)) (rest / 128) (to + 1) less
-    unfolding encode_groups
-    more h = record {
-      bytes = rw (add-one to) (rw (e, le-ltb rest 128 h) at w.bytes);
-      place = let p = rw (e, le-ltb rest 128 h) at w.place in omega (arith, p);
-      as_long = length-set out to _ ∙ w.as_long;
-      room = omega (arith, w.room);
-    }
-
-  none : groups ≡ 0 → (out ≡ sets out₀ at (encode_number n)) × (to ≡ at + length (encode_number n))
-  unfolding encode_groups
-  none e = (rw e at w.bytes, let p = rw e at w.place in omega (arith, p))
-
 pub loop-groups-init : goal.loop-groups-init
-loop-groups-init c = start
+loop-groups-init c = writing-start
 
 pub returns-then-rest-lt128 : goal.returns-then-rest-lt128
-returns-then-rest-lt128 c = let answer = last c.loop-groups.invariant (c.loop-groups.groups - 1) (omega arith) (omega arith) in record { out_after = answer.0; value = answer.1 }
+returns-then-rest-lt128 c = let answer = writing-last c.loop-groups.invariant (c.loop-groups.groups - 1) (omega arith) (omega arith) in record { out_after = answer.0; value = answer.1 }
 
 pub loop-groups-preserved : goal.loop-groups-preserved
-loop-groups-preserved c = more c.loop-groups.invariant (c.loop-groups.groups - 1) (omega arith) (omega arith)
-
-pub shape_of-out : goal.shape_of-out
-shape_of-out c = c.loop-groups.invariant.as_long
+loop-groups-preserved c = writing-more c.loop-groups.invariant (c.loop-groups.groups - 1) (omega arith) (omega arith)
 
 pub returns : goal.returns
-returns c = let answer = none c.loop-groups.invariant (omega arith) in record { out_after = answer.0; value = answer.1 }
+returns c = let answer = writing-none c.loop-groups.invariant (omega arith) in record { out_after = answer.0; value = answer.1 }

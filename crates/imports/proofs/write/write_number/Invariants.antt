@@ -1,7 +1,6 @@
-use Prim.Native.Nat.{◌-◌}
+use Rattle.imports.proofs.Writing.{Writing}
 use Rattle.imports.proofs.write.write_number.Given as goal
 
--- ---- the answers
 abbrev pub invariant-loop-groups : goal.invariant-loop-groups
 invariant-loop-groups l = Writing l.n l.at l.initial.out l.out l.rest l.to l.groups
 

@@ -25,11 +25,11 @@ pub up_from-requires : goal.up_from-requires
 up_from-requires c = omega (arith, length-take-le c.args.n c.args.scratch.now (omega arith))
 
 pub slice_bounds-replace_by_new-end-3 : goal.slice_bounds-replace_by_new-end-3
-slice_bounds-replace_by_new-end-3 c = sym (written-length c.args.n c.args.scratch.now c.up_from.new.1.0 (omega arith) (ap length c.up_from.ensures ∙ length-up_from _ _))
+slice_bounds-replace_by_new-end-3 c = sym (written-length c.args.n c.args.scratch.now c.up_from.new.to (omega arith) (ap length c.up_from.ensures ∙ length-up_from _ _))
 
 pub returns : goal.returns
 returns c = let a = c.args in
-    let numbers : c.up_from.new.1.0 ≡ values.up_from (iorg (flags a.seg.now)) a.n = rw (← c.iorg.ensures, ← length-take-le a.n a.scratch.now (omega arith)) c.up_from.ensures in
+    let numbers : c.up_from.new.to ≡ values.up_from (iorg (flags a.seg.now)) a.n = rw (← c.iorg.ensures, ← length-take-le a.n a.scratch.now (omega arith)) c.up_from.ensures in
     c.replace_by_new.ensures
-    ∙ ap (λ (words : List ℕ). carry a.seg.now (made_of a.next.0 1 (a.n ∷ []) (gives words))) (written a.n a.scratch.now c.up_from.new.1.0 (omega arith) (ap length c.up_from.ensures ∙ length-up_from _ _) ∙ numbers)
+    ∙ ap (λ (words : List ℕ). carry a.seg.now (made_of a.next.0 1 (a.n ∷ []) (gives words))) (written a.n a.scratch.now c.up_from.new.to (omega arith) (ap length c.up_from.ensures ∙ length-up_from _ _) ∙ numbers)
     ∙ rw (length-up_from (iorg (flags a.seg.now)) a.n)

@@ -16,8 +16,8 @@ returns-in-Full c = let a = c.args in
     let first = part-words a.seg.now 0 a.a stand.first c.elements_part-first.result c.elements_part-first.ensures in
     let second = part-words a.seg.now 1 a.b stand.second c.elements_part-second.result c.elements_part-second.ensures in
     let r = c.replace_by_joined.ensures in
-    rw (r.1, first, second)
-    (carry-refused a.seg.now (replaces 2 (made a.lengths.now ((held a.seg.now a.a).ravel ++ (held a.seg.now a.b).ravel))) (jumps a.next.0 ∷ []) (rw (first, second) at (sym c.in-Full.is ∙ r.0)))
+    rw (r.seg_after, first, second)
+    (carry-refused a.seg.now (replaces 2 (made a.lengths.now ((held a.seg.now a.a).ravel ++ (held a.seg.now a.b).ravel))) (jumps a.next.0 ∷ []) (rw (first, second) at (sym c.in-Full.is ∙ r.value)))
 
 pub returns-in-Done : goal.returns-in-Done
 returns-in-Done c = let a = c.args in
@@ -25,5 +25,5 @@ returns-in-Done c = let a = c.args in
     let first = part-words a.seg.now 0 a.a stand.first c.elements_part-first.result c.elements_part-first.ensures in
     let second = part-words a.seg.now 1 a.b stand.second c.elements_part-second.result c.elements_part-second.ensures in
     let r = c.replace_by_joined.ensures in
-    rw (c.jump.ensures, r.1, first, second)
-    (carry-served a.seg.now (replaces 2 (made a.lengths.now ((held a.seg.now a.a).ravel ++ (held a.seg.now a.b).ravel))) (jumps a.next.0 ∷ []) (rw (first, second) at (sym c.in-Done.is ∙ r.0)))
+    rw (c.jump.ensures, r.seg_after, first, second)
+    (carry-served a.seg.now (replaces 2 (made a.lengths.now ((held a.seg.now a.a).ravel ++ (held a.seg.now a.b).ravel))) (jumps a.next.0 ∷ []) (rw (first, second) at (sym c.in-Done.is ∙ r.value)))

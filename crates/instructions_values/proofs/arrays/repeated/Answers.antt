@@ -23,12 +23,12 @@ pub cycle_ravel-requires : goal.cycle_ravel-requires
 cycle_ravel-requires c = (c.requires.readable.0, λ none. length-take-le _ _ (omega arith) ∙ c.requires.n_value.1 none)
 
 pub slice_bounds-reshaped-end-2 : goal.slice_bounds-reshaped-end-2
-slice_bounds-reshaped-end-2 c = sym (written-length c.args.n c.args.scratch.now c.cycle_ravel.new.1.1.0 (omega arith) (omega arith))
+slice_bounds-reshaped-end-2 c = sym (written-length c.args.n c.args.scratch.now c.cycle_ravel.new.out (omega arith) (omega arith))
 
 pub reshaped-requires : goal.reshaped-requires
-reshaped-requires c = λ none. omega (arith, written-length c.args.n c.args.scratch.now c.cycle_ravel.new.1.1.0 (omega arith) (omega arith), repeated-some c.args.lengths.now c.args.n c.requires.n_value.0 none)
+reshaped-requires c = λ none. omega (arith, written-length c.args.n c.args.scratch.now c.cycle_ravel.new.out (omega arith) (omega arith), repeated-some c.args.lengths.now c.args.n c.requires.n_value.0 none)
 
 pub returns : goal.returns
 returns c = let a = c.args in
-    let words : c.cycle_ravel.new.1.1.0 ≡ values.cycle a.n (held a.seg.now a.b).ravel = rw (← length-take-le a.n a.scratch.now (omega arith)) c.cycle_ravel.ensures in
-    c.reshaped.ensures ∙ ap (λ (words : List ℕ). carry a.seg.now (plan.replace_by a.next.0 2 (gives (values.value a.lengths.now words)))) (written c.args.n c.args.scratch.now c.cycle_ravel.new.1.1.0 (omega arith) (omega arith) ∙ words)
+    let words : c.cycle_ravel.new.out ≡ values.cycle a.n (held a.seg.now a.b).ravel = rw (← length-take-le a.n a.scratch.now (omega arith)) c.cycle_ravel.ensures in
+    c.reshaped.ensures ∙ ap (λ (words : List ℕ). carry a.seg.now (plan.replace_by a.next.0 2 (gives (values.value a.lengths.now words)))) (written c.args.n c.args.scratch.now c.cycle_ravel.new.out (omega arith) (omega arith) ∙ words)

@@ -1,5 +1,5 @@
 use Rattle.line_tool.specs.Bytes.{byte_count}
-use borrow.Author.Tests.{not-true, not-false, lt-ltb, le-ltb, eq-eqb, ne_eqb}
+use borrow.Author.Tests.{lt-ltb, le-ltb, eq-eqb, ne_eqb}
 use Rattle.line_tool.proofs.bytes.count.Goals as goal
 
 pub returns-then-word-eq0 : goal.returns-then-word-eq0

@@ -1,4 +1,3 @@
-use Prim.Native.Nat.{◌-◌}
 use native.Mathlib.Omega.{arith}
 use Rattle.line_tool.proofs.Putting.{putting, putting-on, put_all, put_full, pairs-on, pairs-none}
 use Rattle.line_tool.proofs.bytes.put_bytes.Goals as goal

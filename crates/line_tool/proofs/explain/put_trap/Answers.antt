@@ -1,7 +1,12 @@
 use Rattle.line_tool.specs.Explain.{trap_text}
-use borrow.Author.Rules.{rules}
+use Rattle.line_tool.proofs.Putting.{followed}
 use Rattle.line_tool.proofs.explain.put_trap.Goals as goal
 
 pub returns : goal.returns
 unfolding trap_text
-returns c = search rules
+returns c =
+    followed _ _ _ _
+    (followed _ _ _ _
+    (followed _ _ _ _ (followed _ _ _ _ (followed _ _ _ _ c.put-a.ensures c.put_decimal-b.ensures) c.put-c.ensures) c.put_decimal-d.ensures)
+    c.put-e.ensures)
+    c.put_trap_words.ensures

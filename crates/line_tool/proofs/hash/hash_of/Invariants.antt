@@ -1,5 +1,6 @@
 use Prim.Native.Nat.{◌-◌, ◌≤◌}
 use lib.ListN.{length}
+use Rattle.line_tool.proofs.Hashing.{Hashed}
 use Rattle.line_tool.proofs.hash.hash_of.Given as goal
 
 abbrev pub invariant-loop-i : goal.invariant-loop-i

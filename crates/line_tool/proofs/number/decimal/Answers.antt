@@ -1,7 +1,7 @@
 use mathlib.Core.Path.{sym, ◌∙◌}
 use Rattle.line_tool.proofs.Numerals.{decimal-large, decimal-value}
 use Rattle.line_tool.specs.Numbers.{decimal_number}
-use borrow.Author.Tests.{not-true, not-false, eq-eqb, ne_eqb}
+use borrow.Author.Tests.{eq-eqb, ne_eqb}
 use Rattle.line_tool.proofs.number.decimal.Goals as goal
 
 pub returns-then-word-eq0 : goal.returns-then-word-eq0

@@ -2,7 +2,7 @@ use native.Mathlib.Omega.{arith}
 use mathlib.Core.Path.{sym, ◌∙◌}
 use Rattle.line_tool.proofs.Numerals.{hex-value, hex-fits}
 use Rattle.line_tool.specs.Numbers.{hex_number}
-use borrow.Author.Tests.{not-true, not-false, lt-ltb, eq-eqb, ne_eqb}
+use borrow.Author.Tests.{lt-ltb, eq-eqb, ne_eqb}
 use Rattle.line_tool.proofs.number.hex.Goals as goal
 
 pub returns-then-word-eq0 : goal.returns-then-word-eq0

@@ -1,4 +1,3 @@
-use Prim.Native.Nat.{◌-◌}
 use native.Mathlib.Omega.{arith}
 use Rattle.line_tool.proofs.Entries.{sought-first, found, sought-on, not_found}
 use borrow.Author.Rules.{rules}

@@ -1,8 +1,5 @@
-use Prim.Native.Nat.{◌-◌}
 use mathlib.Core.Path.{sym, ◌∙◌}
-use borrow.Author.Tests.{not-true, not-false}
 use native.Mathlib.Omega.{arith}
-use Rattle.line_tool.specs.Tokens.{is_of}
 use Rattle.line_tool.proofs.Places.{after_none, after_stop, after-step}
 use Rattle.line_tool.proofs.tokens.after_all.Goals as goal
 

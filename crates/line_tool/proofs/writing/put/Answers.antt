@@ -1,4 +1,3 @@
-use Prim.Native.Nat.{◌-◌}
 use native.Mathlib.Omega.{arith}
 use Rattle.line_tool.proofs.Putting.{putting, putting-on, put_all, put_full, put-done, rest-on, rest-none}
 use Rattle.line_tool.proofs.writing.put.Goals as goal

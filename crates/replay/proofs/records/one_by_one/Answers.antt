@@ -36,26 +36,26 @@ loop-place-preserved-in-Run c = let l = c.loop-place in
 pub slice_bounds-load_record-end : goal.slice_bounds-load_record-end
 slice_bounds-load_record-end c = let r = c.record_at in
     let w = load-within r.ensures.1 _ _ _ _ c.in-Load.is in
-    let same : length r.new.1.1.0 ≡ 15 = search rules in
+    let same : length r.new.lengths ≡ 15 = search rules in
     omega (arith, w, same)
 
 pub slice_bounds-load_record-end-in-Load : goal.slice_bounds-load_record-end-in-Load
 slice_bounds-load_record-end-in-Load c = let r = c.record_at in
     let w = load-within r.ensures.1 _ _ _ _ c.in-Load.is in
-    let same : length r.new.1.1.0 ≡ 15 = search rules in
-    sym (length-take-le _ r.new.1.1.0 (omega (arith, w, same)))
+    let same : length r.new.lengths ≡ 15 = search rules in
+    sym (length-take-le _ r.new.lengths (omega (arith, w, same)))
 
 pub slice_bounds-load_record-end-in-Load-2 : goal.slice_bounds-load_record-end-in-Load-2
 slice_bounds-load_record-end-in-Load-2 c = let r = c.record_at in
     let w = load-within r.ensures.1 _ _ _ _ c.in-Load.is in
-    let same : length r.new.1.1.1.0 ≡ 16384 = search rules in
+    let same : length r.new.ravel ≡ 16384 = search rules in
     omega (arith, w, same)
 
 pub slice_bounds-load_record-end-in-Load-3 : goal.slice_bounds-load_record-end-in-Load-3
 slice_bounds-load_record-end-in-Load-3 c = let r = c.record_at in
     let w = load-within r.ensures.1 _ _ _ _ c.in-Load.is in
-    let same : length r.new.1.1.1.0 ≡ 16384 = search rules in
-    sym (length-take-le _ r.new.1.1.1.0 (omega (arith, w, same)))
+    let same : length r.new.ravel ≡ 16384 = search rules in
+    sym (length-take-le _ r.new.ravel (omega (arith, w, same)))
 
 pub load_record-halt-requires : goal.load_record-halt-requires
 load_record-halt-requires c = c.loop-place.invariant.5

@@ -3,10 +3,17 @@ use Rattle.scalar.specs.Value.{units}
 use Rattle.scalar.specs.Operators.{plus}
 use Rattle.scalar.proofs.Operands.{first-float, second-float}
 use Rattle.scalar.proofs.Addition.{sum-integers}
+use Rattle.scalar.proofs.sums.plus.Goals.{then-a-eq0+else-b-eq0, else-a-eq0}
 use Rattle.scalar.proofs.sums.plus.Goals as goal
 
 pub returns-then-b-eq0 : goal.returns-then-b-eq0
 returns-then-b-eq0 c = let a = c.args in c.integer_sum.ensures ∙ sum-integers a.a a.b a.s a.t c.if-a-eq0.true c.if-b-eq0.true
 
 pub returns : goal.returns
-returns c = let a = c.args in c.float_sum.ensures ∙ sym (ap (λ (x : Bool). plus x a.s (units a.a) a.t (units a.b)) (⊎_elim (λ w. second-float a.a a.b w.0.taken w.1.left) (λ w. first-float a.a a.b w.left) c.if-a-eq0.branch))
+returns c =
+    let a = c.args in
+    c.float_sum.ensures
+    ∙ sym (ap (λ (x : Bool). plus x a.s (units a.a) a.t (units a.b)) (elim c.if-a-eq0.branch [
+      then-a-eq0+else-b-eq0 w ↦ second-float a.a a.b w.if-a-eq0.true w.if-b-eq0.false
+    | else-a-eq0 w ↦ first-float a.a a.b w.if-a-eq0.false
+    ]))
