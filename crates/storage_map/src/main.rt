@@ -26,7 +26,7 @@ fn main(rt: HostRuntime) {
     }
 }
 
-fn answer_text(rt: &(impl Env + Files<File = File> + Input), k: usize) -> bool {
+fn answer_text(rt: &(impl Env + Files<File = File> + Input + Eprint), k: usize) -> bool {
     let mut text = io::large_buffer();
     let n = read_text(rt, k, &mut text);
     answer(rt, &text[0..n])
