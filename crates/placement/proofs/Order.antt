@@ -1,6 +1,6 @@
 -- The order of releases: cells are dropped from the highest down, by the words that stood in them, once the result is placed.
 use Prim.Native.Nat.{ℕ, zero, suc, ◌+◌, ◌-◌, ◌/◌, ◌%◌, ◌^◌, ◌≤◌}
-use mathlib.Core.Path.{◌≡◌, refl, ◌∙◌, ap}
+use mathlib.Core.Path.{◌≡◌, refl, sym, subst, ◌∙◌, ap}
 use mathlib.Core.Bool.{true, false}
 use mathlib.Core.Logic.{inr}
 use mathlib.Core.List.{List, [], ◌∷◌, ◌++◌}
@@ -46,8 +46,8 @@ operands-down s zero i h = refl
 operands-down s (suc n) i h =
     let e : sbase s + ltop s + 1 - (i + suc n) + n ≡ sbase s + ltop s - i = omega arith in
     let d : sbase s + ltop s + 1 - (i + suc n) ≡ sbase s + ltop s + 1 - (i + 1 + n) = omega arith in
-    let r = operands-down s n (i + 1) (omega arith) in
-    rw (e, d, r)
+    let r = subst (λ (a : ℕ). downward s a n ≡ operands_from s (i + 1) n) (sym d) (operands-down s n (i + 1) (omega arith)) in
+    rw (e, r)
 
 module _ (s : List ℕ) (g : Sound s) (n : ℕ) where
   operands : n ≤ temporaries s → downward s (bottom_of s n) n ≡ operands_from s 0 n

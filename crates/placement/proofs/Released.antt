@@ -76,7 +76,7 @@ module _ {s : List ℕ} {bs : List Block} {t : List ℕ} (g : Heap s bs t) where
     -- a block that joins one which is no member
     once_more : (x : ℕ) → count x (end ∷ frees (blockptr s) bs) ≡ 0 → (y : ℕ) → hit y x + count y (end ∷ members) ≤ 1
     once_more x n y =
-        ⊎_elim (λ i. rw i.0 (omega (arith, n, counts x, hit_same x))) (λ i. omega (arith, i, counts y, members-once g y)) (hit-cases y x)
+        ⊎_elim (λ i. subst (λ (w : ℕ). hit w x + count w (end ∷ members) ≤ 1) (sym i.0) (omega (arith, n, counts x, hit_same x))) (λ i. omega (arith, i, counts y, members-once g y)) (hit-cases y x)
 
     member : (q : ℕ) → IsFree s bs q → (us : List ℕ) × (vs : List ℕ) × (members ≡ us ++ q ∷ vs)
     member q h = member-split q members (omega (arith, counts q, h))

@@ -42,6 +42,7 @@ member-ends s a p (array z m ∷ bs) y w l k = member-ends s (a + (z + m)) false
 -- an array stands before a free block or the dummy, or behind all of it
 member_apart : (s : List ℕ) (a : ℕ) (p : Bool) (bs : List Block) (y x z : ℕ) → Walk s a p bs → over a bs < 2 ^ 16
     → 0 < count y (over a bs ∷ frees a bs) → ArrayIn a bs x z → (x + z ≤ y) ⊎ ((y + 3 ≤ x) × (y + size_at s y ≤ x))
+member_apart s a p [] y x z w l k h = elim h [ ]
 member_apart s a p (free n ∷ bs) y x z w l k h =
     ⊎_elim
     (λ e. inr (rw e.0 (
