@@ -5,11 +5,14 @@
 ghost use Rattle.std.specs.Prelude.{◌≡◌, ◌<◌, length};
 
 use acceptance::Judgement;
-use libc::{STDIN_FILENO, STDOUT_FILENO};
+
+const STDIN: i32 = 0;
+
+const STDOUT: i32 = 1;
 
 fn main() {
     let mut text = io::large_buffer();
-    let n = io::read_full(STDIN_FILENO, &mut text);
+    let n = io::read_full(STDIN, &mut text);
     let mut seg = [0u32; 16400];
     let mut regular = [0u8; 32800];
     let mut alternate = [0u8; 32800];
@@ -58,9 +61,9 @@ fn judge(name: &[u8], seg: &[u32], regular: &[u8], alternate: &[u8], words: usiz
         return;
     }
     let answer = acceptance::judge(&seg[0..words], &regular[0..bytes], &alternate[0..others]);
-    io::print_decimal(STDOUT_FILENO, table_number(answer));
-    io::write_all(STDOUT_FILENO, b" ");
-    io::write_all(STDOUT_FILENO, name);
+    io::print_decimal(STDOUT, table_number(answer));
+    io::write_all(STDOUT, b" ");
+    io::write_all(STDOUT, name);
 }
 
 fn table_number(answer: Judgement) -> u64 {

@@ -1,8 +1,8 @@
 // The table that operators are named by, as the arguments so far ask for it.
-use libc::STDERR_FILENO;
 use line_tool::bytes::{Counted, count, put_bytes};
 use line_tool::command::is;
 use line_tool::fault::Fault;
+use line_tool::streams::STDERR;
 use operator::lent::{is_table, manual_table};
 
 #[derive(Drop)]
@@ -77,7 +77,7 @@ fn has_above(places: &[u8; 16]) -> bool {
 
 fn refuse(why: &[u8]) -> Asked {
     complain(why);
-    io::write_all(STDERR_FILENO, b"; the files after it are not listed\n");
+    io::write_all(STDERR, b"; the files after it are not listed\n");
     Asked {
         table: manual_table(),
         refused: true,
@@ -86,6 +86,6 @@ fn refuse(why: &[u8]) -> Asked {
 }
 
 fn complain(words: &[u8]) {
-    io::write_all(STDERR_FILENO, b"disasm: --table: ");
-    io::write_all(STDERR_FILENO, words);
+    io::write_all(STDERR, b"disasm: --table: ");
+    io::write_all(STDERR, words);
 }

@@ -13,48 +13,60 @@ mod text;
 
 use asked::Asked;
 use line_tool::command::is;
+use std::env::FillError;
+use std::fs::File;
+use std::os::fd::AsRawFd;
+use std::rt::{Env, Files};
 use text::{number, say};
 
-fn main() {
-    let count = os::arg_count();
+fn main(rt: HostRuntime) {
     let mut asked = Asked::manual();
     let mut k = 1;
-    while k < count {
-        asked = argument(asked, k);
+    while k < usize::MAX {
+        let mut word = io::buffer();
+        match rt.arg(k, &mut word) {
+            Ok(n) => asked = argument(&rt, asked, &word[..n]),
+            Err(FillError::TooLong) => asked = argument(&rt, asked, b""),
+            Err(FillError::NotPresent) => break,
+        }
         k += 1;
     }
     asked.end();
 }
 
-fn argument(asked: Asked, k: usize) -> Asked {
-    let mut word = io::buffer();
-    let n = os::arg(k, &mut word);
+fn argument(rt: &impl Files<File = File>, asked: Asked, word: &[u8]) -> Asked {
     if asked.option {
-        return asked::lent(&word[..n]);
+        return asked::lent(word);
     }
-    if is(&word[..n], b"--table") {
+    if is(word, b"--table") {
         return asked.at_option();
     }
     if !asked.refused {
         let table = asked.table;
-        list_file(&word[..n], table);
+        list_file(rt, word, table);
     }
     asked
 }
 
 // The segment in a file.
-fn list_file(path: &[u8], table: [u8; 16]) {
+fn list_file(rt: &impl Files<File = File>, path: &[u8], table: [u8; 16]) {
     say(path);
     say(b": ");
-    let fd = os::open_read(path);
-    if fd < 0 {
+    let Some(file) = open_read(rt, path) else {
         say(b"cannot be read\n");
         return;
-    }
+    };
     let mut bytes = io::large_buffer();
-    let length = io::read_full(fd, &mut bytes);
-    libc::close(fd);
+    let length = io::read_full(file.as_raw_fd(), &mut bytes);
     list_bytes(&bytes[..length], table);
+}
+
+// The library names files by text alone: bytes that are no text name none.
+fn open_read(rt: &impl Files<File = File>, path: &[u8]) -> Option<File> {
+    let Ok(text) = str::from_utf8(path) else {
+        return None;
+    };
+    File::open(rt, text).ok()
 }
 
 // A file of no length that a procedure segment has is said to be so before anything is read from it.

@@ -2,19 +2,19 @@
 use instruction::{
     Address, ArrayOperation, ControlOperation, Jump, MemoryOperation, StackOperation,
 };
-use libc::STDOUT_FILENO;
+use line_tool::streams::STDOUT;
 use operator::{Dyadic, Monadic, Operator};
 
 pub fn say(words: &[u8]) {
-    io::write_all(STDOUT_FILENO, words);
+    io::write_all(STDOUT, words);
 }
 
 pub fn number(n: u64) {
-    io::print_decimal(STDOUT_FILENO, n);
+    io::print_decimal(STDOUT, n);
 }
 
 pub fn hex(n: u64, width: usize) {
-    io::print_hex(STDOUT_FILENO, n, width);
+    io::print_hex(STDOUT, n, width);
 }
 
 // A number of at most five digits, set to the right.

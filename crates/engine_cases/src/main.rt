@@ -1,6 +1,6 @@
 // Makes the calls of standard input and writes what each answers, with a hash of the data segment, so that a wrong word shows.
 // The first lines of the file stdin say what its lines mean; make_calls.py writes it, and knows most answers. (`rt try` ends its
-// interpreter at ten million steps, before the list does; its compiled runs make all calls.)
+// interpreter at twenty million steps, before the list does; its compiled runs make all calls.)
 #![tactic(auto)]
 
 mod calls;
@@ -10,15 +10,16 @@ mod saying;
 
 use calls::call;
 use lent::{first_bytes, least, part, put_code};
-use libc::STDIN_FILENO;
 use lines::{find, numbers_of};
 use saying::{say, say_hash};
 use segment::{put_all, word};
 
+const STDIN: i32 = 0;
+
 // There is room for segments that are a little too long, which a call must refuse.
 fn main() {
     let mut text = io::large_buffer();
-    let n = io::read_full(STDIN_FILENO, &mut text);
+    let n = io::read_full(STDIN, &mut text);
     let mut seg = [0u32; 16400];
     let mut regular = [0u8; 32800];
     let mut alternate = [0u8; 32800];

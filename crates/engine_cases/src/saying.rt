@@ -1,20 +1,21 @@
 // What the program writes.
-use libc::STDOUT_FILENO;
 use operations::{Answer, Looked, Run};
 use segment::word;
 
+const STDOUT: i32 = 1;
+
 pub fn say(text: &[u8]) {
-    io::write_all(STDOUT_FILENO, text);
+    io::write_all(STDOUT, text);
 }
 
 fn say_number(n: u64) {
     say(b" ");
-    io::print_decimal(STDOUT_FILENO, n);
+    io::print_decimal(STDOUT, n);
 }
 
 fn say_word(w: u32) {
     say(b" ");
-    io::print_hex(STDOUT_FILENO, w as u64, 8);
+    io::print_hex(STDOUT, w as u64, 8);
 }
 
 fn say_words(words: &[u32]) {
@@ -52,9 +53,9 @@ fn say_steps(status: u64, steps: u32) {
 
 fn say_trap(trap: u32) {
     say(b" (");
-    io::print_decimal(STDOUT_FILENO, (trap / 0x100) as u64);
+    io::print_decimal(STDOUT, (trap / 0x100) as u64);
     say(b",");
-    io::print_decimal(STDOUT_FILENO, (trap % 0x100) as u64);
+    io::print_decimal(STDOUT, (trap % 0x100) as u64);
     say(b")");
 }
 
@@ -89,7 +90,7 @@ fn show(seg: &[u32], address: u32) {
 
 pub fn say_hash(seg: &[u32]) {
     say(b" #");
-    io::print_hex(STDOUT_FILENO, hash(seg), 8);
+    io::print_hex(STDOUT, hash(seg), 8);
 }
 
 // As the line tool has it: h = (31 h + w) mod 4,294,967,291 for each word w, from 0 on.

@@ -8,7 +8,10 @@ ghost use Rattle.std.specs.Prelude.{◌≡◌, ℕ, ◌<◌, length, ◌≢◌};
 ghost use Rattle.imports.specs.Parsing.{Advances};
 
 use imports::parse::{Parsed, record_at};
-use libc::{STDIN_FILENO, STDOUT_FILENO};
+
+const STDIN: i32 = 0;
+
+const STDOUT: i32 = 1;
 
 // How many records were read; of what is no record the place.
 #[derive(Clone, Copy)]
@@ -19,7 +22,7 @@ enum Ending {
 
 fn main() {
     let mut file = [0u8; 256];
-    let n = io::read_full(STDIN_FILENO, &mut file);
+    let n = io::read_full(STDIN, &mut file);
     cut(&file[..n]);
     change(&mut file[..n]);
 }
@@ -58,8 +61,8 @@ fn read_with(file: &mut [u8], place: usize, byte: u8)
     let before = file[place];
     file[place] = byte;
     write_number(b"byte ", place);
-    io::write_all(STDOUT_FILENO, b" as ");
-    io::print_hex(STDOUT_FILENO, byte as u64, 2);
+    io::write_all(STDOUT, b" as ");
+    io::print_hex(STDOUT, byte as u64, 2);
     write_ending(read(file));
     file[place] = before;
 }
@@ -106,17 +109,17 @@ fn write_ending(ending: Ending) {
     match ending {
         Ending::Ends(records) => {
             write_number(b" records ", records);
-            io::write_all(STDOUT_FILENO, b" ends\n");
+            io::write_all(STDOUT, b" ends\n");
         }
         Ending::Malformed(records, place) => {
             write_number(b" records ", records);
             write_number(b" malformed ", place);
-            io::write_all(STDOUT_FILENO, b"\n");
+            io::write_all(STDOUT, b"\n");
         }
     }
 }
 
 fn write_number(name: &[u8], n: usize) {
-    io::write_all(STDOUT_FILENO, name);
-    io::print_decimal(STDOUT_FILENO, n as u64);
+    io::write_all(STDOUT, name);
+    io::print_decimal(STDOUT, n as u64);
 }

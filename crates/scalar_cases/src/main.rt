@@ -4,13 +4,16 @@
 
 ghost use Rattle.std.specs.Prelude.{◌+◌, ◌≤◌, ◌<◌, ◌≡◌, length};
 
-use libc::{STDIN_FILENO, STDOUT_FILENO};
 use operator::{Operator, Suboperation};
 use scalar::Answer;
 
+const STDIN: i32 = 0;
+
+const STDOUT: i32 = 1;
+
 fn main() {
     let mut cases = io::large_buffer();
-    let n = io::read_full(STDIN_FILENO, &mut cases);
+    let n = io::read_full(STDIN, &mut cases);
     run_all(&cases[..n]);
 }
 
@@ -31,7 +34,7 @@ fn run_all(cases: &[u8]) {
 fn run(line: &[u8])
     requires { length line.now ≡ 21 }
 {
-    io::write_all(STDOUT_FILENO, &line[0..20]);
+    io::write_all(STDOUT, &line[0..20]);
     write(answer(
         number(&line[0..2]),
         number(&line[3..11]),
@@ -56,17 +59,17 @@ fn apply(operator: Operator, a: u32, b: u32) -> Answer {
 fn write(answer: Answer) {
     match answer {
         Answer::Word(w) => {
-            io::write_all(STDOUT_FILENO, b" word ");
-            io::print_hex(STDOUT_FILENO, w as u64, 8);
+            io::write_all(STDOUT, b" word ");
+            io::print_hex(STDOUT, w as u64, 8);
         }
         Answer::Trap(class, number) => {
-            io::write_all(STDOUT_FILENO, b" trap ");
-            io::print_decimal(STDOUT_FILENO, class as u64);
-            io::write_all(STDOUT_FILENO, b",");
-            io::print_decimal(STDOUT_FILENO, number as u64);
+            io::write_all(STDOUT, b" trap ");
+            io::print_decimal(STDOUT, class as u64);
+            io::write_all(STDOUT, b",");
+            io::print_decimal(STDOUT, number as u64);
         }
     }
-    io::write_all(STDOUT_FILENO, b"\n");
+    io::write_all(STDOUT, b"\n");
 }
 
 // A hexadecimal number, the last eight digits of it.

@@ -1,5 +1,5 @@
 // Answers on standard output, each in one write.
-use libc::STDOUT_FILENO;
+use line_tool::streams::{STDERR, STDOUT};
 use line_tool::writing::{put, put_decimal};
 
 // A line: a word with a blank, and a number.
@@ -9,14 +9,20 @@ pub fn put_count(out: &mut [u8], at: usize, name: &[u8], n: u32) -> usize {
     put(out, b, b"\n")
 }
 
-// Writes the first n bytes. Where they are not taken, standard error has what failed and why.
+// Writes the first n bytes. Where they are not taken, standard error has what failed.
 pub fn give(out: &[u8], n: usize, what: &[u8]) -> bool {
     if out.len() < n {
         return false;
     }
-    let done = io::write_all(STDOUT_FILENO, &out[0..n]);
+    let done = io::write_all(STDOUT, &out[0..n]);
     if !done {
-        os::fail(what);
+        tell(what);
     }
     done
+}
+
+// A line on standard error.
+pub fn tell(what: &[u8]) {
+    io::write_all(STDERR, what);
+    io::write_all(STDERR, b"\n");
 }

@@ -1,42 +1,55 @@
 // The texts whose lines name the files: one for each argument, or standard input alone.
 ghost use Rattle.std.specs.Prelude.{◌≤◌, length};
 
-use crate::files::read_part;
-use libc::STDIN_FILENO;
+use crate::files::{open_read, read_part};
 use line_tool::command::is;
+use std::env::FillError;
+use std::io::Input;
+use std::rt::{Env, Files};
 
 // The texts are those from 1 up to this number, which is none of them.
-pub fn texts_end() -> usize {
-    let count = os::arg_count();
+pub fn texts_end(rt: &impl Env) -> usize {
+    let count = arg_count(rt);
     if count < 2 { 2 } else { count }
+}
+
+// How many arguments the program was started with, its own name among them.
+fn arg_count(rt: &impl Env) -> usize {
+    let mut count = 0;
+    while count < usize::MAX {
+        if let Err(FillError::NotPresent) = rt.arg(count, &mut []) {
+            return count;
+        }
+        count += 1;
+    }
+    count
 }
 
 // Text k: how many bytes were put at the front of the buffer, none where it cannot be read. A text that is longer than the buffer
 // is cut. With 65,536 bytes that changes no answer: a name that can be opened and its line feed have 4,096 bytes at most, and a
 // longer line among the first three makes its segment empty, so that test 10 or 11 refuses the call whatever the lines after it
 // say. A fourth line that is cut is too long to be opened.
-pub fn read_text(k: usize, text: &mut [u8]) -> usize
+pub fn read_text(rt: &(impl Env + Files + Input), k: usize, text: &mut [u8]) -> usize
     ensures { result ≤ length text.new }
 {
-    if os::arg_count() < 2 {
-        return read_part(STDIN_FILENO, text);
+    if arg_count(rt) < 2 {
+        return read_part(&mut rt.reader(), text);
     }
     let mut name = io::buffer();
-    let n = os::arg(k, &mut name);
-    read_named(&name[..n], text)
+    match rt.arg(k, &mut name) {
+        Ok(n) => read_named(rt, &name[..n], text),
+        Err(_) => 0,
+    }
 }
 
-fn read_named(name: &[u8], text: &mut [u8]) -> usize
+fn read_named(rt: &(impl Files + Input), name: &[u8], text: &mut [u8]) -> usize
     ensures { result ≤ length text.new }
 {
     if is(name, b"-") {
-        return read_part(STDIN_FILENO, text);
+        return read_part(&mut rt.reader(), text);
     }
-    let fd = os::open_read(name);
-    if fd < 0 {
+    let Some(mut file) = open_read(rt, name) else {
         return 0;
-    }
-    let n = read_part(fd, text);
-    libc::close(fd);
-    n
+    };
+    read_part(&mut file, text)
 }

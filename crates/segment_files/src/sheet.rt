@@ -3,12 +3,13 @@ use crate::buffers;
 use crate::files::read_bytes;
 use line_tool::tables::line;
 use operations::Sheeted;
+use std::rt::Files;
 
 // The procedure segments stand in the files that lines 1 and 2 name, line 0 being the first.
-pub fn sheet_of(seg: &[u32], text: &[u8]) -> Sheeted {
+pub fn sheet_of(rt: &impl Files, seg: &[u32], text: &[u8]) -> Sheeted {
     let mut regular = buffers::procedure();
     let mut alternate = buffers::procedure();
-    let r = read_bytes(line(text, 1), &mut regular);
-    let a = read_bytes(line(text, 2), &mut alternate);
+    let r = read_bytes(rt, line(text, 1), &mut regular);
+    let a = read_bytes(rt, line(text, 2), &mut alternate);
     engine::sheet::sheet(seg, &regular[0..r], &alternate[0..a])
 }

@@ -5,14 +5,15 @@ use segment_files::answers::{give, put_count};
 use segment_files::buffers;
 use segment_files::files::read_words;
 use segment_files::sheet::sheet_of;
+use std::rt::Files;
 use storage_sheet::Sheet;
 
 // Answers the three lines of a text. Did standard output take the answer?
-pub fn answer(text: &[u8]) -> bool {
+pub fn answer(rt: &impl Files, text: &[u8]) -> bool {
     let mut words = buffers::words();
-    let n = read_words(line(text, 0), &mut words);
+    let n = read_words(rt, line(text, 0), &mut words);
     let mut out = io::buffer();
-    let end = put_answer(&mut out, sheet_of(&words[0..n], text));
+    let end = put_answer(&mut out, sheet_of(rt, &words[0..n], text));
     give(&out, end, b"sheet: cannot write the answer")
 }
 

@@ -7,21 +7,23 @@ mod answer;
 
 use answer::answer;
 use segment_files::names::{read_text, texts_end};
+use std::io::Input;
+use std::rt::{Env, Files};
 
 // After an answer that could not be written there are no others.
-fn main() {
-    let end = texts_end();
+fn main(rt: HostRuntime) {
+    let end = texts_end(&rt);
     let mut k = 1;
     while k < end {
-        if !answer_text(k) {
+        if !answer_text(&rt, k) {
             return;
         }
         k += 1;
     }
 }
 
-fn answer_text(k: usize) -> bool {
+fn answer_text(rt: &(impl Env + Files + Input), k: usize) -> bool {
     let mut text = io::large_buffer();
-    let n = read_text(k, &mut text);
-    answer(&text[0..n])
+    let n = read_text(rt, k, &mut text);
+    answer(rt, &text[0..n])
 }

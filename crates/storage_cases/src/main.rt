@@ -14,14 +14,17 @@ ghost use Rattle.std.specs.Prelude.{◌+◌, ◌^◌, ◌<◌, ◌≤◌};
 
 use descriptor::Descriptor;
 use descriptor::address::{SegmentAddress, StackAddress};
-use libc::{STDIN_FILENO, STDOUT_FILENO};
 use storage::Found;
+
+const STDIN: i32 = 0;
+
+const STDOUT: i32 = 1;
 
 const STEP: usize = 8;
 
 fn main() {
     let mut script = io::large_buffer();
-    let n = io::read_full(STDIN_FILENO, &mut script);
+    let n = io::read_full(STDIN, &mut script);
     let mut seg = [0u32; 96];
     lay_out(&mut seg);
     run(&mut seg, &script[..n]);
@@ -53,11 +56,11 @@ fn step(seg: &mut [u32], line: &[u8], value: u32) {
     let a = number(line[2], line[3]);
     let b = number(line[5], line[6]);
     let at = act(seg, line[0], a, b, value);
-    io::write_all(STDOUT_FILENO, &line[0..7]);
+    io::write_all(STDOUT, &line[0..7]);
     write_number(b" at ", at);
     write_number(b" rover ", segment::state::rover(seg).number());
     write_walk(seg);
-    io::write_all(STDOUT_FILENO, b"\n");
+    io::write_all(STDOUT, b"\n");
 }
 
 fn number(tens: u8, ones: u8) -> u32
@@ -163,12 +166,12 @@ fn write_block(seg: &[u32], block: SegmentAddress) {
 fn write_address(seg: &[u32], block: SegmentAddress) {
     write_number(b" ", block.number());
     if segment::blocks::prev_free_at(seg, block) {
-        io::write_all(STDOUT_FILENO, b"^");
+        io::write_all(STDOUT, b"^");
     }
 }
 
 fn write_links(name: &[u8], seg: &[u32], block: SegmentAddress) {
-    io::write_all(STDOUT_FILENO, name);
+    io::write_all(STDOUT, name);
     write_number(b">", segment::blocks::next_at(seg, block).number());
     write_number(b"<", segment::blocks::last_at(seg, block).number());
 }
@@ -191,6 +194,6 @@ fn sum(words: &[u32]) -> u32 {
 }
 
 fn write_number(name: &[u8], n: u32) {
-    io::write_all(STDOUT_FILENO, name);
-    io::print_decimal(STDOUT_FILENO, n as u64);
+    io::write_all(STDOUT, name);
+    io::print_decimal(STDOUT, n as u64);
 }

@@ -1,22 +1,26 @@
 // The answer to one call: the picture, or what became of it.
 use crate::picture::draw;
-use libc::STDOUT_FILENO;
+use line_tool::streams::{STDERR, STDOUT};
 use line_tool::tables::line;
 use line_tool::writing::put;
 use operations::Sheeted;
-use segment_files::answers::{give, put_count};
+use segment_files::answers::{give, put_count, tell};
 use segment_files::buffers;
 use segment_files::files::read_words;
 use segment_files::sheet::sheet_of;
+use std::fs::File;
+use std::io::{Error, ErrorKind};
+use std::os::fd::AsRawFd;
+use std::rt::Files;
 use storage_sheet::Sheet;
 
 // Answers the lines of a text. Did standard output take the answer?
-pub fn answer(text: &[u8]) -> bool {
+pub fn answer(rt: &(impl Files<File = File> + Eprint), text: &[u8]) -> bool {
     let mut words = buffers::words();
-    let n = read_words(line(text, 0), &mut words);
-    match sheet_of(&words[0..n], text) {
+    let n = read_words(rt, line(text, 0), &mut words);
+    match sheet_of(rt, &words[0..n], text) {
         Sheeted::Refused(test) => refuse(test),
-        Sheeted::Summed(sheet) => map(&words[0..n], sheet, line(text, 3)),
+        Sheeted::Summed(sheet) => map(rt, &words[0..n], sheet, line(text, 3)),
     }
 }
 
@@ -27,41 +31,71 @@ fn refuse(test: u8) -> bool {
 }
 
 // A picture that cannot be written is told, and is no reason to end.
-fn map(seg: &[u32], sheet: Sheet, name: &[u8]) -> bool {
+fn map(rt: &(impl Files<File = File> + Eprint), seg: &[u32], sheet: Sheet, name: &[u8]) -> bool {
     if name.len() == 0 {
         return map_to_standard_output(seg, sheet);
     }
-    if map_to_file(seg, sheet, name) {
+    if map_to_file(rt, seg, sheet, name) {
         return say_mapped(name);
     }
     true
 }
 
 fn map_to_standard_output(seg: &[u32], sheet: Sheet) -> bool {
-    let drawn = draw(STDOUT_FILENO, seg, sheet);
+    let drawn = draw(STDOUT, seg, sheet);
     if !drawn {
-        os::fail(b"storage_map: cannot write the picture");
+        tell(b"storage_map: cannot write the picture");
     }
     drawn
 }
 
 // The file is not touched before the segment is accepted, so that a refused call leaves an old picture as it is.
-fn map_to_file(seg: &[u32], sheet: Sheet, name: &[u8]) -> bool {
-    let fd = os::open_overwrite(name);
-    if fd < 0 {
-        cannot_write(name);
+fn map_to_file(
+    rt: &(impl Files<File = File> + Eprint),
+    seg: &[u32],
+    sheet: Sheet,
+    name: &[u8],
+) -> bool {
+    match open_overwrite(rt, name) {
+        Ok(file) => map_to(rt, &file, seg, sheet, name),
+        Err(why) => {
+            cannot_write(name, b": ");
+            let _ = rt.eprintln(why);
+            false
+        }
+    }
+}
+
+fn map_to(rt: &impl Eprint, file: &File, seg: &[u32], sheet: Sheet, name: &[u8]) -> bool {
+    if !draw(file.as_raw_fd(), seg, sheet) {
+        cannot_write(name, b"\n");
         return false;
     }
-    if !draw(fd, seg, sheet) {
-        cannot_write(name);
-        libc::close(fd);
-        return false;
+    match kept(file) {
+        Ok(()) => true,
+        Err(why) => {
+            cannot_write(name, b": ");
+            let _ = rt.eprintln(why);
+            false
+        }
     }
-    if libc::close(fd) < 0 {
-        cannot_write(name);
-        return false;
+}
+
+// The file of this name, made or emptied. The library names files by text alone: bytes that are no text name none.
+fn open_overwrite(rt: &impl Files<File = File>, name: &[u8]) -> Result<File, Error> {
+    match str::from_utf8(name) {
+        Ok(path) => File::create(rt, path),
+        Err(_) => Err(Error::new(ErrorKind::InvalidInput, "its name is not UTF-8")),
     }
-    true
+}
+
+// Has the system all that was written? Closing tells of no failure, so the file is asked before; what is no regular file, a pipe
+// or a terminal, cannot be asked.
+fn kept(file: &File) -> Result<(), Error> {
+    match file.sync_all() {
+        Err(why) if why.kind() != ErrorKind::InvalidInput => Err(why),
+        _ => Ok(()),
+    }
 }
 
 fn say_mapped(name: &[u8]) -> bool {
@@ -72,12 +106,13 @@ fn say_mapped(name: &[u8]) -> bool {
     give(&out, c, b"storage_map: cannot write the answer")
 }
 
-// Told on standard error, with as much of the name as there is room for, and the reason why the last call failed.
-fn cannot_write(name: &[u8]) {
+// Told on standard error, with as much of the name as there is room for.
+fn cannot_write(name: &[u8], end: &[u8]) {
     let mut out = io::buffer();
     let a = put(&mut out, 0, b"storage_map: cannot write ");
     let b = put(&mut out, a, name);
     if b <= out.len() {
-        os::fail(&out[0..b]);
+        io::write_all(STDERR, &out[0..b]);
+        io::write_all(STDERR, end);
     }
 }

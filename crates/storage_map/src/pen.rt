@@ -4,7 +4,7 @@ ghost use Rattle.std.specs.Prelude.{◌≤◌};
 use line_tool::writing::{put, put_decimal};
 use segment::word;
 
-#[derive(Drop)]
+#[derive(Clone, Copy)]
 pub struct Pen {
     pub fd: i32,
     // How many bytes of the buffer are still to be written out.

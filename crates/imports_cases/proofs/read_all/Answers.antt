@@ -1,4 +1,4 @@
-use Rattle.std.proofs.Common.{◌-◌, arith}
+use Rattle.std.proofs.Common.{arith}
 use Rattle.imports_cases.proofs.read_all.Goals as goal
 
 pub overflow_add-records : goal.overflow_add-records

@@ -1,4 +1,4 @@
-use Rattle.std.proofs.Common.{◌-◌, refl, arith}
+use Rattle.std.proofs.Common.{refl, arith}
 use Rattle.storage_cases.proofs.run.Goals as goal
 
 pub loop-at-init : goal.loop-at-init
