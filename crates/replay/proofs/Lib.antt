@@ -1,3 +1,2 @@
 -- Replays: what is done record by record, and what the walks by hand share.
 mod Replaying
-mod Telling
