@@ -1,5 +1,6 @@
 use mathlib.Core.Path.{refl}
-use Rattle.manual.specs.Instructions.{plan_of}
+use Rattle.manual.specs.Program.{program}
+use Rattle.manual.specs.Instructions.{plan_of, running}
 use Rattle.machine.proofs.Dispatching.{obeyed}
 use Rattle.machine.proofs.dispatch.obey.Goals as goal
 
@@ -33,11 +34,11 @@ returns-in-Array c = obeyed _ _ _ c.requires.code_value c.instruction_at.ensures
 
 pub returns-in-Control : goal.returns-in-Control
 unfolding plan_of
-returns-in-Control c = obeyed _ _ _ c.requires.code_value c.instruction_at.ensures (rw c.in-Control.is at c.in-Instruction.is) (c.control.ensures _)
+returns-in-Control c = obeyed _ _ _ c.requires.code_value c.instruction_at.ensures (rw c.in-Control.is at c.in-Instruction.is) (c.control.ensures c.args.table.now)
 
 pub returns-in-Jump : goal.returns-in-Jump
 unfolding plan_of
-returns-in-Jump c = obeyed _ _ _ c.requires.code_value c.instruction_at.ensures (rw c.in-Jump.is at c.in-Instruction.is) (c.jump_to.ensures _ refl)
+returns-in-Jump c = obeyed _ _ _ c.requires.code_value c.instruction_at.ensures (rw c.in-Jump.is at c.in-Instruction.is) (let a = c.args in c.jump_to.ensures (running (program a.regular.now a.alternate.now a.table.now) a.selector a.block) refl)
 
 pub returns-in-ConstantScalar : goal.returns-in-ConstantScalar
 unfolding plan_of

@@ -31,7 +31,7 @@ pub overflow_add-steps : goal.overflow_add-steps
 overflow_add-steps c = let fits = c.ranges.budget in search rules
 
 pub loop-steps-preserved : goal.loop-steps-preserved
-loop-steps-preserved c = let a = c.args in let q = c.requires in let l = c.loop-steps in let p = c.step_in in let more = c.loop-steps-test.true in let small = number_small a.seg.now q.current.numbers in let held = c.here.ensures in let same = c.if-here-function.false in let is = p.ensures ∙ step-here l.seg (program a.regular.now a.alternate.now a.table.now) a.selector a.block small q.current.found held same in let first = first-here l.seg (program a.regular.now a.alternate.now a.table.now) a.selector a.block small q.current.found held same q.code_value (cc) in let u = c.count_step in (later l.invariant.0, within more, p.auto.0 ∙ l.invariant.2, search rules, (λ e. begun l.invariant.0 e), u.auto.0 ∙ l.invariant.5, run-goes _ _ _ _ _ p.result p.new.seg more is first u.ensures c.in-Finished.is ∙ l.invariant.6)
+loop-steps-preserved c = let a = c.args in let q = c.requires in let l = c.loop-steps in let p = c.step_in in let more = c.loop-steps-test.true in let small = number_small a.seg.now q.current.numbers in let held = c.here.ensures in let same = c.if-here-function.false in let is = p.ensures ∙ step-here l.seg (program a.regular.now a.alternate.now a.table.now) a.selector a.block small q.current.found held same in let first = first-here l.seg (program a.regular.now a.alternate.now a.table.now) a.selector a.block small q.current.found held same q.code_value (cc) in let u = c.count_step in (later l.invariant.0, within more, p.auto.seg ∙ l.invariant.2, search rules, (λ e. begun l.invariant.0 e), u.auto.counts ∙ l.invariant.5, run-goes _ _ _ _ _ p.result p.new.seg more is first u.ensures c.in-Finished.is ∙ l.invariant.6)
 
 pub count_step-requires-in-Traced : goal.count_step-requires-in-Traced
 count_step-requires-in-Traced c = let q = c.requires in let p = c.step_in in traced-stands c.loop-steps.seg _ (cc) q.code_value p.ensures _ _ c.in-Traced.is

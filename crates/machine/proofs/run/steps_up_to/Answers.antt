@@ -16,7 +16,7 @@ pub loop-steps-smaller : goal.loop-steps-smaller
 loop-steps-smaller c = let p = c.run_current in omega (arith, advances _ _ _ c.in-Done.is p.ensures.1)
 
 pub loop-steps-preserved : goal.loop-steps-preserved
-loop-steps-preserved c = let a = c.args in let p = c.run_current in let l = c.loop-steps in let on = advances l.steps a.budget _ c.in-Done.is p.ensures.1 in (on.1, p.auto.0 ∙ l.invariant.1, search rules, search rules, goes_on (program a.regular.now a.alternate.now a.table.now) a.budget _ _ p.new.seg c.in-Done.is p.ensures.0 ∙ l.invariant.4)
+loop-steps-preserved c = let a = c.args in let p = c.run_current in let l = c.loop-steps in let on = advances l.steps a.budget _ c.in-Done.is p.ensures.1 in (on.1, p.auto.seg ∙ l.invariant.1, search rules, search rules, goes_on (program a.regular.now a.alternate.now a.table.now) a.budget _ _ p.new.seg c.in-Done.is p.ensures.0 ∙ l.invariant.4)
 
 pub returns : goal.returns
 returns c = run_ends _ _ _ _ _ c.loop-steps-test.false ∙ c.loop-steps.invariant.4
