@@ -8,4 +8,4 @@ pub returns-then-tested : goal.returns-then-tested
 returns-then-tested c = let told = c.load_accepted.ensures _ _ (known _ _ _ c.if-tested.true c.requires) in record { value = c.number.ensures ∙ ap status_of told.0 ∙ status-answer _; seg_after = told.1 }
 
 pub returns : goal.returns
-returns c = let p = c.load in record { value = c.number-2.ensures ∙ ap status_of p.ensures.0 ∙ status-answer _; seg_after = p.ensures.1.0 }
+returns c = let p = c.load in record { value = c.number-2.ensures ∙ ap status_of p.ensures.value ∙ status-answer _; seg_after = p.ensures.seg_after }
