@@ -20,7 +20,7 @@ use Rattle.effects_theorems.proofs.Tests.{never}
 use Rattle.step_theorems.specs.Planned.{planned, header_in}
 use Rattle.step_theorems.proofs.Settled.{outcome-by}
 use Rattle.audit.specs.Calls.{Procedures, Call, lay_out, run, load, look, sheet, Answer, refused, ran, trapped, Test, first_failed, tests, global_value}
-use Rattle.audit.specs.Steps.{traps_by, finishes, due_after, EffectsDone, Step, full, does, in_vain}
+use Rattle.audit.specs.Steps.{traps_by, finishes, due_after, EffectsDone, Step, does, in_vain}
 use Rattle.audit.specs.Runs.{Runs, over, goes_on}
 use Rattle.audit.specs.Did.{Tells, Did}
 use Rattle.audit.specs.Lists.{refusal_of}

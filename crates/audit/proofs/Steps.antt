@@ -11,7 +11,7 @@ use lib.Seq.{get_or-set_same, get_or-set_other}
 use borrow.Author.Tests.{eq-eqb, ne_eqb}
 use Rattle.descriptor.specs.declared.Target.{Target}
 use Rattle.procedure.specs.declared.header.Header.{Header}
-use Rattle.segment.specs.State.{sbase, flags, fcnctrc, fcnrtrc, step_flag, trap_word, trap_of, blockptr, set_trap}
+use Rattle.segment.specs.State.{sbase, flags, fcnctrc, fcnrtrc, step_flag, trap_word, trap_of, set_trap}
 use Rattle.segment.specs.Cells.{Cell, undefined}
 use Rattle.segment.specs.Machine.{Machine}
 use Rattle.segment.specs.View.{view}

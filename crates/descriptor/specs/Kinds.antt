@@ -3,7 +3,6 @@
 use Rattle.std.specs.Prelude.{ℕ, ◌-◌, ◌^◌, Bool, true, false, cond, ltb, eqb}
 use Rattle.descriptor.specs.declared.address.SegmentAddress.{SegmentAddress}
 use Rattle.descriptor.specs.declared.address.StackAddress.{StackAddress}
-use Rattle.descriptor.specs.declared.Scalar.{Scalar}
 use Rattle.descriptor.specs.declared.Scalar.TheVariants.{Float, Integer, Character}
 use Rattle.descriptor.specs.declared.Target.TheVariants.{Local, Global}
 use Rattle.descriptor.specs.declared.Kind.{Kind}

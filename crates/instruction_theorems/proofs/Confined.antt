@@ -11,7 +11,6 @@ use borrow.Author.Tests.{ltb-true, ltb-false}
 use Rattle.procedure.specs.declared.header.Block.{Block}
 use Rattle.procedure.specs.Headers.{code_end, code_of}
 use Rattle.instruction.specs.declared.Decoded.TheVariants.{Trap}
-use Rattle.instruction.specs.declared.Jump.{Jump}
 use Rattle.instruction.specs.declared.table.MemorySuboperation.{MemorySuboperation}
 use Rattle.instruction.specs.declared.table.MemorySuboperation.TheVariants as M
 use Rattle.instruction.specs.declared.table.EtcSuboperation.{EtcSuboperation}

@@ -10,7 +10,6 @@ use Rattle.operator.specs.declared.Suboperation.TheVariants as O
 use Rattle.operator.specs.Table.{operator_of}
 use Rattle.procedure.specs.Headers.{code_start}
 use Rattle.instruction.specs.declared.Address.{Address}
-use Rattle.instruction.specs.declared.Jump.{Jump}
 use Rattle.instruction.specs.declared.Instruction.{Instruction}
 use Rattle.instruction.specs.declared.Instruction.TheVariants as I
 use Rattle.instruction.specs.declared.Decoded.{Decoded}

@@ -1,6 +1,6 @@
 -- An example of every instruction, by computation from the definitions: what a planner would expect on a small machine.
 -- Assumes nothing.
-use Rattle.std.specs.Prelude.{ℕ, ◌-◌, ◌≡◌, refl, true, false, List, [], ◌∷◌}
+use Rattle.std.specs.Prelude.{ℕ, ◌≡◌, refl, true, false, List, [], ◌∷◌}
 use Rattle.std.specs.Float.Ieee.{size}
 use Rattle.descriptor.specs.declared.Target.TheVariants.{Local, Global}
 use Rattle.descriptor.specs.Kinds.{segment, stack, kind_of, integer_kind, character_kind, array_kind, indirect_kind, undefined_kind, unsigned_kind, is_scalar}

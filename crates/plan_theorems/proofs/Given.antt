@@ -4,7 +4,7 @@ use mathlib.Core.Path.{◌≡◌, subst}
 use mathlib.Core.Bool.{Bool, true, false, cond}
 use Rattle.manual.specs.OrTrap.{OrTrap, gives, trap, and_then, stop_if}
 use Rattle.manual.specs.Cases.{OfPlan}
-use Rattle.manual.proofs.Lists.{stops, goes, either}
+use Rattle.manual.proofs.Lists.{stops, either}
 
 abbrev pub AnyTrap : ℕ → ℕ → Type 0
 AnyTrap class number = Unit {0}

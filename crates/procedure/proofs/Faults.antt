@@ -2,14 +2,11 @@
 -- of the others.
 use mathlib.Core.Path.{◌≡◌, refl, sym, ◌∙◌, ap}
 use mathlib.Core.Bool.{Bool, true, false, not, ◌&&◌, ◌||◌, not-not}
-use mathlib.Core.List.{List, [], ◌∷◌}
+use mathlib.Core.List.{List}
 use Prim.Native.Nat.{ℕ, zero, suc, ◌+◌, ◌-◌, ◌*◌, ◌≤◌, ◌<◌}
 use lib.ListN.{length}
 use lib.Dec.{leb, eqb}
 use native.Mathlib.Omega.{arith}
-use types.Run.{OneOf, miss}
-use denote.Enum.Declared.{tag_of}
-use Rattle.procedure.specs.contracts.refusal.Fault.{the_type}
 use Rattle.procedure.specs.declared.refusal.Fault.{Fault}
 use Rattle.procedure.specs.declared.refusal.Fault.TheVariants as F
 use Rattle.procedure.specs.declared.refusal.FunctionFault.TheVariants as W

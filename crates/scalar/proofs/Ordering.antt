@@ -1,5 +1,5 @@
 -- The order of numbers is that of places: of signed magnitudes on any line, and of words of one kind.
-use Rattle.std.proofs.Common.{◌≡◌, ℕ, ◌+◌, ◌-◌, ◌*◌, ◌/◌, ◌%◌, ◌^◌, ◌<◌, ◌≤◌, Bool, true, false, cond, eqb, ltb, ◌⊎◌, sym, refl, ap, ◌∙◌, ap₂, inl, inr, ⊎_elim, le_trans, lt_of_lt_of_le, eq-zero-or-pos, mul-lt-mul_of_pos_right, mul-pos, zero-add, zero-mul, arith, pow_pos, pow_mono, le-ltb, lt-ltb, eq-eqb, ne_eqb}
+use Rattle.std.proofs.Common.{◌≡◌, ℕ, ◌+◌, ◌-◌, ◌*◌, ◌/◌, ◌%◌, ◌^◌, ◌<◌, ◌≤◌, Bool, true, false, cond, eqb, ltb, sym, refl, ap, ◌∙◌, ap₂, inl, inr, ⊎_elim, le_trans, lt_of_lt_of_le, eq-zero-or-pos, mul-lt-mul_of_pos_right, mul-pos, zero-add, zero-mul, arith, pow_pos, pow_mono, le-ltb, lt-ltb, eq-eqb, ne_eqb}
 use native.Mathlib.Decide.{dec_lt, ℕ_discrete}
 use lib.Arith.{mod-mul}
 use Rattle.descriptor.specs.Fields.{sign, float_word}

@@ -14,7 +14,7 @@ use Rattle.descriptor.specs.Fields.{sign, magnitude, is_character, integer_word}
 use Rattle.descriptor.specs.Kinds.{bit}
 use Rattle.descriptor.proofs.Truth.{neither}
 use Rattle.scalar.specs.Value.{one, units, one_float, character_code}
-use Rattle.scalar.specs.Results.{integer, rounded, type_error}
+use Rattle.scalar.specs.Results.{rounded, type_error}
 use Rattle.scalar.specs.Order.{side, is_below, is_equal}
 use Rattle.scalar.specs.Operators.{sum_sign, sum_size, plus, minus, difference, less, equal}
 use Rattle.scalar.specs.Parts.{one_character}

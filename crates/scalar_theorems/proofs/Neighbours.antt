@@ -10,7 +10,7 @@ use native.Mathlib.Omega.{arith}
 use borrow.Author.Tests.{lt-ltb, le-ltb, eq-eqb, ne_eqb}
 use lib.Dec.{lit<}
 use lib.Pow.{pow_pos, pow_mono}
-use Rattle.descriptor.specs.Fields.{sign, magnitude, is_character, integer_word}
+use Rattle.descriptor.specs.Fields.{sign, is_character, integer_word}
 use Rattle.scalar.specs.Value.{one, units}
 use Rattle.scalar.specs.Results.{integer, integer_overflow}
 use Rattle.scalar.specs.Operators.{ones, whole_near, floor, ceiling}

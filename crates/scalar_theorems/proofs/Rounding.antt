@@ -13,7 +13,7 @@ use lib.Ieee.{size}
 use lib.Ieee.Nearest.{closest_mono}
 use Rattle.descriptor.specs.Fields.{is_float, exponent, fraction}
 use Rattle.scalar.specs.Value.{units}
-use Rattle.scalar.specs.Results.{underflow, overflow, rounded, float}
+use Rattle.scalar.specs.Results.{overflow, rounded}
 use Rattle.scalar.specs.declared.Answer.TheVariants.{Word}
 use Rattle.scalar.proofs.Units.{units-float}
 use Rattle.scalar.proofs.Rounding.{rounded-none, rounded-under, float_fits, float-over, not-lt-le}

@@ -10,7 +10,6 @@ use Rattle.segment.specs.State.{sbase, blockptr}
 use Rattle.segment.specs.Blocks.{free_at, size_at, slop_at, span_at, dummy}
 use Rattle.acceptance_storage.specs.Blocks.{starts_from, free_starts, array_starts}
 use Rattle.acceptance_storage.proofs.Starts.{starts-few, starts_none, starts-end, free-hit, free-miss, array-hit, array-miss}
-use Rattle.storage_sheet.specs.declared.Sheet.{Sheet}
 use Rattle.storage_sheet.specs.Sheet.{sum_of, sheet_of}
 
 sum-small : (number : ℕ → ℕ) → ((x : ℕ) → number x ≤ 65535) → (l : List ℕ) → sum_of number l ≤ length l * 65535

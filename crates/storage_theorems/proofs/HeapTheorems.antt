@@ -1,6 +1,4 @@
 -- The theorems of specs/Theorems.
-use Rattle.storage.specs.Request.{request}
-use Rattle.storage.specs.Release.{release}
 use Rattle.storage_theorems.specs.HeapTheorems.{HeapTheorems}
 use Rattle.storage_theorems.proofs.Request.{request-theorem}
 use Rattle.storage_theorems.proofs.Release.{release-theorem}

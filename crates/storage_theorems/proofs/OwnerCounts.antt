@@ -17,7 +17,7 @@ use Rattle.storage_theorems.proofs.Counts.{count-le, hit_same}
 use Rattle.storage_theorems.proofs.Release.{release-theorem}
 use Rattle.storage_theorems.specs.Counts.{Share, Drop}
 use Rattle.descriptor.proofs.Arrays.{array_of}
-use Rattle.storage_theorems.proofs.Steps.{plain, share-own, drop_own}
+use Rattle.storage_theorems.proofs.Steps.{share-own, drop_own}
 
 -- an owning word's array, and its count
 owner : {s ws : List ℕ} (o : Owned s ws) (w : ℕ) → is_array w ≡ true → 0 < count w ws

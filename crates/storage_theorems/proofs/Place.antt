@@ -117,7 +117,7 @@ module _ {s ws : List ℕ} (o : Owned s ws) (sh el : List ℕ) (ok : Proper sh e
     where
       now-counts : (y v : ℕ) → ((y ≡ x) × (v ≡ z)) ⊎ ArrayIn (blockptr s) o.blocks y v
           → (count_at s2 y ≡ count (array_word y) (array_word x ∷ ws)) × (0 < count (array_word y) (array_word x ∷ ws))
-      now-counts y v (inl e) = 
+      now-counts y v (inl e) =
           subst (λ (i : ℕ). (count_at s2 i ≡ count (array_word i) (array_word x ∷ ws)) × (0 < count (array_word i) (array_word x ∷ ws))) (sym e.0)
           (omega (arith, second, unowned, hit_same (array_word x), ok.rank))
       now-counts y v (inr u) =

@@ -1,5 +1,4 @@
 use mathlib.Core.Path.{sym, ◌∙◌}
-use borrow.Author.Tests.{not-true, not-false}
 use Rattle.acceptance.proofs.Table.{table-13}
 use Rattle.acceptance.proofs.judge_data.Goals as goal
 

@@ -1,6 +1,5 @@
 use mathlib.Core.Path.{sym, ◌∙◌}
 use native.Mathlib.Omega.{arith}
-use borrow.Author.Tests.{not-true, not-false}
 use Rattle.acceptance_storage.proofs.StateWords.{head-sound}
 use Rattle.acceptance.proofs.Compared.{all-tallied}
 use Rattle.acceptance.proofs.Table.{table-15, table-16, table-17, table-18, table-0}

@@ -1,8 +1,6 @@
-use Prim.Native.Nat.{◌-◌}
 use mathlib.Core.Path.{◌≡◌, refl}
 use native.Mathlib.Omega.{arith}
 use lib.ListN.{length-set}
-use Rattle.segment.specs.Blocks.{part}
 use Rattle.segment.proofs.Copies.{run_on}
 use Rattle.storage_joins.proofs.gather.Goals as goal
 

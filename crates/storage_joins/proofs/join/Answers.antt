@@ -17,8 +17,8 @@ copy_part-requires-2 c = let k = straight-says c.args.seg.now c.args.f.0 c.args.
 pub returns : goal.returns
 returns c = let k = straight-says c.args.seg.now c.args.f.0 c.args.first c.args.second c.requires.2 in
     let g = c.give-block.ensures in record {
-  result_value = g.result_value;
-  seg_after = join-words c.args.seg.now c.args.f.0 c.args.shape.now c.args.first c.args.second _ k.1 k.2 c.requires.1
+      result_value = g.result_value;
+      seg_after = join-words c.args.seg.now c.args.f.0 c.args.shape.now c.args.first c.args.second _ k.1 k.2 c.requires.1
           (given_inside _ _ _ _ g.result_value c.requires.1) g.seg_after c.head.ensures c.index.ensures
           c.index-2.ensures c.copy_part.ensures c.index-3.ensures c.copy_part-2.ensures;
-}
+    }

@@ -55,18 +55,18 @@ loop-left-preserved c = let of = c.of-block.ensures in
     let some = c.loop-left-test.true in
     let low = c.if-end-a.false in
     elim c.if-free_at.branch [
-      then-free_at w ↦
-        rw (w.arrays-is, w.slop-is, w.free-is, span, size) (free_on inv some low (rw of at (sym c.free_at.ensures ∙ w.if-free_at.true)))
-    | else-free_at w ↦
-        rw (w.arrays-is, w.slop-is, w.free-is, span, size, rw of at w.slop_at-slop.ensures)
-        (array-on inv some low (rw of at (sym c.free_at.ensures ∙ w.if-free_at.false)))
+      | then-free_at w ↦
+          rw (w.arrays-is, w.slop-is, w.free-is, span, size) (free_on inv some low (rw of at (sym c.free_at.ensures ∙ w.if-free_at.true)))
+      | else-free_at w ↦
+          rw (w.arrays-is, w.slop-is, w.free-is, span, size, rw of at w.slop_at-slop.ensures)
+          (array-on inv some low (rw of at (sym c.free_at.ensures ∙ w.if-free_at.false)))
     ]
 
 pub returns : goal.returns
 returns c = all-added c.loop-left.invariant
     (elim c.loop-left-test.branch [
-      else-loop-left-test w ↦ inl w.loop-left-test.false
-    | then-loop-left-test+then-end-a w ↦ inr (w.loop-left-test.true, w.if-end-a.true)
+      | else-loop-left-test w ↦ inl w.loop-left-test.false
+      | then-loop-left-test+then-end-a w ↦ inr (w.loop-left-test.true, w.if-end-a.true)
     ])
     (c.number-from.ensures ∙ c.blockptr.ensures)
     (c.number-end.ensures ∙ c.dummy.ensures.result_value)

@@ -1,5 +1,4 @@
 use mathlib.Core.Path.{refl, sym, ◌∙◌}
-use borrow.Author.Tests.{not-true, not-false}
 use Rattle.acceptance.proofs.FrameCells.{never}
 use Rattle.acceptance.proofs.Descent.{descent-start, descent-none, descent-low, descent-frame, descent-fails, descent-bottom, descent-on}
 use Rattle.acceptance.proofs.cells.cells_from.Goals as goal

@@ -1,5 +1,4 @@
 use mathlib.Core.Path.{sym, ◌∙◌}
-use borrow.Author.Tests.{not-true, not-false}
 use Rattle.acceptance.proofs.FrameCells.{never}
 use Rattle.acceptance.proofs.Descent.{globals-room, globals-wrong, base-low, before-stack, all-cells}
 use Rattle.acceptance.proofs.cells.cells_test.Goals as goal

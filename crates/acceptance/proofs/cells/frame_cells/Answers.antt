@@ -1,5 +1,4 @@
 use mathlib.Core.Path.{◌∙◌}
-use borrow.Author.Tests.{not-true, not-false}
 use Rattle.acceptance.proofs.FrameCells.{never, temporaries-room, temporaries-fail, arguments-room, arguments-fail, locals-room, frame-done}
 use Rattle.acceptance.proofs.cells.frame_cells.Goals as goal
 

@@ -1,5 +1,4 @@
 use mathlib.Core.Path.{◌∙◌}
-use borrow.Author.Tests.{not-true, not-false}
 use Rattle.acceptance.specs.Cells.{in_table}
 use Rattle.acceptance.proofs.Meeting.{pointing-not, pointing-low, pointing-high, pointing-global, pointing-unmarked, pointing-variable}
 use Rattle.acceptance.proofs.cells.is_pointing.Goals as goal

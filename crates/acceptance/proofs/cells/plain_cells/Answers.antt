@@ -1,7 +1,5 @@
-use Prim.Native.Nat.{◌-◌}
 use mathlib.Core.Path.{refl}
 use borrow.Author.Rules.{rules}
-use borrow.Author.Tests.{not-true, not-false}
 use Rattle.acceptance.proofs.Meeting.{meeting-start, meeting-room, meeting-bad, meeting-on, meeting-done, direct-alike}
 use Rattle.acceptance.proofs.FrameCells.{never}
 use Rattle.acceptance.proofs.cells.plain_cells.Goals as goal
@@ -10,11 +8,15 @@ pub loop-i-init : goal.loop-i-init
 loop-i-init c = (refl, meeting-start _ _ _)
 
 pub is_direct-requires : goal.is_direct-requires
-is_direct-requires c =    meeting-room c.loop-i.invariant.1 c.loop-i-test.true c.requires
+is_direct-requires c = meeting-room c.loop-i.invariant.1 c.loop-i-test.true c.requires
 
 pub returns-then-not-is_direct : goal.returns-then-not-is_direct
-returns-then-not-is_direct c = record { value = meeting-bad c.loop-i.invariant.1 c.loop-i-test.true direct-alike c.is_direct.ensures.value
-          c.if-not-is_direct.true; met = never; x_bound = never }
+returns-then-not-is_direct c = record {
+  value = meeting-bad c.loop-i.invariant.1 c.loop-i-test.true direct-alike c.is_direct.ensures.value
+      c.if-not-is_direct.true;
+  met = never;
+  x_bound = never;
+}
 
 pub loop-i-preserved : goal.loop-i-preserved
 loop-i-preserved c = (

@@ -1,6 +1,4 @@
 use mathlib.Core.Path.{refl, sym, ◌∙◌}
-use mathlib.Core.Bool.{false}
-use borrow.Author.Tests.{not-true, not-false}
 use Rattle.acceptance.proofs.Compared.{arrays-none, arrays-end, array-passes, array-fails, array-among, later-among}
 use Rattle.acceptance.proofs.counts.counts_from.Goals as goal
 

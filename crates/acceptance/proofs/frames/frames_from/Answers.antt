@@ -1,6 +1,5 @@
 use mathlib.Core.Path.{refl, sym, ◌∙◌}
 use native.Mathlib.Omega.{arith}
-use borrow.Author.Tests.{not-true, not-false}
 use Rattle.acceptance.proofs.Chain.{frames-none, absent, bottom, low, further}
 use Rattle.acceptance.proofs.frames.frames_from.Goals as goal
 

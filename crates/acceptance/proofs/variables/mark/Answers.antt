@@ -1,5 +1,4 @@
 use mathlib.Core.Path.{refl}
-use Prim.Native.Nat.{◌-◌}
 use native.Mathlib.Omega.{arith}
 use Rattle.acceptance.proofs.Ranges.{marking-done, marking-room, marking-on}
 use Rattle.acceptance.proofs.variables.mark.Goals as goal

@@ -2,7 +2,6 @@ use Prim.Native.Nat.{ℕ, ◌-◌}
 use mathlib.Core.Path.{◌∙◌, ap}
 use native.Mathlib.Omega.{arith}
 use borrow.Author.Rules.{rules}
-use Rattle.acceptance.specs.Frames.{variables}
 use Rattle.acceptance.proofs.VariableMarks.{marked_start, marked-none, marked-bottom, marked-on}
 use Rattle.acceptance.proofs.variables.mark_variables.Goals as goal
 

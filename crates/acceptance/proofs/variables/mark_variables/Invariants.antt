@@ -1,4 +1,4 @@
-use Prim.Native.Nat.{◌-◌, ◌<◌}
+use Prim.Native.Nat.{◌<◌}
 use Rattle.acceptance.specs.Frames.{variables}
 use Rattle.acceptance.proofs.VariableMarks.{Marked}
 use Rattle.acceptance.proofs.variables.mark_variables.Given as goal

@@ -1,5 +1,4 @@
 use native.Mathlib.Nat.{mul-le-mul}
-use Prim.Native.Nat.{◌-◌}
 use native.Mathlib.Omega.{arith}
 use Rattle.descriptor.specs.Fields.{integer_limit}
 use lib.ListN.{get_or}

@@ -1,8 +1,6 @@
-use Prim.Native.Nat.{◌-◌}
 use mathlib.Core.Path.{refl}
 use native.Mathlib.Omega.{arith}
 use borrow.Author.Rules.{rules}
-use borrow.Author.Tests.{not-true, not-false}
 use Rattle.acceptance_storage.proofs.Walk.{one_at_most, improper, walking_start, walking-room, walking-found, walking-no, walking-yes, walking-bad, walking-past, walking-fits, walking-inside, walking_on}
 use Rattle.acceptance_storage.proofs.blocks.walk.Goals as goal
 

@@ -1,6 +1,5 @@
 use Rattle.acceptance_storage.proofs.Tests.{never}
 use mathlib.Core.Path.{sym, ◌∙◌}
-use borrow.Author.Tests.{not-true, not-false}
 use Rattle.acceptance_storage.proofs.Rounds.{ring-off, ring-on}
 use Rattle.acceptance_storage.proofs.ring.ring_test.Goals as goal
 

@@ -2,7 +2,6 @@ use Rattle.acceptance_storage.proofs.Tests.{never}
 use mathlib.Core.Path.{refl, sym, ◌∙◌}
 use native.Mathlib.Omega.{arith}
 use borrow.Author.Rules.{rules}
-use borrow.Author.Tests.{not-true, not-false}
 use Rattle.acceptance_storage.proofs.Rounds.{round-start, round-bad, round-missing, round-on, round-last, round-clear}
 use Rattle.acceptance_storage.proofs.ring.round.Goals as goal
 

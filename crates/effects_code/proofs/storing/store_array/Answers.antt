@@ -18,7 +18,7 @@ pub returns-in-At : goal.returns-in-At
 returns-in-At c = let a = c.args in
     let at = sym c.place.ensures.value ∙ c.in-At.is in
     let done = found-done a.seg.now a.shape.now a.ravel.now (stores a.t (made a.shape.now a.ravel.now)) refl c.in-At.block (omega arith) at in record {
-  value = done.0;
-  seg_after = rw (c.drop_word.ensures, c.put.ensures, c.word.ensures, c.array.ensures, c.place.ensures.seg_after, c.word-old.ensures, c.place_of-i.ensures)
+      value = done.0;
+      seg_after = rw (c.drop_word.ensures, c.put.ensures, c.word.ensures, c.array.ensures, c.place.ensures.seg_after, c.word-old.ensures, c.place_of-i.ensures)
           (store-block a.seg.now a.shape.now a.ravel.now c.in-At.block at a.t ∙ done.1);
-}
+    }

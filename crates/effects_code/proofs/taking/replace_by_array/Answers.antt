@@ -19,7 +19,7 @@ pub returns-in-At : goal.returns-in-At
 returns-in-At c = let a = c.args in
     let at = sym c.place.ensures.value ∙ c.in-At.is in
     let done = found-done a.seg.now a.shape.now a.ravel.now (replaces a.n (made a.shape.now a.ravel.now)) refl c.in-At.block (omega arith) at in record {
-  value = done.0;
-  seg_after = rw (c.take.ensures, c.word.ensures, c.array.ensures, c.place.ensures.seg_after, c.bottom-b.ensures)
+      value = done.0;
+      seg_after = rw (c.take.ensures, c.word.ensures, c.array.ensures, c.place.ensures.seg_after, c.bottom-b.ensures)
           (replace-block _ _ _ c.in-At.block at _ ∙ done.1);
-}
+    }

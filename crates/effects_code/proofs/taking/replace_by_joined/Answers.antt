@@ -21,7 +21,7 @@ pub returns-in-At : goal.returns-in-At
 returns-in-At c = let a = c.args in
     let at = sym c.place_joined.ensures.value ∙ c.in-At.is in
     let done = found-done a.seg.now a.shape.now (part_of a.seg.now a.first ++ part_of a.seg.now a.second) (replaces a.n (made a.shape.now (part_of a.seg.now a.first ++ part_of a.seg.now a.second))) refl c.in-At.block (omega (arith, joined-need a.seg.now a.shape.now a.first a.second, c.if-shape-first-gt16384.false)) at in record {
-  value = done.0;
-  seg_after = rw (c.take.ensures, c.word.ensures, c.array.ensures, c.place_joined.ensures.seg_after, c.bottom-b.ensures)
+      value = done.0;
+      seg_after = rw (c.take.ensures, c.word.ensures, c.array.ensures, c.place_joined.ensures.seg_after, c.bottom-b.ensures)
           (replace-block a.seg.now a.shape.now (part_of a.seg.now a.first ++ part_of a.seg.now a.second) c.in-At.block at a.n ∙ done.1);
-}
+    }

@@ -2,7 +2,6 @@ use Prim.Native.Nat.{◌≤◌}
 use mathlib.Core.Path.{refl, sym, subst, ◌∙◌}
 use Rattle.fast_path.proofs.Operating.{scalars-combined}
 use Rattle.fast_path.proofs.Answers.{left, went}
-use borrow.Author.Tests.{not-false}
 use Rattle.fast_path.proofs.doing.dyadic.Goals as goal
 
 pub returns-then-count-lt2 : goal.returns-then-count-lt2

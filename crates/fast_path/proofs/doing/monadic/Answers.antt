@@ -2,7 +2,6 @@ use Prim.Native.Nat.{◌≤◌}
 use mathlib.Core.Path.{refl, sym, subst, ◌∙◌}
 use Rattle.fast_path.proofs.Answers.{left, went}
 use Rattle.fast_path.proofs.Operating.{scalar-computed}
-use borrow.Author.Tests.{not-false}
 use Rattle.fast_path.proofs.doing.monadic.Goals as goal
 
 pub returns-then-count-lt1 : goal.returns-then-count-lt1

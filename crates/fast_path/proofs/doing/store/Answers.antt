@@ -2,7 +2,6 @@ use mathlib.Core.Path.{sym, ◌∙◌}
 use native.Mathlib.Omega.{arith}
 use Rattle.fast_path.proofs.Answers.{left, went}
 use Rattle.fast_path.proofs.Storing.{scalar-kept, scalar-stored}
-use borrow.Author.Tests.{not-false}
 use Rattle.fast_path.proofs.doing.store.Goals as goal
 
 pub returns-then-count-lt1 : goal.returns-then-count-lt1

@@ -1,7 +1,6 @@
 use native.Mathlib.Omega.{arith}
 use mathlib.Core.Logic.{⊎_elim}
 use mathlib.Core.Path.{◌≡◌, ap, ◌∙◌}
-use borrow.Author.Tests.{eqb-true, eqb-false, not-true, not-false}
 use Rattle.manual.specs.OrTrap.{OrTrap}
 use Rattle.manual.specs.Scalars as plan
 use Rattle.manual.specs.Values as values
@@ -22,10 +21,10 @@ returns-then-n-ne0 c = let a = c.args in
 pub repeated-requires : goal.repeated-requires
 repeated-requires c = let a = c.args in
     let filled : values.size (held a.seg.now a.b) ≡ 0 → c.product-n.result ≡ 0 = λ none.
-      ⊎_elim (λ w. w.1) (λ w. absurd (w (c.size_of.ensures ∙ none))) c.else-size_of-eq0.either in record { readable = (c.requires.0, search rules, search rules); n_value = (shaped-count a.lengths.now (held a.seg.now a.b) c.product-n.result c.product-n.ensures (omega arith), filled) }
+    ⊎_elim (λ w. w.1) (λ w. absurd (w (c.size_of.ensures ∙ none))) c.else-size_of-eq0.either in record { readable = (c.requires.0, search rules, search rules); n_value = (shaped-count a.lengths.now (held a.seg.now a.b) c.product-n.result c.product-n.ensures (omega arith), filled) }
 
 pub returns : goal.returns
 returns c = let a = c.args in
     let filled : values.size (held a.seg.now a.b) ≡ 0 → c.product-n.result ≡ 0 = λ none.
-      ⊎_elim (λ w. w.1) (λ w. absurd (w (c.size_of.ensures ∙ none))) c.else-size_of-eq0.either in
+    ⊎_elim (λ w. w.1) (λ w. absurd (w (c.size_of.ensures ∙ none))) c.else-size_of-eq0.either in
     c.repeated.ensures ∙ ap (λ (r : OrTrap values.Value). carry a.seg.now (plan.replace_by a.next.0 2 r)) (shaped-filled a.lengths.now (held a.seg.now a.b) c.product-n.result c.product-n.ensures (omega arith) filled)

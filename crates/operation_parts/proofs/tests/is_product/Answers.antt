@@ -1,4 +1,3 @@
-use Prim.Native.Nat.{◌-◌}
 use mathlib.Core.Path.{sym, ◌∙◌}
 use native.Mathlib.Omega.{arith}
 use Rattle.operation_parts.proofs.Products.{empty, undivided, divisor, divided-on, divided-not, divided-all}

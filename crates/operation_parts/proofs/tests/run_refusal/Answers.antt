@@ -1,4 +1,3 @@
-use borrow.Author.Tests.{not-true, not-false}
 use Rattle.operation_parts.proofs.Lent.{lent-refused, longest, no_table, judged}
 use Rattle.operation_parts.proofs.tests.run_refusal.Goals as goal
 

@@ -1,4 +1,3 @@
-use Prim.Native.Nat.{◌-◌}
 use native.Mathlib.Omega.{arith}
 use Rattle.operator.proofs.Once.{start, no_place, repeated, on, all, other_length, sixteen-bytes}
 use Rattle.operator.proofs.lent.is_table.Goals as goal

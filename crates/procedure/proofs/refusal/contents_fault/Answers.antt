@@ -1,8 +1,6 @@
 use Rattle.procedure.proofs.Faults.{Faulty, at-fault, past-sound, none_left}
 use Rattle.procedure.specs.Faults.{contents_fault}
 use Rattle.procedure.specs.declared.refusal.Fault.{Fault}
-use borrow.Author.Tests.{not-true, not-false}
-use Prim.Native.Nat.{◌-◌}
 use mathlib.Core.Path.{sym, ◌∙◌, subst}
 use Rattle.procedure.proofs.refusal.contents_fault.Goals as goal
 

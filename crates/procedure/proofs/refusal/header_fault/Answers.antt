@@ -1,5 +1,5 @@
 use Rattle.procedure.specs.Faults.{header_fault}
-use borrow.Author.Tests.{le-leb, lt-leb, eq-eqb, ne_eqb, not-true, not-false}
+use borrow.Author.Tests.{le-leb, lt-leb, eq-eqb, ne_eqb}
 use Rattle.procedure.proofs.refusal.header_fault.Goals as goal
 
 pub returns-then-length-h : goal.returns-then-length-h

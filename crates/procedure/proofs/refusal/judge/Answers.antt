@@ -1,6 +1,5 @@
 use Rattle.procedure.proofs.Faults.{faulty-fails, sound-passes}
 use Rattle.procedure.specs.Refusal.{procedure_refusal}
-use borrow.Author.Tests.{not-true, not-false}
 use Rattle.procedure.proofs.refusal.judge.Goals as goal
 
 pub returns-then-not-length_passes : goal.returns-then-not-length_passes

@@ -1,5 +1,4 @@
 use Rattle.std.proofs.Common.{ℕ, ◌^◌, ap, ◌∙◌, arith, le-ltb, lt-ltb}
-use Rattle.descriptor.specs.Fields.{magnitude}
 use Rattle.scalar.specs.declared.Answer.TheVariants.{Word}
 use Rattle.scalar.proofs.characters.character.Goals as goal
 

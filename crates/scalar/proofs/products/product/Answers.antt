@@ -1,5 +1,5 @@
 use Rattle.std.proofs.Common.{sym, ◌∙◌}
-use Rattle.scalar.specs.Operators.{product, times}
+use Rattle.scalar.specs.Operators.{product}
 use Rattle.scalar.proofs.Operands.{numbers-character, numbers-plain, small-numbers, small-integers}
 use Rattle.scalar.proofs.Multiplication.{product-integer}
 use Rattle.scalar.proofs.products.product.Goals as goal

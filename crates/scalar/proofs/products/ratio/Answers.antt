@@ -1,5 +1,4 @@
 use Rattle.std.proofs.Common.{◌*◌, ◌^◌, ◌∙◌, div-le_self, arith}
-use Rattle.scalar.specs.Results.{rounded}
 use Rattle.scalar.proofs.Division.{exact, inexact}
 use Rattle.scalar.proofs.products.ratio.Goals as goal
 

@@ -1,4 +1,4 @@
-use Rattle.std.proofs.Common.{◌∙◌, ⊎_elim}
+use Rattle.std.proofs.Common.{◌∙◌}
 use Rattle.scalar.proofs.Operands.{first-float, second-float}
 use Rattle.scalar.proofs.Multiplication.{product-float, product-integer}
 use Rattle.scalar.proofs.products.times.Goals.{then-a-eq0+else-b-eq0, else-a-eq0}
@@ -9,6 +9,6 @@ returns-then-b-eq0 c = c.integer_product.ensures ∙ product-integer c.args.a c.
 
 pub returns : goal.returns
 returns c = let a = c.args in c.float_product.ensures ∙ product-float a.a a.b (elim c.if-a-eq0.branch [
-      then-a-eq0+else-b-eq0 w ↦ second-float a.a a.b w.if-a-eq0.true w.if-b-eq0.false
-    | else-a-eq0 w ↦ first-float a.a a.b w.if-a-eq0.false
-    ])
+  | then-a-eq0+else-b-eq0 w ↦ second-float a.a a.b w.if-a-eq0.true w.if-b-eq0.false
+  | else-a-eq0 w ↦ first-float a.a a.b w.if-a-eq0.false
+])

@@ -1,5 +1,4 @@
 use Rattle.std.proofs.Common.{◌-◌, arith}
-use Rattle.scalar.specs.Operators.{negative}
 use Rattle.scalar.proofs.Integral.{integral-large, integral-below, integral-between, integral-fraction}
 use Rattle.scalar.proofs.reading.whole_float.Goals as goal
 

@@ -9,6 +9,6 @@ pub returns : goal.returns
 returns c =
     let a = c.args in
     elim c.if-a-eq0.branch [
-      then-a-eq0+else-a-eq0-2 w ↦ sign-integer a.s a.a w.if-a-eq0.true w.if-a-eq0-2.false
-    | else-a-eq0 w ↦ sign-float a.s a.a w.if-a-eq0.false
+      | then-a-eq0+else-a-eq0-2 w ↦ sign-integer a.s a.a w.if-a-eq0.true w.if-a-eq0-2.false
+      | else-a-eq0 w ↦ sign-float a.s a.a w.if-a-eq0.false
     ]

@@ -1,5 +1,5 @@
 use Rattle.std.proofs.Common.{sym, ◌∙◌}
-use Rattle.scalar.specs.Operators.{minus, difference}
+use Rattle.scalar.specs.Operators.{difference}
 use Rattle.scalar.proofs.Operands.{numbers-character, numbers-plain, small-numbers, small-integers}
 use Rattle.scalar.proofs.Addition.{minus-integers}
 use Rattle.scalar.proofs.sums.difference.Goals as goal

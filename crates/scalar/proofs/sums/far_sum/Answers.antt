@@ -1,5 +1,4 @@
 use Rattle.std.proofs.Common.{◌∙◌, arith}
-use Rattle.scalar.specs.Results.{rounded}
 use Rattle.scalar.proofs.Addition.{far-like, far-unlike}
 use Rattle.scalar.proofs.sums.far_sum.Goals as goal
 

@@ -1,5 +1,4 @@
 use Rattle.std.proofs.Common.{ℕ, true, sym, ◌∙◌, ap₂, pos_of_ne-zero, mul-pos, arith, pow_pos}
-use Rattle.scalar.specs.Results.{rounded}
 use Rattle.scalar.specs.Operators.{plus}
 use Rattle.scalar.proofs.Units.{unpacked-normal}
 use Rattle.scalar.proofs.Addition.{without-left, without-right, plus_comm, shifted-lt, aligned, tiny}

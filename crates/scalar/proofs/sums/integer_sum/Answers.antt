@@ -1,5 +1,4 @@
 use Rattle.std.proofs.Common.{◌∙◌}
-use Rattle.scalar.specs.Results.{integer}
 use Rattle.scalar.proofs.Addition.{added-integer}
 use Rattle.scalar.proofs.sums.integer_sum.Goals as goal
 

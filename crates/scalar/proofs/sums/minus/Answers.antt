@@ -1,4 +1,4 @@
-use Rattle.scalar.specs.Operators.{plus, minus}
+use Rattle.scalar.specs.Operators.{minus}
 use Rattle.scalar.proofs.sums.minus.Goals as goal
 
 pub returns : goal.returns

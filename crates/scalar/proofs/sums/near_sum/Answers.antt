@@ -1,5 +1,4 @@
 use Rattle.std.proofs.Common.{◌∙◌}
-use Rattle.scalar.specs.Results.{rounded}
 use Rattle.scalar.proofs.Addition.{added-near}
 use Rattle.scalar.proofs.sums.near_sum.Goals as goal
 

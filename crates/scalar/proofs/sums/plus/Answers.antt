@@ -1,4 +1,4 @@
-use Rattle.std.proofs.Common.{Bool, sym, ap, ◌∙◌, ⊎_elim}
+use Rattle.std.proofs.Common.{Bool, sym, ap, ◌∙◌}
 use Rattle.scalar.specs.Value.{units}
 use Rattle.scalar.specs.Operators.{plus}
 use Rattle.scalar.proofs.Operands.{first-float, second-float}
@@ -14,6 +14,6 @@ returns c =
     let a = c.args in
     c.float_sum.ensures
     ∙ sym (ap (λ (x : Bool). plus x a.s (units a.a) a.t (units a.b)) (elim c.if-a-eq0.branch [
-      then-a-eq0+else-b-eq0 w ↦ second-float a.a a.b w.if-a-eq0.true w.if-b-eq0.false
-    | else-a-eq0 w ↦ first-float a.a a.b w.if-a-eq0.false
+      | then-a-eq0+else-b-eq0 w ↦ second-float a.a a.b w.if-a-eq0.true w.if-b-eq0.false
+      | else-a-eq0 w ↦ first-float a.a a.b w.if-a-eq0.false
     ]))

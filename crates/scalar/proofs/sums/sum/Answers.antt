@@ -1,6 +1,6 @@
 use Rattle.std.proofs.Common.{sym, ◌∙◌}
 use Rattle.descriptor.specs.Fields.{sign}
-use Rattle.scalar.specs.Operators.{plus, sum}
+use Rattle.scalar.specs.Operators.{sum}
 use Rattle.scalar.proofs.Operands.{numbers-character, numbers-plain, small-numbers, small-integers}
 use Rattle.scalar.proofs.Addition.{sum-integers}
 use Rattle.scalar.proofs.sums.sum.Goals as goal

@@ -1,4 +1,4 @@
-use Rattle.std.proofs.Common.{◌-◌, refl, ◌∙◌, arith, length-set}
+use Rattle.std.proofs.Common.{refl, ◌∙◌, arith, length-set}
 use Rattle.segment.proofs.Copies.{list_on, list_all}
 use Rattle.storage.proofs.arrays.put_each.Goals as goal
 
