@@ -14,9 +14,9 @@ returns c =
     let week = c.replay_all-week.result in
     let words = c.replay_all-week.new.seg in
     let told : replay week.answer words (counts_of c.add.new.self) ≡ replayed a.seg.now lent a.file.now =
-        subst (λ (t : Tally). replay week.answer words (counts_of t) ≡ replayed a.seg.now lent a.file.now)
-        (sym (c.add.ensures ∙ ap (λ (none : Tally). added none week.tally) c.zero.ensures))
-        c.replay_all-week.ensures in
+    subst (λ (t : Tally). replay week.answer words (counts_of t) ≡ replayed a.seg.now lent a.file.now)
+    (sym (c.add.ensures ∙ ap (λ (none : Tally). added none week.tally) c.zero.ensures))
+    c.replay_all-week.ensures in
     record {
       tally_after = told;
       promised_replay = promised-replay a.seg.now lent a.file.now week.answer words (counts_of c.add.new.self) told;
