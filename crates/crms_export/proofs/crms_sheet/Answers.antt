@@ -4,7 +4,10 @@ use Rattle.crms_export.proofs.Numbers.{sums-told}
 use Rattle.crms_export.proofs.crms_sheet.Goals as goal
 
 pub returns-in-Refused : goal.returns-in-Refused
-returns-in-Refused c = let answer = rw (← c.sheet.ensures.value, c.in-Refused.is) (refl, refl) in record { value = answer.0; counts_after = answer.1 }
+returns-in-Refused c = record {
+  value = rw (← c.sheet.ensures.value, c.in-Refused.is) refl;
+  counts_after = rw (← c.sheet.ensures.value, c.in-Refused.is) refl;
+}
 
 pub returns-in-Summed : goal.returns-in-Summed
 returns-in-Summed c = let answer = sums-told _ _ _ _ (sym c.in-Summed.is ∙ c.sheet.ensures.value)
