@@ -1,2 +1,2 @@
--- The theorem of walking, and what the walks by hand share.
+-- The theorem of walking.
 pub mod Theorem

@@ -1,2 +1,2 @@
--- Replays: what is done record by record, and what the walks by hand share.
+-- Replays: what is done record by record.
 mod Replaying

@@ -1,2 +1,2 @@
--- The laws of counts, and of a tally that a walk by hand lends.
+-- The laws of counts.
 pub mod Laws
