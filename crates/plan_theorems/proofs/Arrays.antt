@@ -19,7 +19,7 @@ use Rattle.manual.proofs.Elements.{length-cycle}
 use Rattle.manual.proofs.Joins.{joined-cases, rows-size}
 use Rattle.scalar_theorems.specs.Validity.{Valid}
 use Rattle.plan_theorems.proofs.Given.{AnyTrap, Given, passed, chained}
-use Rattle.plan_theorems.proofs.Lists.{All, all_append, all_take, all_get_d, all_map}
+use Rattle.plan_theorems.proofs.Lists.{All, all_append, all_take, all-get_or, all_map}
 use Rattle.plan_theorems.proofs.Values.{Length, valid-length, ValueFits, Stored}
 use Rattle.plan_theorems.proofs.Operators.{Elements, collect-map}
 
@@ -42,7 +42,7 @@ catenate-fits a b h k =
     chained (JoinedFits a.shape b.shape) ValueFits (joined_shape a.shape b.shape) _
     (joined-cases (JoinedFits a.shape b.shape) AnyTrap tt a.shape b.shape tt
     (λ few. ((omega arith, omega arith), (omega arith, tt)))
-    (λ p q w few. ((omega arith, rows-size a.shape b.shape p q w), (omega arith, (all_get_d Length a.shape (length a.shape - 1) (omega arith) h.lengths, tt)))))
+    (λ p q w few. ((omega arith, rows-size a.shape b.shape p q w), (omega arith, (all-get_or Length a.shape (length a.shape - 1) (omega arith) h.lengths, tt)))))
     (λ shape f. record {
       rank = f.0.0;
       size = f.0.1 ∙ ap₂ ◌+◌ h.size k.size ∙ sym (length-append a.ravel b.ravel);

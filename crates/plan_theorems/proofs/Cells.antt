@@ -26,7 +26,7 @@ use Rattle.effects.specs.Seen.{whole, read_kind, read}
 use Rattle.scalar_theorems.specs.Validity.{Valid}
 use Rattle.segment.specs.Lent.{Words}
 use Rattle.plan_theorems.proofs.Given.{Given}
-use Rattle.plan_theorems.proofs.Lists.{All, all-count, count-all, all_get_d}
+use Rattle.plan_theorems.proofs.Lists.{All, all-count, count-all, all-get_or}
 use Rattle.plan_theorems.proofs.Values.{Length, valid-length, Stored, scalar-stored}
 
 abbrev pub CellFits : Cell → Type 0
@@ -44,7 +44,7 @@ value-given invalid h = tt
 pub word-valid : (c : Cell) → CellFits c → Valid (cell_word c)
 word-valid undefined h = valid-length 0 (omega arith)
 word-valid (indirect t) h = valid-length 0 (omega arith)
-word-valid (value shape ravel) h = all_get_d Valid ravel 0 (valid-length 0 (omega arith)) h.fits.scalars
+word-valid (value shape ravel) h = all-get_or Valid ravel 0 (valid-length 0 (omega arith)) h.fits.scalars
 word-valid invalid h = valid-length 0 (omega arith)
 
 part-words : (s : List ℕ) → Words s → (a n : ℕ) → All (λ w. w < 2 ^ 32) (part s a n)

@@ -36,14 +36,14 @@ module _ (P : ℕ → Type 0) where
   all_replicate zero w h = tt
   all_replicate (suc n) w h = (h, all_replicate n w h)
 
-  pub all_get_d : (l : List ℕ) (i : ℕ) → P 0 → All P l → P (get_or l i 0)
-  all_get_d [] i z h = z
-  all_get_d (x ∷ l) zero z h = h.0
-  all_get_d (x ∷ l) (suc i) z h = all_get_d l i z h.1
+  pub all-get_or : (l : List ℕ) (i : ℕ) → P 0 → All P l → P (get_or l i 0)
+  all-get_or [] i z h = z
+  all-get_or (x ∷ l) zero z h = h.0
+  all-get_or (x ∷ l) (suc i) z h = all-get_or l i z h.1
 
 pub all_map : (P Q : ℕ → Type 0) → ((w : ℕ) → P w → Q w) → (l : List ℕ) → All P l → All Q l
 all_map P Q f [] h = tt
 all_map P Q f (x ∷ l) h = (f x h.0, all_map P Q f l h.1)
 
 pub words-all : (l : List ℕ) → All (λ w. w < 2 ^ 32) l → Words l
-words-all l h i = all_get_d (λ (w : ℕ). w < 2 ^ 32) l i (omega arith) h
+words-all l h i = all-get_or (λ (w : ℕ). w < 2 ^ 32) l i (omega arith) h

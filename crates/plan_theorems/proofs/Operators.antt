@@ -21,7 +21,7 @@ use Rattle.manual.proofs.Elements.{same_lists}
 use Rattle.scalar_theorems.specs.Validity.{Valid}
 use Rattle.scalar_theorems.proofs.Validity.{valid-results}
 use Rattle.plan_theorems.proofs.Given.{Given, passed, chained, both}
-use Rattle.plan_theorems.proofs.Lists.{All, all_replicate, all_get_d}
+use Rattle.plan_theorems.proofs.Lists.{All, all_replicate, all-get_or}
 use Rattle.plan_theorems.proofs.Values.{Length, valid-length, ValueFits}
 
 -- ---- elements
@@ -111,7 +111,7 @@ spread-fits : (n : ℕ) (l : List ℕ) → (length l ≡ 1) ⊎ (length l ≡ n)
 spread-fits n l h k = go (is_single l) refl
   where
     go : (t : Bool) → is_single l ≡ t → Elements Valid n (cond t (replicate n (first l)) l)
-    go true e = (all_replicate Valid n (first l) (all_get_d Valid l 0 (valid-length 0 (omega arith)) k), length-replicate n (first l))
+    go true e = (all_replicate Valid n (first l) (all-get_or Valid l 0 (valid-length 0 (omega arith)) k), length-replicate n (first l))
     go false e = (k, ⊎_elim (λ q. absurd (eqb-false (length l) 1 e q)) (λ q. q) h)
 
 pub dyadic-fits : (op : Dyadic) (a b : Value) → ValueFits a → ValueFits b → Given ValueFits (dyadic op a b)

@@ -15,26 +15,10 @@ pub frame_cells-requires : goal.frame_cells-requires
 frame_cells-requires c = descent-frame c.requires c.loop-left.invariant.2
     c.loop-left-test.true c.of.ensures c.frame_at-frame.ensures
 
-pub shape_of-arrays-then-not-frame_cells : goal.shape_of-arrays-then-not-frame_cells
-shape_of-arrays-then-not-frame_cells c = c.arrays-1.given
-    ∙ c.loop-left.invariant.0
-
-pub shape_of-marks-then-not-frame_cells : goal.shape_of-marks-then-not-frame_cells
-shape_of-marks-then-not-frame_cells c = c.marks-1.given
-    ∙ c.loop-left.invariant.1
-
 pub returns-then-not-frame_cells : goal.returns-then-not-frame_cells
 returns-then-not-frame_cells c = let fails = descent-fails c.requires
     c.loop-left.invariant.2 c.loop-left-test.true c.of.ensures c.frame_at-frame.ensures
     (c.frame_cells.ensures.value, (c.frame_cells.ensures.gains, (c.frame_cells.ensures.met, c.frame_cells.ensures.can_rise))) c.if-not-frame_cells.true in record { value = sym fails; met = never }
-
-pub shape_of-arrays-then-base-last : goal.shape_of-arrays-then-base-last
-shape_of-arrays-then-base-last c = c.arrays-1.given
-    ∙ c.loop-left.invariant.0
-
-pub shape_of-marks-then-base-last : goal.shape_of-marks-then-base-last
-shape_of-marks-then-base-last c = c.marks-1.given
-    ∙ c.loop-left.invariant.1
 
 pub returns-then-base-last : goal.returns-then-base-last
 returns-then-base-last c = let answer = descent-bottom c.requires
@@ -47,8 +31,8 @@ loop-left-preserved c = let on = descent-on c.requires
     c.loop-left.invariant.2 c.loop-left-test.true c.of.ensures
     c.frame_at-frame.ensures
     (c.frame_cells.ensures.value, (c.frame_cells.ensures.gains, (c.frame_cells.ensures.met, c.frame_cells.ensures.can_rise))) c.if-not-frame_cells.false c.number-last.ensures c.if-base-last.false in (
-      c.arrays-1.given ∙ c.loop-left.invariant.0,
-      c.marks-1.given
+      c.frame_cells.auto.arrays ∙ c.loop-left.invariant.0,
+      c.frame_cells.auto.marks
           ∙ c.loop-left.invariant.1,
       on,
     )

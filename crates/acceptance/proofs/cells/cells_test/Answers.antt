@@ -7,9 +7,6 @@ pub plain_cells-requires : goal.plain_cells-requires
 plain_cells-requires c = globals-room c.requires
     (c.index-end.ensures ∙ c.blockptr.ensures)
 
-pub shape_of-arrays-then-not-plain_cells : goal.shape_of-arrays-then-not-plain_cells
-shape_of-arrays-then-not-plain_cells c = c.arrays-1.given
-
 pub returns-then-not-plain_cells : goal.returns-then-not-plain_cells
 returns-then-not-plain_cells c = record {
   value = sym (globals-wrong c.requires (c.index-end.ensures ∙ c.blockptr.ensures)
@@ -28,13 +25,6 @@ cells_from-requires c = before-stack c.requires
     (c.plain_cells.ensures.value, (c.plain_cells.ensures.met, c.plain_cells.ensures.x_bound)) c.if-not-plain_cells.false c.lbase-base.ensures
     c.number.ensures (c.number-top.ensures ∙ c.ltop.ensures)
     c.mark_variables.ensures
-
-pub shape_of-arrays : goal.shape_of-arrays
-shape_of-arrays c = c.arrays-2-1.given
-    ∙ c.arrays-1.given
-
-pub shape_of-marks : goal.shape_of-marks
-shape_of-marks c = c.marks-2-1.given ∙ c.marks-1.given
 
 pub returns : goal.returns
 returns c = let answer = all-cells c.requires

@@ -6,9 +6,6 @@ pub free_cells-requires : goal.free_cells-requires
 free_cells-requires c = temporaries-room c.requires
     (c.index-stack.ensures ∙ c.sbase.ensures)
 
-pub shape_of-arrays-then-not-free_cells : goal.shape_of-arrays-then-not-free_cells
-shape_of-arrays-then-not-free_cells c = c.arrays-1.given
-
 pub returns-then-not-free_cells : goal.returns-then-not-free_cells
 returns-then-not-free_cells c = record {
   value = temporaries-fail c.requires (c.index-stack.ensures ∙ c.sbase.ensures) (c.free_cells.ensures.value, (c.free_cells.ensures.met, c.free_cells.ensures.x_bound)) c.if-not-free_cells.true;
@@ -26,13 +23,6 @@ free_cells-requires-2 c = arguments-room c.requires
     (c.index-stack.ensures ∙ c.sbase.ensures) (c.free_cells.ensures.value, (c.free_cells.ensures.met, c.free_cells.ensures.x_bound))
     c.if-not-free_cells.false
 
-pub shape_of-arrays-then-not-free_cells-2 : goal.shape_of-arrays-then-not-free_cells-2
-shape_of-arrays-then-not-free_cells-2 c = c.arrays-2-1.given
-    ∙ c.arrays-1.given
-
-pub shape_of-marks-then-not-free_cells-2 : goal.shape_of-marks-then-not-free_cells-2
-shape_of-marks-then-not-free_cells-2 c = c.marks-1.given
-
 pub returns-then-not-free_cells-2 : goal.returns-then-not-free_cells-2
 returns-then-not-free_cells-2 c = let fails = arguments-fail c.requires
     (c.index-stack.ensures
@@ -48,13 +38,6 @@ plain_cells-requires c = locals-room c.requires
     (c.free_cells.ensures.value, (c.free_cells.ensures.met, c.free_cells.ensures.x_bound)) c.if-not-free_cells.false
     c.of.ensures c.of-2.ensures c.unmark.ensures
     (c.free_cells-2.ensures.value, (c.free_cells-2.ensures.met, c.free_cells-2.ensures.x_bound)) c.if-not-free_cells-2.false
-
-pub shape_of-arrays : goal.shape_of-arrays
-shape_of-arrays c = c.arrays-3-1.given ∙ c.arrays-2-1.given
-    ∙ c.arrays-1.given
-
-pub shape_of-marks : goal.shape_of-marks
-shape_of-marks c = c.marks-1.given
 
 pub returns : goal.returns
 returns c = let answer = frame-done c.requires

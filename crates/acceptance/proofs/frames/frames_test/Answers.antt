@@ -4,7 +4,7 @@ use Rattle.acceptance.proofs.Chain.{short, long}
 use Rattle.acceptance.proofs.frames.frames_test.Goals as goal
 
 pub overflow_add-base : goal.overflow_add-base
-overflow_add-base c = omega (arith, c.shared_slice_known-1.given 1)
+overflow_add-base c = omega (arith, c.type_inv.seg 1)
 
 pub returns-then-top-base : goal.returns-then-top-base
 returns-then-top-base c = let a = c.args in

@@ -1,5 +1,4 @@
 use mathlib.Core.Path.{sym, ◌∙◌}
-use borrow.Author.Tests.{not-true, not-false}
 use Rattle.fresh_segment.specs.LayOut.{layout}
 use Rattle.engine.proofs.LayingOut.{segments-refused, absent, has-arguments, too_large, laid, room, promised}
 use Rattle.engine.proofs.lay_out.lay_out.Goals as goal

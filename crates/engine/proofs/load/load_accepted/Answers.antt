@@ -1,6 +1,5 @@
 use mathlib.Core.Path.{sym, ◌∙◌}
 use native.Mathlib.Omega.{arith}
-use borrow.Author.Tests.{not-true, not-false}
 use Rattle.engine.proofs.Loading.{one-scalar, no-global, no_value, scalar-stored, full, array-stored}
 use Rattle.engine.proofs.load.load_accepted.Goals as goal
 

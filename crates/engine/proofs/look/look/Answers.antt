@@ -1,4 +1,4 @@
-use borrow.Author.Tests.{eq-eqb, ne_eqb, not-true, not-false}
+use borrow.Author.Tests.{eq-eqb, ne_eqb}
 use Rattle.operations.specs.Look.{looked}
 use Rattle.engine.proofs.Looking.{promised}
 use Rattle.engine.proofs.look.look.Goals as goal

@@ -10,7 +10,7 @@ pub loop-i-init : goal.loop-i-init
 loop-i-init c = (omega arith, undivided (sym c.any_zero.ensures ∙ c.if-any_zero.false))
 
 pub overflow_cast-l : goal.overflow_cast-l
-overflow_cast-l c = omega (arith, c.shared_slice_known-in-loop-i-1.given c.loop-i.i)
+overflow_cast-l c = omega (arith, c.type_inv.lengths c.loop-i.i)
 
 pub nonzero_rem-rest : goal.nonzero_rem-rest
 nonzero_rem-rest c = omega (arith, divisor c.loop-i.invariant.1 (omega arith))
