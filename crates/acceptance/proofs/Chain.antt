@@ -4,6 +4,7 @@ use mathlib.Core.Path.{◌≡◌, refl, sym, ◌∙◌}
 use mathlib.Core.Bool.{Bool, true, false, cond, ◌&&◌}
 use mathlib.Core.List.{List}
 use native.Mathlib.Omega.{arith}
+use lib.ListN.{length}
 use lib.Dec.{leb, eqb}
 use borrow.Author.Tests.{leb-true, eqb-true, le-leb, lt-leb, eq-eqb, ne_eqb}
 use Rattle.segment.specs.State.{lbase, ltop}
@@ -34,6 +35,9 @@ module _ (has : ℕ → Bool) (size : ℕ → ℕ) (s : List ℕ) (base : ℕ) w
 abbrev pub chain_from : ℕ → List ℕ → List ℕ → List ℕ → ℕ → Bool
 chain_from n s regular alternate base = frames_pass n (known regular alternate) (variables regular alternate) s base
 
+pub chain-start : (s regular alternate : List ℕ) (base : ℕ) {n : ℕ} → n ≡ length s → chain_test s regular alternate base ≡ chain_from n s regular alternate base
+chain-start s regular alternate base all = rw all
+
 module _ (s regular alternate : List ℕ) (base n : ℕ) (pos : 0 < n) {frame : Frame} (f : FrameAt s regular alternate base frame) where
   step : chain_from n s regular alternate base
       ≡ known regular alternate frame.code && cond (eqb frame.last.0 base) (eqb frame.variables base)
@@ -51,8 +55,8 @@ module _ (s regular alternate : List ℕ) (base n : ℕ) (pos : 0 < n) {frame : 
       pub low : base < frame.last.0 + 2 + frame.variables → chain_from n s regular alternate base ≡ false
       low l = step ∙ simp (h, ne_eqb frame.last.0 base z, lt-leb (frame.last.0 + 2 + frame.variables) base l)
 
-      pub further : frame.last.0 + 2 + frame.variables ≤ base → chain_from n s regular alternate base ≡ chain_from (n - 1) s regular alternate frame.last.0
-      further l = step ∙ simp (h, ne_eqb frame.last.0 base z, le-leb (frame.last.0 + 2 + frame.variables) base l)
+      pub further : frame.last.0 + 2 + frame.variables ≤ base → {less : ℕ} → less ≡ n - 1 → chain_from n s regular alternate base ≡ chain_from less s regular alternate frame.last.0
+      further l fewer = rw fewer (step ∙ simp (h, ne_eqb frame.last.0 base z, le-leb (frame.last.0 + 2 + frame.variables) base l))
 
 -- What is known of a frame once test 16 has passed.
 module _ (s regular alternate : List ℕ) (base n : ℕ) (pos : 0 < n) {frame : Frame} (f : FrameAt s regular alternate base frame)

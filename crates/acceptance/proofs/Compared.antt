@@ -45,20 +45,27 @@ module _ (test : ℕ → Bool) (s : List ℕ) (a end n : ℕ) where
           go false f = ap (every test) (array-hit s a end n pos low f) ∙ simp f
 
       module _ {r : Bool} (q : r ≡ cond (free_at s a) true (test a)) where
-        pub array-passes : r ≡ true → every test (starts_from false n s a end) ≡ every test (starts_from false (n - 1) s (a + span_at s a) end)
-        array-passes e = turn ∙ simp (sym q ∙ e)
+        pub array-passes : r ≡ true → {less : ℕ} → less ≡ n - 1 → every test (starts_from false n s a end) ≡ every test (starts_from false less s (a + span_at s a) end)
+        array-passes e fewer = rw fewer (turn ∙ simp (sym q ∙ e))
 
         pub array-fails : r ≡ false → every test (starts_from false n s a end) ≡ false
         array-fails e = turn ∙ simp (sym q ∙ e)
+
+-- All of them.
+pub arrays-all : (s : List ℕ) (a end : ℕ) {n : ℕ} → n ≡ length s → starts_from false n s a end ≡ arrays_from s a end
+arrays-all s a end all = rw all
 
 -- Which arrays are among them.
 module _ (s : List ℕ) (a end n : ℕ) (pos : 0 < n) (low : a < end) where
   pub array-among : free_at s a ≡ false → 0 < count a (starts_from false n s a end)
   array-among f = rw (array-hit s a end n pos low f) (omega (arith, hit_same a))
 
-  pub later-among : (x : ℕ) → 0 < count x (starts_from false (n - 1) s (a + span_at s a) end) → 0 < count x (starts_from false n s a end)
-  later-among x k = go (free_at s a) refl
+  pub later-among : {less : ℕ} → less ≡ n - 1 → (x : ℕ) → 0 < count x (starts_from false less s (a + span_at s a) end) → 0 < count x (starts_from false n s a end)
+  later-among fewer x later = go (free_at s a) refl
     where
+      k : 0 < count x (starts_from false (n - 1) s (a + span_at s a) end)
+      k = rw fewer at later
+
       go : (f : Bool) → free_at s a ≡ f → 0 < count x (starts_from false n s a end)
       go true f = rw (array-miss s a end n pos low f) k
       go false f = rw (array-hit s a end n pos low f) (omega (arith, k))

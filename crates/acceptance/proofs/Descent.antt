@@ -34,15 +34,15 @@ pub record Descent (s regular alternate : List ℕ) (from upto : ℕ) (before ar
   pub met : Down s from upto before arrays base top
 
 pub descent-start : {s regular alternate arrays marks : List ℕ} {from upto : ℕ} → BeforeStack s regular alternate arrays marks from upto
-    → Descent s regular alternate from upto arrays arrays marks from upto (length s)
-descent-start {s} {arrays = arrays} {from = from} {upto = upto} g = record {
+    → {left : ℕ} → left ≡ length s → Descent s regular alternate from upto arrays arrays marks from upto left
+descent-start {s} {arrays = arrays} {from = from} {upto = upto} g all = rw all (record {
   over = g.over;
   below = omega arith;
   chain = g.chain;
   marked = g.variables;
   same = refl;
   met = down-start s from upto arrays g.room;
-}
+})
 
 module _ {s regular alternate before marks₀ : List ℕ} {from upto : ℕ} (g : BeforeStack s regular alternate before marks₀ from upto)
     {arrays marks : List ℕ} {base top left : ℕ} (d : Descent s regular alternate from upto before arrays marks base top left) where
@@ -98,10 +98,10 @@ module _ {s regular alternate before marks₀ : List ℕ} {from upto : ℕ} (g :
               λ t. down-bottom d.met (base - frame.variables) last-is (ran.1.1.0 yes) (omega (arith, size)) low,
             )
 
-        pub descent-on : last < base → Descent s regular alternate from upto before arrays' marks' last (base - frame.variables) (left - 1)
-        descent-on low =
+        pub descent-on : last < base → {less : ℕ} → less ≡ left - 1 → Descent s regular alternate from upto before arrays' marks' last (base - frame.variables) less
+        descent-on low fewer =
             let older = above s regular alternate base left more read d.chain (omega arith) in
-            record {
+            rw fewer (record {
               over = omega (arith, older.0);
               below = omega (arith, d.over, d.below);
               chain = rw l older.1;
@@ -111,7 +111,7 @@ module _ {s regular alternate before marks₀ : List ℕ} {from upto : ℕ} (g :
                   ∙ frame_on (arguments regular alternate) (variables regular alternate) s (in_table before) base top left more start_is
                   read.arguments last-is marks d.marked judged yes low;
               met = down-on d.met (base - frame.variables) last-is (ran.1.1.0 yes) (omega (arith, older.0)) (omega arith) (ran.1.1.1 yes);
-            }
+            })
 
 -- ---- all cells: the globals, up to the block at `end`, and then the stack
 

@@ -1,7 +1,7 @@
 -- Cells met one after the other: each is one mark more at the array that it points to.
 use Prim.Native.Nat.{ℕ, ◌+◌, ◌/◌, ◌%◌, ◌^◌, ◌<◌, ◌≤◌}
-use mathlib.Core.Path.{◌≡◌, refl, sym, ◌∙◌, ap}
-use mathlib.Core.Bool.{Bool, true, false, cond, not, ◌&&◌}
+use mathlib.Core.Path.{◌≡◌, refl, sym, ◌∙◌}
+use mathlib.Core.Bool.{Bool, true, false, cond, ◌&&◌}
 use mathlib.Core.List.{List, [], ◌∷◌, ◌++◌}
 use mathlib.Core.Logic.{⊎_elim}
 use native.Mathlib.Numerals.{add-one}
@@ -9,18 +9,16 @@ use native.Mathlib.Omega.{arith}
 use lib.ListN.{get_or, set, length, drop, drop_of_length-le, get_or-eq_default}
 use lib.Seq.{drop-cons}
 use lib.Dec.{leb, eqb}
-use borrow.Author.Tests.{leb-true, leb-false, eqb-true, eqb-false, le-leb, lt-leb, le-ltb, lt-ltb, eq-eqb, ne_eqb}
+use borrow.Author.Tests.{leb-true, leb-false, eqb-true, eqb-false, le-leb, lt-leb, eq-eqb, ne_eqb}
 use Rattle.descriptor.specs.Fields.{integer_limit, is_array, address, array_word, undefined_word}
 use Rattle.descriptor.specs.Kinds.{is_scalar}
 use Rattle.descriptor.proofs.Scalars.{small-scalar, large-scalar}
-use Rattle.segment.specs.State.{blockptr}
-use Rattle.segment.specs.Stack.{stack_at}
 use Rattle.storage.specs.Heap.{hit, count}
 use Rattle.storage_theorems.proofs.Counts.{hit-cases, hit-not, count-append}
 use Rattle.acceptance_storage.specs.Tests.{every}
 use Rattle.acceptance_storage.proofs.Tests.{every-on, every-bad, every-end}
 use Rattle.acceptance_storage.proofs.Tallies.{inside-table, raise-at}
-use Rattle.acceptance.specs.Cells.{in_table, is_indirect, direct, pointing, free_cell}
+use Rattle.acceptance.specs.Cells.{in_table, direct, free_cell}
 use Rattle.acceptance.specs.Tables.{CanRise, meet, Met}
 
 -- A word is the array's at `x` where it is an array's word and that is its address.
@@ -200,39 +198,3 @@ module _ (arrays : ℕ → ℕ) (w : ℕ) (fits : w < 2 ^ 32) where
       go : (b : Bool) → b ≡ cond b true (cond (eqb w undefined_word) true (is_array w && leb 1 (arrays (address w))))
       go true = refl
       go false = simp (ne_eqb w undefined_word u, ne_eqb (w / 2 ^ 16) 0x200 k)
-
--- An indirect word in the order of the code: `r` and `t` say what is indirect, the word and the one that it names.
-module _ (s : List ℕ) (variable : ℕ → ℕ) (w : ℕ) {r : Bool} (i : r ≡ is_indirect w) where
-  pub pointing-not : r ≡ false → false ≡ pointing s variable w
-  unfolding pointing
-  pointing-not e = simp (sym i ∙ e)
-
-  module _ (yes : r ≡ true) where
-    module _ (g : w / 2 ^ 16 % 2 ≡ 1) where
-      pub pointing-low : address w < 8 → false ≡ pointing s variable w
-      unfolding pointing
-      pointing-low l = simp (sym i ∙ yes, eq-eqb (w / 2 ^ 16 % 2) 1 g, lt-leb 8 (address w) l)
-
-      module _ (l : 8 ≤ address w) {end : ℕ} (e : end ≡ blockptr s) where
-        pub pointing-high : end ≤ address w → false ≡ pointing s variable w
-        unfolding pointing
-        pointing-high h = simp (sym i ∙ yes, eq-eqb (w / 2 ^ 16 % 2) 1 g, le-leb 8 (address w) l, le-ltb (address w) (blockptr s) (rw e at h))
-
-        pub pointing-global : address w < end → {at word : ℕ} {t : Bool} → at ≡ address w → word ≡ get_or s at 0 → t ≡ is_indirect word
-            → not t ≡ pointing s variable w
-        unfolding pointing
-        pointing-global h a b q =
-            ap not (q ∙ ap is_indirect (b ∙ ap (λ (k : ℕ). get_or s k 0) a))
-            ∙ sym (simp (sym i ∙ yes, eq-eqb (w / 2 ^ 16 % 2) 1 g, le-leb 8 (address w) l, lt-ltb (address w) (blockptr s) (rw e at h)))
-
-    module _ (g : w / 2 ^ 16 % 2 ≡ 1 → ⊥) {mark : ℕ} (m : mark ≡ variable (address w)) where
-      pub pointing-unmarked : mark < 1 → false ≡ pointing s variable w
-      unfolding pointing
-      pointing-unmarked l = simp (sym i ∙ yes, ne_eqb (w / 2 ^ 16 % 2) 1 g, lt-leb 1 (variable (address w)) (rw m at l))
-
-      pub pointing-variable : 1 ≤ mark → {at word : ℕ} {t : Bool} → at ≡ address w → word ≡ stack_at s at → t ≡ is_indirect word
-          → not t ≡ pointing s variable w
-      unfolding pointing
-      pointing-variable l a b q =
-          ap not (q ∙ ap is_indirect (b ∙ ap (stack_at s) a))
-          ∙ sym (simp (sym i ∙ yes, ne_eqb (w / 2 ^ 16 % 2) 1 g, le-leb 1 (variable (address w)) (rw m at l)))

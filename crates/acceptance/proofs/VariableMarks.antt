@@ -49,9 +49,9 @@ pub record Marked (size : ℕ → ℕ) (s : List ℕ) (from : ℕ) (before table
   pub sum : (x : ℕ) → get_or table x 0 + count x (variables_from left size s base) ≡ count x (variables_from (length s) size s from)
 
 pub marked_start : (size : ℕ → ℕ) (s : List ℕ) (from : ℕ) (table : List ℕ) → from < 16384 → from ≤ length table → Tally table []
-    → Marked size s from table table from (length s)
-marked_start size s from table l k z =
-    record { long = refl; low = k; room = λ x. omega (arith, z x); sum = λ x. omega (arith, z x) }
+    → {left : ℕ} → left ≡ length s → Marked size s from table table from left
+marked_start size s from table l k z all =
+    rw all (record { long = refl; low = k; room = λ x. omega (arith, z x); sum = λ x. omega (arith, z x) })
 
 module _ {size : ℕ → ℕ} {s : List ℕ} {from : ℕ} {before table : List ℕ} {base left : ℕ} (h : Marked size s from before table base left) where
   pub marked-none : left ≤ 0 → Tally table (variables_from (length s) size s from)
@@ -62,10 +62,10 @@ module _ {size : ℕ → ℕ} {s : List ℕ} {from : ℕ} {before table : List �
     pub marked-bottom : base ≤ last → Tally after (variables_from (length s) size s from)
     marked-bottom l x = omega (arith, g.sum x, h.sum x, variables-bottom size s base es el left pos x l)
 
-    pub marked-on : last < base → length after ≡ length table → Marked size s from before after last (left - 1)
-    marked-on l k = record {
+    pub marked-on : last < base → length after ≡ length table → {less : ℕ} → less ≡ left - 1 → Marked size s from before after last less
+    marked-on l k fewer = rw fewer (record {
       long = k ∙ h.long;
       low = omega (arith, k, h.low);
       room = λ x. omega (arith, g.sum x, h.room x, range-once start (base - start) x);
       sum = λ x. omega (arith, g.sum x, h.sum x, variables-on size s base es el left pos x l);
-    }
+    })

@@ -53,8 +53,7 @@ fn cells_from(
 {
     let mut base = from;
     let mut top = upto;
-    let mut left = seg.len();
-    while 0 < left {
+    'frames: for _ in 0..seg.len() {
         let frame = frame_at(seg, regular, alternate, StackAddress::of(base));
         let last = frame.last.number();
         let start = base - frame.variables;
@@ -66,7 +65,6 @@ fn cells_from(
         }
         top = start;
         base = last;
-        left -= 1;
     }
     false
 }
@@ -111,12 +109,10 @@ fn plain_cells(cells: &[u32], arrays: &mut [u16]) -> bool
     ensures met { result ≡ true → Met arrays.old arrays.new cells.now }
     ensures x_bound { result ≡ true → (x : ℕ) → get_or arrays.new x 0 ≤ get_or arrays.old x 0 + length cells.now }
 {
-    let mut i = 0;
-    while i < cells.len() {
-        if !is_direct(cells[i], arrays) {
+    for &w in cells {
+        if !is_direct(w, arrays) {
             return false;
         }
-        i += 1;
     }
     true
 }
@@ -128,25 +124,21 @@ fn free_cells(seg: &[u32], cells: &[u32], variables: &[u16], arrays: &mut [u16])
     ensures met { result ≡ true → Met arrays.old arrays.new cells.now }
     ensures x_bound { result ≡ true → (x : ℕ) → get_or arrays.new x 0 ≤ get_or arrays.old x 0 + length cells.now }
 {
-    let mut i = 0;
-    while i < cells.len() {
-        if !is_proper(seg, cells[i], variables, arrays) {
+    for &w in cells {
+        if !is_proper(seg, w, variables, arrays) {
             return false;
         }
-        i += 1;
     }
     true
 }
 
+#[tactic(auto, unfolding(crate::specs::Cells::free_cell))]
 fn is_proper(seg: &[u32], w: u32, variables: &[u16], arrays: &mut [u16]) -> bool
     requires { (x : ℕ) → get_or arrays.old x 0 < 65535 }
     ensures value { result ≡ free_cell seg.now (in_table arrays.old) (in_table variables.now) w }
     ensures arrays_after { arrays.new ≡ meet arrays.old w }
 {
-    if is_direct(w, arrays) {
-        return true;
-    }
-    is_pointing(seg, variables, w)
+    is_direct(w, arrays) || is_pointing(seg, variables, w)
 }
 
 // A scalar, undefined, or the word of an array, which is met. Most cells are integers that are not negative.
@@ -173,17 +165,14 @@ fn raise_marked(table: &mut [u16], a: usize) -> bool
     ensures value { result ≡ leb 1 (get_or table.old a 0) }
     ensures table_after { table.new ≡ raised_at table.old a }
 {
-    if table.len() <= a {
+    if table.len() <= a || table[a] < 1 {
         return false;
     }
-    let mark = table[a];
-    if mark < 1 {
-        return false;
-    }
-    table[a] = mark + 1;
+    table[a] += 1;
     true
 }
 // An indirect word whose target is a global or a variable, and holds no indirect word.
+#[tactic(auto, unfolding(crate::specs::Cells::pointing))]
 fn is_pointing(seg: &[u32], variables: &[u16], w: u32) -> bool
     ensures { result ≡ pointing seg.now (in_table variables.now) w }
 {
@@ -192,18 +181,11 @@ fn is_pointing(seg: &[u32], variables: &[u16], w: u32) -> bool
     }
     let target = w % 0x1_0000;
     if w / 0x1_0000 % 2 == 1 {
-        if target < 8 {
-            return false;
-        }
-        if blockptr(seg).number() <= target {
-            return false;
-        }
-        return !is_indirect(global(seg, SegmentAddress::of(target)));
+        return 8 <= target
+            && target < blockptr(seg).number()
+            && !is_indirect(global(seg, SegmentAddress::of(target)));
     }
-    if mark_at(variables, target as usize) < 1 {
-        return false;
-    }
-    !is_indirect(cell(seg, StackAddress::of(target)))
+    1 <= mark_at(variables, target as usize) && !is_indirect(cell(seg, StackAddress::of(target)))
 }
 
 fn is_indirect(w: u32) -> bool

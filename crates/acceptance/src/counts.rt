@@ -27,8 +27,7 @@ fn counts_from(seg: &[u32], from: u32, end: u32, table: &[u16]) -> bool
     ensures { result ≡ every (count_test seg.now (owners seg.now)) (arrays_from seg.now from end) }
 {
     let mut a = from;
-    let mut left = seg.len();
-    while 0 < left {
+    'walk: for _ in 0..seg.len() {
         if end <= a {
             return true;
         }
@@ -37,12 +36,12 @@ fn counts_from(seg: &[u32], from: u32, end: u32, table: &[u16]) -> bool
             return false;
         }
         a += span_at(seg, block);
-        left -= 1;
     }
     true
 }
 
 // The count of an array; a free block has none.
+#[tactic(auto, unfolding(crate::specs::Counts::count_test))]
 fn is_counted(seg: &[u32], block: SegmentAddress, table: &[u16]) -> bool
     requires { free_at seg.now block.0 ≡ false → get_or table.now block.0 0 ≡ 1 + count (array_word block.0) (owners seg.now) }
     ensures { result ≡ cond (free_at seg.now block.0) true (count_test seg.now (owners seg.now) block.0) }
@@ -51,8 +50,5 @@ fn is_counted(seg: &[u32], block: SegmentAddress, table: &[u16]) -> bool
         return true;
     }
     let counted = count(seg, block);
-    if counted < 1 {
-        return false;
-    }
-    1 + counted as u32 == mark_at(table, block.index()) as u32
+    1 <= counted && 1 + counted as u32 == mark_at(table, block.index()) as u32
 }

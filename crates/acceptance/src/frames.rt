@@ -1,13 +1,13 @@
 // Test 16, and what the tests read of a frame: the chain from the current frame down to the bottom one.
-ghost use Rattle.std.specs.Prelude.{◌≡◌};
+ghost use Rattle.std.specs.Prelude.{◌≡◌, eqb};
 ghost use Rattle.segment.specs.Stack as stack;
 ghost use Rattle.procedure.specs.Directory.{header_of_function};
 ghost use Rattle.acceptance.specs.Frames.{frame_segment, known, frames_test, FrameAt};
 ghost use Rattle.acceptance.specs.Tables.{chain_test};
 
 use descriptor::address::StackAddress;
-use procedure::directory::{in_directory, start_of};
-use procedure::header::{Header, header_at};
+use procedure::directory::{header_in, in_directory};
+use procedure::header::Header;
 use segment::state::{lbase, ltop, sbase};
 use segment::word;
 
@@ -22,15 +22,12 @@ pub struct Frame {
 }
 
 // Test 16.
+#[tactic(auto, unfolding(crate::specs::Frames::frames_test))]
 pub fn frames_test(seg: &[u32], regular: &[u8], alternate: &[u8]) -> bool
     ensures { result ≡ frames_test seg.now regular.now alternate.now }
 {
     let base = lbase(seg).number();
-    let top = ltop(seg).number();
-    if top < base + 1 {
-        return false;
-    }
-    frames_from(seg, regular, alternate, base)
+    base + 1 <= ltop(seg).number() && frames_from(seg, regular, alternate, base)
 }
 
 // The frames from the one at `from` down.
@@ -38,8 +35,7 @@ fn frames_from(seg: &[u32], regular: &[u8], alternate: &[u8], from: u32) -> bool
     ensures { result ≡ chain_test seg.now regular.now alternate.now from }
 {
     let mut base = from;
-    let mut left = seg.len();
-    while 0 < left {
+    'frames: for _ in 0..seg.len() {
         let frame = frame_at(seg, regular, alternate, StackAddress::of(base));
         if !in_its_directory(regular, alternate, frame.code) {
             return false;
@@ -52,7 +48,6 @@ fn frames_from(seg: &[u32], regular: &[u8], alternate: &[u8], from: u32) -> bool
             return false;
         }
         base = last;
-        left -= 1;
     }
     false
 }
@@ -73,27 +68,29 @@ pub fn frame_at(seg: &[u32], regular: &[u8], alternate: &[u8], base: StackAddres
 }
 
 // No bit above P is set, and the directory that P selects has the function.
+#[tactic(auto, unfolding(crate::specs::Frames::known))]
 fn in_its_directory(regular: &[u8], alternate: &[u8], code: u32) -> bool
     ensures { result ≡ known regular.now alternate.now code }
 {
-    if 0x1000_0000 <= code {
-        return false;
-    }
-    in_directory(
-        code / 0x0800_0000 % 2 == 1,
-        regular,
-        alternate,
-        (code / 0x1_0000 % 0x800) as u16,
-    )
+    code < 0x1000_0000 && in_directory(selector(code), regular, alternate, function(code))
 }
 
 // The header of the function that the word names.
 fn header_of(regular: &[u8], alternate: &[u8], code: u32) -> Header
     ensures { result ≡ header_of_function (frame_segment regular.now alternate.now code) (stack.function_number code) }
 {
-    let number = (code / 0x1_0000 % 0x800) as u16;
-    if code / 0x0800_0000 % 2 == 1 {
-        return header_at(alternate, start_of(alternate, number));
-    }
-    header_at(regular, start_of(regular, number))
+    header_in(selector(code), regular, alternate, function(code))
+}
+
+// P and the function number of that word.
+fn selector(code: u32) -> bool
+    ensures { result ≡ eqb (stack.alternate_bit code) 1 }
+{
+    code / 0x0800_0000 % 2 == 1
+}
+
+fn function(code: u32) -> u16
+    ensures { result ≡ stack.function_number code }
+{
+    (code / 0x1_0000 % 0x800) as u16
 }

@@ -7,7 +7,6 @@ ghost use Rattle.acceptance.specs.Tables.{Gains, Holds, chain_variables};
 use super::frames::frame_at;
 use acceptance_storage::marks::{lower, raise};
 use descriptor::address::StackAddress;
-use segment::minus;
 
 // The variables of the frames from the one at `from` down are marked.
 pub fn mark_variables(
@@ -21,17 +20,15 @@ pub fn mark_variables(
     ensures { Tally marks.new (chain_variables seg.now regular.now alternate.now from.0) }
 {
     let mut base = from.number();
-    let mut left = seg.len();
-    while 0 < left {
+    'frames: for _ in 0..seg.len() {
         let frame = frame_at(seg, regular, alternate, StackAddress::of(base));
-        let start = minus(base, frame.variables);
+        let start = base.saturating_sub(frame.variables);
         mark(marks, start, base);
         let last = frame.last.number();
         if base <= last {
             return;
         }
         base = last;
-        left -= 1;
     }
 }
 
@@ -40,10 +37,8 @@ fn mark(marks: &mut [u16], start: u32, end: u32)
     requires { (end ≤ length marks.old) × ((x : ℕ) → get_or marks.old x 0 < 65535) }
     ensures { Gains marks.old marks.new (range start (end - start)) }
 {
-    let mut a = start;
-    while a < end {
+    for a in start..end {
         raise(marks, a as usize);
-        a += 1;
     }
 }
 
@@ -52,10 +47,7 @@ pub fn unmark(marks: &mut [u16], start: StackAddress, end: StackAddress)
     requires { Holds marks.old (range start.0 (end.0 - start.0)) }
     ensures { Gains marks.new marks.old (range start.0 (end.0 - start.0)) }
 {
-    let mut a = start.number();
-    let stop = end.number();
-    while a < stop {
+    for a in start.number()..end.number() {
         lower(marks, a as usize);
-        a += 1;
     }
 }

@@ -63,10 +63,10 @@ module _ (s : List ℕ) (a : ℕ) where
 
 -- a number of elements, capped
 pub capped-low : (n : ℕ) → n ≤ too_many → capped n ≡ n
-capped-low n h = simp (le-leb _ _ h)
+capped-low n h = omega arith
 
 pub capped-high : (n : ℕ) → too_many ≤ n → capped n ≡ too_many
-capped-high n h = ⊎_elim (λ (l : n ≤ 65536). simp (le-leb _ _ l) (omega arith)) (λ (l : 65536 < n). simp (lt-leb _ _ l)) (order n 65536)
+capped-high n h = omega arith
 
 capped-mul : (p w : ℕ) → capped (capped p * w) ≡ capped (p * w)
 capped-mul p w = ⊎_elim (λ (l : p ≤ 65536). ap (λ (q : ℕ). capped (q * w)) (capped-low p l)) (λ (l : 65536 < p). go l w) (order p 65536)

@@ -99,10 +99,10 @@ module _ (s : List ℕ) (end : ℕ) (frees marks : List ℕ) (at left : ℕ) (h 
       pub round-missing : mark ≡ 0 → round_from (length frees) s end end frees ≡ false
       round-missing z = h.same ∙ step-missing s end at h.rest left some (rw e at k) (rw e at (sym found ∙ z))
 
-      pub round-on : (mark ≡ 0 → ⊥) → {after : List ℕ} → after ≡ set marks place (get_or marks place 0 - 1) → Round s end frees after next (left - 1)
-      round-on z a =
+      pub round-on : (mark ≡ 0 → ⊥) → {after : List ℕ} → after ≡ set marks place (get_or marks place 0 - 1) → {less : ℕ} → less ≡ left - 1 → Round s end frees after next less
+      round-on z a less =
           let p : 0 < count next h.rest = omega (arith, found, z) in
-          rw (a, there)
+          rw (a, there, less)
           (record {
             rest = without next h.rest;
             many = omega (arith, h.many, without-length next h.rest p);

@@ -1,5 +1,6 @@
 -- The words that a block covers by the tests, and the block that its words are.
-use Prim.Native.Nat.{ℕ, ◌+◌, ◌-◌, ◌*◌, ◌/◌, ◌%◌, ◌^◌, ◌<◌, ◌≤◌}
+use Rattle.std.proofs.Common.{Some, None}
+use Prim.Native.Nat.{ℕ, zero, suc, ◌+◌, ◌-◌, ◌*◌, ◌/◌, ◌%◌, ◌^◌, ◌<◌, ◌≤◌}
 use mathlib.Core.Path.{◌≡◌, refl, ◌∙◌}
 use mathlib.Core.Bool.{Bool, true, false}
 use mathlib.Core.List.{List}
@@ -8,8 +9,25 @@ use lib.ListN.{get_or}
 use borrow.Author.Tests.{le-leb, lt-leb, eq-eqb, ne_eqb}
 use Rattle.segment.specs.Blocks.{free_at, size_at, slop_at, span_at}
 use Rattle.storage.specs.Heap.{Block, free, array, span, is_free, prev_free_bit, FreeBlock, ArrayBlock, BlockAt}
+use Rattle.acceptance_storage.specs.Answer.{proper}
 use Rattle.acceptance_storage.specs.Blocks.{free_span, array_span, block_span}
 use Rattle.descriptor.proofs.Truth.{by_le, by-eq}
+
+-- the words that a proper block covers
+pub proper_some : (n : ℕ) → 0 < n → proper n ≡ Some n
+proper_some zero h = absurd (omega arith)
+proper_some (suc n) h = refl
+
+pub proper_none : {n : ℕ} → proper n ≡ None → n ≡ 0
+proper_none {n = zero} e = refl
+proper_none {n = suc n} e = absurd cc
+
+pub proper_is : {n k : ℕ} → proper n ≡ Some k → (k ≡ n) × (k ≡ 0 → ⊥)
+proper_is {n = zero} e = absurd cc
+proper_is {n = suc n} {k = k} e = go cc
+  where
+    go : suc n ≡ k → (k ≡ suc n) × (k ≡ 0 → ⊥)
+    go p = (omega arith, λ z. omega arith)
 
 -- the first word of an array's block, and its fields
 whole_word : (before : Bool) (w : ℕ) → w / 2 ^ 18 ≡ prev_free_bit before / 2 ^ 18 → w ≡ prev_free_bit before + w / 2 ^ 16 % 4 * 2 ^ 16 + w % 2 ^ 16
@@ -35,9 +53,6 @@ free-block s a false h =
     size : ℕ
     size = get_or s a 0 - 2 ^ 31
 
-pub free_span-no : (s : List ℕ) (a : ℕ) (before : Bool) (size : ℕ) → size ≡ get_or s a 0 - 2 ^ 31 → (FreeBlock s a before size → ⊥) → free_span s a before ≡ 0
-free_span-no s a before size e h = by-eq (free_span s a before) 0 (λ z. z) (λ z. absurd (h (rw e (free-block s a before z))))
-
 pub free_span-yes : (s : List ℕ) (a : ℕ) (before : Bool) (size : ℕ) → FreeBlock s a before size → free_span s a before ≡ size
 unfolding free_span
 free_span-yes s a before size h =
@@ -55,9 +70,6 @@ array-block s a before h =
     (λ e. absurd (h (simp (le-leb _ _ l, le-leb _ _ k, ne_eqb _ _ e)))))
     (λ k. absurd (h (simp (le-leb _ _ l, lt-leb _ _ k)))))
     (λ l. absurd (h (simp (lt-leb _ _ l))))
-
-pub array_span-no : (s : List ℕ) (a : ℕ) (before : Bool) → (ArrayBlock s a before (size_at s a) (slop_at s a) → ⊥) → array_span s a before ≡ 0
-array_span-no s a before h = by-eq (array_span s a before) 0 (λ z. z) (λ z. absurd (h (array-block s a before z)))
 
 pub array_span-yes : (s : List ℕ) (a : ℕ) (before : Bool) → 3 ≤ size_at s a → slop_at s a ≤ 2 → get_or s a 0 / 2 ^ 18 ≡ prev_free_bit before / 2 ^ 18 → array_span s a before ≡ span_at s a
 unfolding array_span

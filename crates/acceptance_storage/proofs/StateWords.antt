@@ -1,14 +1,13 @@
 -- Test 13 passes exactly where its facts hold.
 use Prim.Native.Nat.{ℕ, ◌+◌, ◌^◌}
-use mathlib.Core.Path.{◌≡◌, sym}
-use mathlib.Core.Bool.{true, false}
+use mathlib.Core.Path.{◌≡◌}
+use mathlib.Core.Bool.{true}
 use mathlib.Core.List.{List}
 use lib.ListN.{get_or, length}
 use lib.Dec.{leb, ltb, eqb}
 use borrow.Author.Tests.{leb-true, ltb-true, eqb-true, le-leb, lt-ltb, eq-eqb}
 use Rattle.segment.specs.State.{sbase, ltop, flags, trap_word, blockptr}
 use Rattle.acceptance_storage.specs.Head.{head_test, Head}
-use Rattle.descriptor.proofs.Truth.{fails}
 use Rattle.acceptance_storage.proofs.Tests.{both}
 
 pub head-sound : (s : List ℕ) → head_test s ≡ true → Head s
@@ -45,6 +44,3 @@ head-complete s h =
       le-leb _ _ h.room,
       lt-ltb _ _ h.top,
     )
-
-pub head-fails : (s : List ℕ) → (Head s → ⊥) → false ≡ head_test s
-head-fails s h = sym (fails (head_test s) (λ t. h (head-sound s t)))

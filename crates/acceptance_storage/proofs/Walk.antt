@@ -10,7 +10,7 @@ use borrow.Author.Tests.{eq-eqb, ne_eqb}
 use Rattle.segment.specs.State.{sbase, blockptr}
 use Rattle.segment.specs.Blocks.{free_at, size_at, span_at, dummy}
 use Rattle.storage.specs.Heap.{count, prev_free_bit}
-use Rattle.acceptance_storage.specs.declared.blocks.Blocks.TheVariants.{Improper, Proper}
+use Rattle.std.proofs.Common.{Some, None}
 use Rattle.acceptance_storage.specs.Tests.{every}
 use Rattle.acceptance_storage.specs.Head.{Head}
 use Rattle.acceptance_storage.specs.Blocks.{block_span, walk_from, walk_test, starts_from, free_starts, array_starts, array_test, blocks_test}
@@ -28,14 +28,14 @@ one_at_most false = omega arith
 
 -- the answers of test 14
 module _ (s arrays frees : List ℕ) where
-  pub improper : blocks_test s ≡ false → (Improper ≡ blocks_answer s) × (blocks_test s ≡ true → Marked s arrays frees)
+  pub improper : blocks_test s ≡ false → (None ≡ blocks_answer s) × (blocks_test s ≡ true → Marked s arrays frees)
   unfolding blocks_answer
   improper e = (simp e, λ t. absurd (never (sym e ∙ t)))
 
-  pub proper : (found : ℕ) → blocks_test s ≡ true → found ≡ length (free_starts s) → Marked s arrays frees
-      → (Proper found ≡ blocks_answer s) × (blocks_test s ≡ true → Marked s arrays frees)
+  pub sound : (found : ℕ) → blocks_test s ≡ true → found ≡ length (free_starts s) → Marked s arrays frees
+      → (Some found ≡ blocks_answer s) × (blocks_test s ≡ true → Marked s arrays frees)
   unfolding blocks_answer
-  proper found e n m = (rw n (simp e), λ t. m)
+  sound found e n m = (rw n (simp e), λ t. m)
 
 pub dummy-bad : (s : List ℕ) (end : ℕ) → end ≡ dummy s → (get_or s (end + 2) 0 ≡ 0 → ⊥) → blocks_test s ≡ false
 unfolding blocks_test
@@ -121,9 +121,9 @@ module _ {s arrays₀ frees₀ : List ℕ} {from end : ℕ} (g : BeforeWalk s ar
     pub walking-no : (get_or s end 0 ≡ bit → ⊥) → blocks_test s ≡ false
     walking-no n = same_end ∙ ne_eqb _ _ n
 
-    pub walking-yes : get_or s end 0 ≡ bit → (Proper found ≡ blocks_answer s) × (blocks_test s ≡ true → Marked s arrays frees)
+    pub walking-yes : get_or s end 0 ≡ bit → (Some found ≡ blocks_answer s) × (blocks_test s ≡ true → Marked s arrays frees)
     walking-yes y =
-        proper s arrays frees found (same_end ∙ eq-eqb _ _ y)
+        sound s arrays frees found (same_end ∙ eq-eqb _ _ y)
         (omega (arith, rw (starts-end s a (dummy s) h.left some true over) at h.number))
         (record {
           array_marks = λ x. omega (arith, rw (starts-end s a (dummy s) h.left some false over) at (h.array_marks x));

@@ -1,10 +1,10 @@
 -- How tests are put together. Assumes nothing.
-use Rattle.std.specs.Prelude.{ℕ, zero, suc, ◌+◌, Bool, true, ◌&&◌, List, [], ◌∷◌, get_or}
+use Rattle.std.specs.Prelude.{ℕ, zero, suc, ◌+◌, Bool, true, ◌&&◌, List, get_or}
+use Rattle.std.specs.List.{list_all}
 
 -- A test of every member of a list.
 abbrev pub every : (ℕ → Bool) → List ℕ → Bool
-every test [] = true
-every test (x ∷ l) = test x && every test l
+every test = list_all test
 
 -- A test of each of the `n` words from `i` on.
 unfoldable pub words_where : ℕ → (ℕ → Bool) → List ℕ → ℕ → Bool

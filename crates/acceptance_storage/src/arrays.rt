@@ -3,7 +3,7 @@ ghost use Rattle.std.specs.Prelude.{◌≡◌, ◌+◌, ◌≤◌, ◌<◌, leng
 ghost use Rattle.descriptor.specs.Kinds.{is_scalar};
 ghost use Rattle.segment.specs.Blocks.{size_at};
 ghost use Rattle.acceptance_storage.specs.Tests.{every};
-ghost use Rattle.acceptance_storage.specs.Answer.{inside_test, capped, element_count};
+ghost use Rattle.acceptance_storage.specs.Answer.{inside_test, element_count};
 
 use descriptor::Descriptor;
 use descriptor::address::SegmentAddress;
@@ -30,13 +30,7 @@ fn inside_at(seg: &[u32], a: usize) -> bool
     let second = seg[a + 1];
     let size = (first % 0x1_0000) as usize;
     let rank = (second % 0x1_0000) as usize;
-    if rank == 0 {
-        return false;
-    }
-    if 15 < rank {
-        return false;
-    }
-    if size < 2 + rank {
+    if rank == 0 || 15 < rank || size < 2 + rank {
         return false;
     }
     let lengths = a + 2;
@@ -51,34 +45,18 @@ fn inside_at(seg: &[u32], a: usize) -> bool
 fn element_count(shape: &[u32]) -> u64
     ensures { result ≡ element_count shape.now }
 {
-    let mut count: u64 = 1;
-    let mut i = 0;
-    while i < shape.len() {
-        let length = shape[i];
+    let mut count = 1;
+    for &length in shape {
         if Descriptor::INTEGER_LIMIT < length {
             return TOO_MANY;
         }
-        count = cap(count * length as u64);
-        i += 1;
+        count = (count * length as u64).min(TOO_MANY);
     }
     count
-}
-
-fn cap(count: u64) -> u64
-    ensures { result ≡ capped count }
-{
-    if count <= TOO_MANY { count } else { TOO_MANY }
 }
 
 fn scalars_test(elements: &[u32]) -> bool
     ensures { result ≡ every is_scalar elements.now }
 {
-    let mut i = 0;
-    while i < elements.len() {
-        if !Descriptor::of(elements[i]).is_scalar() {
-            return false;
-        }
-        i += 1;
-    }
-    true
+    elements.iter().all(|w| Descriptor::of(*w).is_scalar())
 }

@@ -4,7 +4,7 @@ ghost use Rattle.storage.specs.Heap.{prev_free_bit};
 ghost use Rattle.acceptance_storage.specs.Head.{Head};
 ghost use Rattle.acceptance_storage.specs.Blocks.{free_span, array_span, block_span, blocks_test};
 ghost use Rattle.acceptance_storage.specs.Marks.{Clear, BeforeWalk, Marked};
-ghost use Rattle.acceptance_storage.specs.Answer.{blocks_answer};
+ghost use Rattle.acceptance_storage.specs.Answer.{proper, blocks_answer};
 
 use super::arrays::inside_test;
 use super::marks::raise;
@@ -13,15 +13,9 @@ use segment::blocks::free_at;
 use segment::state::{blockptr, sbase};
 use segment::word;
 
-// What the walk finds: a block that is not proper, or proper blocks with so many free ones among them.
-#[derive(Clone, Copy)]
-pub enum Blocks {
-    Improper,
-    Proper(usize),
-}
-
-// The tables are those of the addresses where arrays, and where free blocks, start.
-pub fn blocks_test(seg: &[u32], arrays: &mut [u16], frees: &mut [u16]) -> Blocks
+// How many free blocks there are, where every block is proper. The tables are those of the addresses where arrays, and where
+// free blocks, start.
+pub fn blocks_test(seg: &[u32], arrays: &mut [u16], frees: &mut [u16]) -> Option<usize>
     requires { Head seg.now × (length seg.now ≤ 16384) × Clear arrays.old (length seg.now) × Clear frees.old (length seg.now) }
     ensures value { result ≡ blocks_answer seg.now }
     ensures marked { blocks_test seg.now ≡ true → Marked seg.now arrays.new frees.new }
@@ -29,13 +23,19 @@ pub fn blocks_test(seg: &[u32], arrays: &mut [u16], frees: &mut [u16]) -> Blocks
     let from = blockptr(seg).index();
     let end = sbase(seg).index() - 3;
     if word(seg, end + 2) != 0 {
-        return Blocks::Improper;
+        return None;
     }
     walk(seg, from, end, arrays, frees)
 }
 
 // The walk, where the dummy's last word is 0.
-fn walk(seg: &[u32], from: usize, end: usize, arrays: &mut [u16], frees: &mut [u16]) -> Blocks
+fn walk(
+    seg: &[u32],
+    from: usize,
+    end: usize,
+    arrays: &mut [u16],
+    frees: &mut [u16],
+) -> Option<usize>
     requires { BeforeWalk seg.now arrays.old frees.old from end }
     ensures value { result ≡ blocks_answer seg.now }
     ensures marked { blocks_test seg.now ≡ true → Marked seg.now arrays.new frees.new }
@@ -44,25 +44,22 @@ fn walk(seg: &[u32], from: usize, end: usize, arrays: &mut [u16], frees: &mut [u
     let mut before = false;
     let mut found = 0;
     while a < end {
-        let span = block_span(seg, a, before) as usize;
-        if span == 0 {
-            return Blocks::Improper;
-        }
+        let span = block_span(seg, a, before)? as usize;
         if end - a < span {
-            return Blocks::Improper;
+            return None;
         }
         let block = SegmentAddress::of(a as u32);
         if !inside_test(seg, block) {
-            return Blocks::Improper;
+            return None;
         }
         before = free_at(seg, block);
         found += mark(a, before, arrays, frees);
         a += span;
     }
     if seg[end] != prev_free_bit(before) {
-        return Blocks::Improper;
+        return None;
     }
-    Blocks::Proper(found)
+    Some(found)
 }
 
 // The block's start goes into the table of its kind. Returns how many free blocks it is.
@@ -80,10 +77,11 @@ fn mark(a: usize, free: bool, arrays: &mut [u16], frees: &mut [u16]) -> usize
     0
 }
 
-// The words that a proper block covers, where `before` says that the block before it is free; 0 of any other.
-fn block_span(seg: &[u32], a: usize, before: bool) -> u32
+// The words that a proper block covers, where `before` says that the block before it is free.
+#[tactic(auto, unfolding(crate::specs::Blocks::block_span))]
+fn block_span(seg: &[u32], a: usize, before: bool) -> Option<u32>
     requires { a < length seg.now }
-    ensures { result ≡ block_span seg.now a before }
+    ensures { result ≡ proper (block_span seg.now a before) }
 {
     let first = seg[a];
     if 0x8000_0000 <= first {
@@ -92,39 +90,29 @@ fn block_span(seg: &[u32], a: usize, before: bool) -> u32
     array_span(seg, a, before)
 }
 
-fn free_span(seg: &[u32], a: usize, before: bool, size: u32) -> u32
+#[tactic(auto, using(crate::proofs::Spans::proper_some), unfolding(crate::specs::Blocks::free_span))]
+fn free_span(seg: &[u32], a: usize, before: bool, size: u32) -> Option<u32>
     requires { (size ≡ get_or seg.now a 0 - 2 ^ 31) × (a < length seg.now) }
-    ensures { result ≡ free_span seg.now a before }
+    ensures { result ≡ proper (free_span seg.now a before) }
 {
-    if before {
-        return 0;
+    if before || size < 3 || word(seg, a + size as usize - 1) != size {
+        return None;
     }
-    if size < 3 {
-        return 0;
-    }
-    if word(seg, a + size as usize - 1) != size {
-        return 0;
-    }
-    size
+    Some(size)
 }
 
-fn array_span(seg: &[u32], a: usize, before: bool) -> u32
+#[tactic(auto, using(crate::proofs::Spans::proper_some), unfolding(crate::specs::Blocks::array_span))]
+fn array_span(seg: &[u32], a: usize, before: bool) -> Option<u32>
     requires { a < length seg.now }
-    ensures { result ≡ array_span seg.now a before }
+    ensures { result ≡ proper (array_span seg.now a before) }
 {
     let first = seg[a];
     let size = first % 0x1_0000;
     let slop = first / 0x1_0000 % 4;
-    if size < 3 {
-        return 0;
+    if size < 3 || 2 < slop || first / 0x4_0000 != prev_free_bit(before) / 0x4_0000 {
+        return None;
     }
-    if 2 < slop {
-        return 0;
-    }
-    if first / 0x4_0000 != prev_free_bit(before) / 0x4_0000 {
-        return 0;
-    }
-    size + slop
+    Some(size + slop)
 }
 
 // PREVFREE as it stands in a word.

@@ -5,34 +5,18 @@ ghost use Rattle.acceptance_storage.specs.Head.{head_test};
 use segment::state::{blockptr, flags, ltop, sbase, trap_word};
 use segment::word;
 
+#[tactic(auto, unfolding(crate::specs::Head::head_test))]
 pub fn head_test(seg: &[u32]) -> bool
     ensures { result ≡ head_test seg.now }
 {
-    if 0x10 <= flags(seg) {
-        return false;
-    }
-    if 0x1_0000 <= trap_word(seg) {
-        return false;
-    }
     let from = blockptr(seg).index();
-    if from < 8 {
-        return false;
-    }
-    if word(seg, 5) != 0 {
-        return false;
-    }
-    if word(seg, 6) != 0 {
-        return false;
-    }
-    if word(seg, 7) != 0 {
-        return false;
-    }
     let base = sbase(seg);
-    if base.index() < from + 3 {
-        return false;
-    }
-    if seg.len() <= ltop(seg).index(base) {
-        return false;
-    }
-    true
+    flags(seg) < 0x10
+        && trap_word(seg) < 0x1_0000
+        && 8 <= from
+        && word(seg, 5) == 0
+        && word(seg, 6) == 0
+        && word(seg, 7) == 0
+        && from + 3 <= base.index()
+        && ltop(seg).index(base) < seg.len()
 }

@@ -5,7 +5,7 @@ ghost use Rattle.std.specs.Prelude.{◌≡◌, ◌+◌, ◌-◌, ◌<◌, get_or
 pub fn mark_at(table: &[u16], a: usize) -> u16
     ensures { result ≡ get_or table.now a 0 }
 {
-    if a < table.len() { table[a] } else { 0 }
+    table.get(a).copied().unwrap_or(0)
 }
 
 // One more, and one less; nothing past the end.
@@ -14,8 +14,7 @@ pub fn raise(table: &mut [u16], a: usize)
     ensures { table.new ≡ set table.old a (get_or table.old a 0 + 1) }
 {
     if a < table.len() {
-        let mark = table[a];
-        table[a] = mark + 1;
+        table[a] += 1;
     }
 }
 
@@ -24,7 +23,6 @@ pub fn lower(table: &mut [u16], a: usize)
     ensures { table.new ≡ set table.old a (get_or table.old a 0 - 1) }
 {
     if a < table.len() {
-        let mark = table[a];
-        table[a] = mark - 1;
+        table[a] -= 1;
     }
 }

@@ -17,19 +17,13 @@ pub fn ring_test(seg: &[u32], count: usize, marks: &mut [u16]) -> bool
     ensures tally { ring_test seg.now ≡ true → Tally marks.new [] }
 {
     let end = dummy(seg);
-    if !on_ring(rover(seg), end, marks) {
-        return false;
-    }
-    round(seg, end, count, marks)
+    on_ring(rover(seg), end, marks) && round(seg, end, count, marks)
 }
 
 fn on_ring(rover: SegmentAddress, end: SegmentAddress, marks: &[u16]) -> bool
     ensures { result ≡ leb 1 (hit rover.0 end.0 + get_or marks.now rover.0 0) }
 {
-    if rover.number() == end.number() {
-        return true;
-    }
-    1 <= mark_at(marks, rover.index())
+    rover.number() == end.number() || 1 <= mark_at(marks, rover.index())
 }
 
 // NEXT leads from the dummy through every marked block, each once, and back.
@@ -39,8 +33,7 @@ fn round(seg: &[u32], end: SegmentAddress, count: usize, marks: &mut [u16]) -> b
     ensures tally { result ≡ true → Tally marks.new [] }
 {
     let mut at = end;
-    let mut left = count;
-    while 0 < left {
+    'round: for _ in 0..count {
         let next = next_at(seg, at);
         if !linked_to(seg, at, next) {
             return false;
@@ -51,17 +44,13 @@ fn round(seg: &[u32], end: SegmentAddress, count: usize, marks: &mut [u16]) -> b
         }
         lower(marks, place);
         at = next;
-        left -= 1;
     }
     linked_to(seg, at, end)
 }
 
+#[tactic(auto, unfolding(crate::specs::Ring::linked))]
 fn linked_to(seg: &[u32], a: SegmentAddress, b: SegmentAddress) -> bool
     ensures { result ≡ linked seg.now a.0 b.0 }
 {
-    if next_at(seg, a).number() != b.number() {
-        return false;
-    }
-    let back = last_at(seg, b);
-    back.number() == a.number()
+    next_at(seg, a).number() == b.number() && last_at(seg, b).number() == a.number()
 }

@@ -32,7 +32,7 @@ use Rattle.legality.proofs.Owners.{global-owns}
 use Rattle.legality.proofs.Accepted.{legal-theorems}
 use Rattle.step_theorems.proofs.Again.{sound-of}
 use Rattle.operations.specs.declared.Looked.{Looked}
-use Rattle.operations.specs.declared.Looked.TheVariants.{Refused}
+use Rattle.std.proofs.Common.{Result, Err}
 use Rattle.operations.specs.Load.{is_global}
 use Rattle.operations.specs.Look.{seen_as, looked}
 use Rattle.audit.specs.Calls.{Procedures, look_answer, look, first_failed, tests, test, global_value}
@@ -70,7 +70,7 @@ module _ (s : List ℕ) (v : ℕ) where
   tells K.Undefined d u r = never u
   tells K.Invalid d u r = absurd d
 
-  tells_none : (k : Kind) → is_undefined (cell_of_kind s v k) ≡ true → seen_as v k ≡ Refused 22
+  tells_none : (k : Kind) → is_undefined (cell_of_kind s v k) ≡ true → seen_as v k ≡ Err 22
   tells_none (K.Scalar k) u = never (sym u)
   tells_none (K.Array a) u = never (sym u)
   tells_none (K.Indirect t) u = never (sym u)
@@ -86,28 +86,28 @@ module _ (s : List ℕ) (p : Procedures) (g : ℕ) where
   abbrev first : ℕ
   first = first_failed (tests s (look p g))
 
-  abbrev answer : Looked
+  abbrev answer : Result Looked ℕ
   answer = looked s p.regular p.alternate g
 
   abbrev v : ℕ
   v = get_or s g 0
 
-  abbrev LookDid : Looked → Type 0
+  abbrev LookDid : Result Looked ℕ → Type 0
   LookDid a = Did s (look p g) (look_answer a) s
 
   -- the ways of the table
   first-is : first ≡ cond (eqb number 0) (cond (is_global s g) (cond (not (is_undefined (global_value s g))) 0 22) 21) number
   first-is = further-told s p (test 21 (is_global s g) ∷ test 22 (not (is_undefined (global_value s g))) ∷ [])
 
-  stops : (n : ℕ) → n ≢ 0 → first ≡ n → answer ≡ Refused n → LookDid answer
+  stops : (n : ℕ) → n ≢ 0 → first ≡ n → answer ≡ Err n → LookDid answer
   stops n d f e = subst LookDid (sym e) (is_refused d f)
 
-  refused-by : number ≢ 0 → (first ≡ number) × (answer ≡ Refused number)
+  refused-by : number ≢ 0 → (first ≡ number) × (answer ≡ Err number)
   unfolding looked
   refused-by h = (first-is ∙ simp (ne_eqb number 0 h), simp (ne_eqb number 0 h))
 
   module _ (h : number ≡ 0) where
-    outside : is_global s g ≡ false → (first ≡ 21) × (answer ≡ Refused 21)
+    outside : is_global s g ≡ false → (first ≡ 21) × (answer ≡ Err 21)
     unfolding looked
     outside k = (first-is ∙ simp (eq-eqb number 0 h, k), simp (eq-eqb number 0 h, k))
 
@@ -135,7 +135,7 @@ module _ (s : List ℕ) (p : Procedures) (g : ℕ) where
           rw (within.1, held-is)
           (tells s v (kind_of v) (rw held-is at held-direct) (rw held-is at u) held-read)
 
-      none_told : is_undefined (global_value s g) ≡ true → answer ≡ Refused 22
+      none_told : is_undefined (global_value s g) ≡ true → answer ≡ Err 22
       none_told u = within.1 ∙ tells_none s v (kind_of v) (rw held-is at u)
 
   pub look-did : LookDid answer

@@ -11,10 +11,10 @@ use Rattle.imports.proofs.Bounds.{AllOfWords, all-of-words}
 use Rattle.tally.specs.Counts.{none_counted}
 use Rattle.acceptance_storage.proofs.Tests.{by-eq}
 use Rattle.manual.specs.Program.{Program}
-use Rattle.operations.specs.declared.Run.{Run}
-use Rattle.operations.specs.declared.Run.TheVariants as R
-use Rattle.operations.specs.declared.Replayed.{Replayed}
-use Rattle.operations.specs.declared.Replayed.TheVariants.{Done, Halted}
+use Rattle.std.proofs.Common.{Result, Ok, Err}
+use Rattle.effects.specs.declared.Ran.{Ran}
+use Rattle.effects.specs.declared.Ran.TheVariants as R
+use Rattle.operations.specs.Answers.{Stop, Halted}
 use Rattle.operations.specs.Answers as operations
 use Rattle.operations.specs.Run.{ran as ran_of}
 use Rattle.operations.specs.Load.{load_refusal, loaded}
@@ -36,10 +36,10 @@ load-counts (is_loaded passed did) counts = refl
 load-halt : (number : ℕ) → halt_of (answer_of (operations.done_or_refused number)) ≡ number
 load-halt number = by-eq number 0 (λ e. rw (eq-eqb number 0 e) (sym e)) (λ d. rw (ne_eqb number 0 d))
 
-run-halt : (answer : Run) → halt_of (run_answer answer) ≡ run_halt answer
-run-halt (R.Done steps) = refl
-run-halt (R.Trapped steps) = refl
-run-halt (R.Refused number) = refl
+run-halt : (answer : Result Ran ℕ) → halt_of (run_answer answer) ≡ run_halt answer
+run-halt (Ok (R.Done steps)) = refl
+run-halt (Ok (R.Trapped steps)) = refl
+run-halt (Err number) = refl
 
 -- ---- the replay
 
@@ -61,7 +61,7 @@ module _ (p : Program) (bytes : LentProcedures (procedures_of p)) where
         let replays = subst (λ (c : List ℕ). Replays p rest t c more.answer more.words more.counts made.0) (sym same) made.1 in
         (event (record_call p r) a t ∷ made.0, continues did (halt ∙ z) replays, made.2)
 
-    stops : number ≢ 0 → Made (entry place r rest) s counts (replay (Halted number place) t after)
+    stops : number ≢ 0 → Made (entry place r rest) s counts (replay (Err (Halted number place)) t after)
     stops d = (event (record_call p r) a t ∷ [], rw (sym same, sym halt) (halts did (λ z. d (sym halt ∙ z))), words)
 
     record-made : Made (entry place r rest) s counts (after_record place number t after more)
@@ -92,7 +92,7 @@ module _ (p : Program) (bytes : LentProcedures (procedures_of p)) where
 
 -- ---- what `replay` promises
 
-pub promised-replay : (s : List ℕ) (p : Program) (bytes : List ℕ) (answer : Replayed) (t counts : List ℕ) → replay answer t counts ≡ replayed s p bytes
+pub promised-replay : (s : List ℕ) (p : Program) (bytes : List ℕ) (answer : Result (Unit {0}) Stop) (t counts : List ℕ) → replay answer t counts ≡ replayed s p bytes
     → PromisedReplay s p bytes answer t counts
 unfolding PromisedReplay
 promised-replay s p bytes answer t counts e words lent file =
@@ -101,7 +101,7 @@ promised-replay s p bytes answer t counts e words lent file =
 
 -- ---- what follows
 
-one_by_one : {p : Program} {records : Records} {s t counts after : List ℕ} {answer : Replayed} {events : List Event}
+one_by_one : {p : Program} {records : Records} {s t counts after : List ℕ} {answer : Result (Unit {0}) Stop} {events : List Event}
     → Replays p records s counts answer t after events → OneByOne s events t
 one_by_one all_done = refl
 one_by_one is_malformed = refl
@@ -111,7 +111,7 @@ one_by_one (halts did d) = (did, refl)
 abbrev calls_made : List Event → List Call
 calls_made events = map (λ (e : Event). e.call) events
 
-in_order : {p : Program} {records : Records} {s t counts after : List ℕ} {answer : Replayed} {events : List Event}
+in_order : {p : Program} {records : Records} {s t counts after : List ℕ} {answer : Result (Unit {0}) Stop} {events : List Event}
     → Replays p records s counts answer t after events → (later : List Call) × (record_calls p records ≡ calls_made events ++ later)
 in_order all_done = ([], refl)
 in_order is_malformed = ([], refl)
@@ -119,7 +119,7 @@ in_order {p = p} (continues {r = r} did z rest) = let more = in_order rest in (m
 in_order {p = p} (halts {rest = rest} did d) = (record_calls p rest, refl)
 
 all_made : {p : Program} {records : Records} {s t counts after : List ℕ} {events : List Event}
-    → Replays p records s counts Done t after events → record_calls p records ≡ calls_made events
+    → Replays p records s counts (Ok tt) t after events → record_calls p records ≡ calls_made events
 all_made all_done = refl
 all_made {p = p} (continues {r = r} did z rest) = ap (λ (calls : List Call). record_call p r ∷ calls) (all_made rest)
 

@@ -75,7 +75,7 @@ always-ten {s = s} {c = c} long d =
 not-due : (es : List Effect) (f : ℕ) (called left : Header) (n : ℕ) → step_flag f ≢ n → n ≤ 1 → due_after (outcome_of es) f called left ≢ n
 not-due es f called left n other low =
     outcome-by (λ o. due_after o f called left ≢ n) other (unless (eqb (fcnctrc f) 1 && called.calltrace) 2 (λ z. omega (arith, z, low)))
-    (unless (eqb (fcnrtrc f) 1 && left.rtntrace) 3 (λ z. omega (arith, z, low))) es
+    (unless (eqb (fcnrtrc f) 1 && left.rtntrace) 3 (λ z. omega (arith, z, low))) (outcome_of es)
   where
     unless : (traced : Bool) (d : ℕ) → d ≢ n → cond traced d (step_flag f) ≢ n
     unless true d far e = far e

@@ -14,7 +14,7 @@ use Rattle.acceptance.proofs.Structure.{structure}
 use Rattle.manual.specs.Program.{Program}
 use Rattle.effects.specs.Run.{run_of}
 use Rattle.effects.specs.Tally.{tallied_from}
-use Rattle.operations.specs.declared.Run.TheVariants as answers
+use Rattle.std.proofs.Common.{Err}
 use Rattle.operations.specs.Run as operations
 use Rattle.operations.specs.Run.{Ended, ended, run_refusal, ran}
 use Rattle.operations.specs.Replay.{tallied}
@@ -35,7 +35,7 @@ module _ (s : List ℕ) (p : Program) (budget : ℕ) where
   RunDid e tally = (did : Did s (run p budget) (run_answer e.answer) e.words) × ((counts : List ℕ) → call_counts did counts ≡ tally counts)
 
   module _ (h : number ≢ 0) where
-    run-refused : ran s p budget ≡ ended (answers.Refused number) s
+    run-refused : ran s p budget ≡ ended (Err number) s
     unfolding ran
     run-refused = simp (ne_eqb number 0 h)
 

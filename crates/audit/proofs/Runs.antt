@@ -19,6 +19,8 @@ use Rattle.manual.specs.Program.{Program}
 use Rattle.manual.specs.Traps.{listed}
 use Rattle.manual.proofs.Traps.{traps-listed}
 use Rattle.tally.specs.Counts.{counted}
+use Rattle.std.specs.Prelude.{Result, Ok, Err}
+use Rattle.trap.specs.declared.Trap.{Trap}
 use Rattle.effects.specs.declared.Stepped.{Stepped}
 use Rattle.effects.specs.declared.Stepped.TheVariants as S
 use Rattle.effects.specs.declared.Ran.{Ran}
@@ -27,7 +29,7 @@ use Rattle.effects.specs.Run as stepping
 use Rattle.effects.specs.Run.{following, steps_from, run_of}
 use Rattle.effects.specs.Tally.{first_byte, tallying, tallied_from}
 use Rattle.effects_theorems.proofs.Tests.{never}
-use Rattle.operations.specs.Run as operations
+use Rattle.std.proofs.Common.{Ok}
 use Rattle.step_theorems.proofs.Again.{trap-accepted}
 use Rattle.step_theorems.proofs.Planned.{plan-listed}
 use Rattle.audit.specs.Calls.{procedures_of, Answer, ran, trapped, run_answer, Passes}
@@ -38,7 +40,7 @@ use Rattle.audit.proofs.Accepts.{accepted-of, passes_of}
 use Rattle.audit.proofs.Steps.{outcome_from, Some, step-done, step-accepted, step_words}
 
 abbrev pub answer_of : Ran → Answer
-answer_of r = run_answer (operations.accepted_run r)
+answer_of r = run_answer (Ok r)
 
 -- What a segment must be for its steps to be the manual's.
 pub record Ready (s : List ℕ) (p : Program) : Type 0 where
@@ -81,14 +83,14 @@ module _ (p : Program) where
       go (step_of p s).answer (step_of p s).words (step-done s p r.lent r.accepted) (next-ready s r)
       (λ t k. run-from budget (steps + 1) t k)
     where
-      go : (answer : Stepped) (t : List ℕ) → Step p s (outcome_from answer) t × Some answer → Ready t p → ((u : List ℕ) → Ready u p → RunsOn budget (steps + 1) u)
+      go : (answer : Result Stepped Trap) (t : List ℕ) → Step p s (outcome_from answer) t × Some answer → Ready t p → ((u : List ℕ) → Ready u p → RunsOn budget (steps + 1) u)
           → RanFrom (suc budget) steps s (following steps answer t (λ u. steps_from budget (steps + 1) p u))
           (λ before. tallying answer before (more s before) (λ after. tallied_from budget after p t))
-      go S.Finished t e k later =
+      go (Ok S.Finished) t e k later =
           let rest = later t k in
           record { runs = goes_on (passes_of s (procedures_of p) r.accepted) e.0 rest.runs; ready = rest.ready; counts = λ before. rest.counts (more s before) }
-      go (S.Traced class number) t e k later = record { runs = traced (passes_of s (procedures_of p) r.accepted) e.1 e.0; ready = k; counts = λ before. refl }
-      go (S.Trapped class number) t e k later = record { runs = stops (passes_of s (procedures_of p) r.accepted) e.0; ready = k; counts = λ before. refl }
+      go (Ok (S.Traced trap)) t e k later = record { runs = traced (passes_of s (procedures_of p) r.accepted) e.1 e.0; ready = k; counts = λ before. refl }
+      go (Err trap) t e k later = record { runs = stops (passes_of s (procedures_of p) r.accepted) e.0; ready = k; counts = λ before. refl }
 
   -- a run sets word 3 to zero first
   started : (s : List ℕ) → Ready s p → Ready (set s 3 0) p

@@ -7,8 +7,8 @@ use borrow.Author.Tests.{eq-eqb, ne_eqb}
 use Rattle.acceptance_storage.proofs.Tests.{by-eq}
 use Rattle.acceptance.specs.Refusal.{refusal}
 use Rattle.storage_sheet.specs.Sheet.{sheet_of}
-use Rattle.operations.specs.declared.Sheeted.{Sheeted}
-use Rattle.operations.specs.declared.Sheeted.TheVariants.{Summed, Refused}
+use Rattle.std.proofs.Common.{Result, Ok, Err}
+use Rattle.storage_sheet.specs.declared.Sheet.{Sheet}
 use Rattle.operations.specs.Sheet.{sheeted}
 use Rattle.audit.specs.Calls.{Procedures, sheet, sheet_answer}
 use Rattle.audit.specs.Did.{Did, is_refused, has_summed}
@@ -18,14 +18,14 @@ module _ (s : List ℕ) (p : Procedures) where
   abbrev number : ℕ
   number = refusal s p.regular p.alternate
 
-  abbrev SheetDid : Sheeted → Type 0
+  abbrev SheetDid : Result Sheet ℕ → Type 0
   SheetDid a = Did s (sheet p) (sheet_answer a) s
 
-  sheet-summed : number ≡ 0 → sheeted s p.regular p.alternate ≡ Summed (sheet_of s)
+  sheet-summed : number ≡ 0 → sheeted s p.regular p.alternate ≡ Ok (sheet_of s)
   unfolding sheeted
   sheet-summed e = simp (eq-eqb number 0 e)
 
-  sheet-refused : number ≢ 0 → sheeted s p.regular p.alternate ≡ Refused number
+  sheet-refused : number ≢ 0 → sheeted s p.regular p.alternate ≡ Err number
   unfolding sheeted
   sheet-refused h = simp (ne_eqb number 0 h)
 

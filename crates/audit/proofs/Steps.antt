@@ -33,6 +33,9 @@ use Rattle.plan_theorems.proofs.Bounded.{bounded-theorems}
 use Rattle.effects.specs.declared.Outcome.{Outcome as Turn}
 use Rattle.effects.specs.declared.Outcome.TheVariants as T
 use Rattle.effects.specs.Carried.{outcome_of, carry}
+use Rattle.std.specs.Prelude.{Result, Ok, Err}
+use Rattle.trap.specs.Trap as traps
+use Rattle.trap.specs.declared.Trap.{Trap}
 use Rattle.effects.specs.declared.Stepped.{Stepped}
 use Rattle.effects.specs.declared.Stepped.TheVariants as S
 use Rattle.effects.specs.Step as stepping
@@ -41,7 +44,7 @@ use Rattle.step_theorems.specs.Planned.{planned, header_in}
 use Rattle.step_theorems.proofs.Current.{current-function, step_is, header-seen, header-running}
 use Rattle.step_theorems.proofs.Planned.{Known, plan-known, plan-listed}
 use Rattle.step_theorems.proofs.Again.{sound-of, view-flags, trap-accepted, effects-accepted}
-use Rattle.step_theorems.proofs.Settled.{settled-effects, finished-by, finished-keeps}
+use Rattle.step_theorems.proofs.Settled.{finished-by, finished-keeps}
 use Rattle.audit.specs.Steps.{StepOutcome, traps_by, finishes, in_vain, due_after, EffectsDone, Step, traps, full, does}
 use Rattle.audit.proofs.Full.{vain-full}
 
@@ -62,14 +65,12 @@ module _ (f g : ℕ) (h : f / 2 ≡ g / 2) where
   same-due T.Finished called left = same_step
   same-due T.Entered called left = rw (same-call, same_step)
   same-due T.Left called left = rw (same-return, same_step)
-  same-due (T.Trapped class number) called left = refl
 
 due-told : (regular alternate : List ℕ) (left : Header) (turn : Turn) (t : List ℕ)
     → due regular alternate left.rtntrace turn t ≡ due_after turn (flags t) (current_header regular alternate t) left
 due-told regular alternate left T.Finished t = refl
 due-told regular alternate left T.Entered t = refl
 due-told regular alternate left T.Left t = refl
-due-told regular alternate left (T.Trapped class number) t = refl
 
 due-low : (b : Bool) (n f : ℕ) → n ≤ 3 → cond b n (step_flag f) ≤ 3
 due-low true n f h = h
@@ -80,20 +81,19 @@ pub due-small : (turn : Turn) (f : ℕ) (called left : Header) → due_after tur
 due-small T.Finished f called left = omega arith
 due-small T.Entered f called left = due-low (eqb (fcnctrc f) 1 && called.calltrace) 2 f (omega arith)
 due-small T.Left f called left = due-low (eqb (fcnrtrc f) 1 && left.rtntrace) 3 f (omega arith)
-due-small (T.Trapped class number) f called left = omega arith
 
 -- ---- what a step's answer comes to
 
-abbrev pub outcome_from : Stepped → StepOutcome
-outcome_from S.Finished = finishes 0
-outcome_from (S.Traced class number) = finishes number
-outcome_from (S.Trapped class number) = traps_by class number
+abbrev pub outcome_from : Result Stepped Trap → StepOutcome
+outcome_from (Ok S.Finished) = finishes 0
+outcome_from (Ok (S.Traced t)) = finishes t.number
+outcome_from (Err t) = traps_by t.class t.number
 
 -- what is due after a traced instruction
-abbrev pub Some : Stepped → Type 0
-Some S.Finished = Unit {0}
-Some (S.Traced class number) = number ≢ 0
-Some (S.Trapped class number) = Unit {0}
+abbrev pub Some : Result Stepped Trap → Type 0
+Some (Ok S.Finished) = Unit {0}
+Some (Ok (S.Traced t)) = t.number ≢ 0
+Some (Err t) = Unit {0}
 
 module _ (s : List ℕ) (p : Program) (lent : Lent s p.regular p.alternate) (h : Accepted s p.regular p.alternate) where
   abbrev regular : List ℕ
@@ -125,7 +125,7 @@ module _ (s : List ℕ) (p : Program) (lent : Lent s p.regular p.alternate) (h :
   trap-step : (class number : ℕ) → plan ≡ trap class number → step_of p s ≡ stepping.trapped s class number
   trap-step class number e = step-of (trap class number) e
 
-  trap-small : (class number : ℕ) → class < 2 ^ 8 → number < 2 ^ 8 → stepping.trapped s class number ≡ stepping.step_result (S.Trapped class number) (set s 3 (trap_of class number))
+  trap-small : (class number : ℕ) → class < 2 ^ 8 → number < 2 ^ 8 → stepping.trapped s class number ≡ stepping.step_result (Err (traps.trap_of class number)) (set s 3 (trap_of class number))
   unfolding set_trap
   trap-small class number c n =
       let a : class % 2 ^ 8 ≡ class = omega arith in
@@ -151,7 +151,7 @@ module _ (s : List ℕ) (p : Program) (lent : Lent s p.regular p.alternate) (h :
       served = sym vain ∙ q
 
       done-step : step_of p s ≡ finished d t
-      done-step = step-of (gives es) e ∙ rw q (settled-effects regular alternate (header_of f).rtntrace t es)
+      done-step = step-of (gives es) e ∙ rw q
 
       performed : PerformedAll s es
       performed = let k = (known es e).fitting in effects-theorems.all_performed s sound es k.all k.once q

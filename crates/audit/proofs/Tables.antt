@@ -1,4 +1,5 @@
 -- Steps under a table of operators that is lent.
+use Rattle.std.proofs.Common.{Option, Some, None, Result, Ok, Err}
 use Prim.Native.Nat.{ℕ, ◌-◌}
 use mathlib.Core.Path.{◌≡◌, refl, sym, ◌∙◌, ap, subst}
 use mathlib.Core.List.{List, [], ◌∷◌}
@@ -11,16 +12,14 @@ use Rattle.operator.specs.declared.Operator.TheVariants as O
 use Rattle.operator.specs.Lent.{manual_table, named}
 use Rattle.operator_theorems.proofs.Theorem.{lent-tables}
 use Rattle.procedure.specs.declared.header.Block.{Block}
-use Rattle.procedure.specs.declared.directory.Function.{Function}
-use Rattle.procedure.specs.declared.directory.Function.TheVariants as F
 use Rattle.procedure.specs.Directory.{function_of}
 use Rattle.instruction.specs.declared.ControlOperation.TheVariants as C
 use Rattle.instruction.specs.declared.Jump.TheVariants as J
 use Rattle.instruction.specs.declared.Instruction.{Instruction}
 use Rattle.instruction.specs.declared.Instruction.TheVariants as I
+use Rattle.trap.specs.declared.Trap.{Trap}
 use Rattle.instruction.specs.declared.Decoded.{Decoded}
-use Rattle.instruction.specs.declared.Decoded.TheVariants as D
-use Rattle.instruction.specs.Decoding.{instruction_at}
+use Rattle.instruction.specs.Decoding.{done, instruction_at}
 use Rattle.segment.specs.State.{sbase, flags}
 use Rattle.segment.specs.Stack.{function_number}
 use Rattle.segment.specs.Cells.{Cell}
@@ -50,54 +49,57 @@ use Rattle.audit.proofs.Tests.{segment-told, run-told}
 
 module _ (p : Program) (words : ℕ) (m : Machine Cell) where
   module _ (op : Operator) (next : CodeAddress) where
-    abbrev Is : Decoded → Type 0
-    Is d = d ≡ D.Instruction (I.Scalar op) next
+    abbrev Is : Result Decoded Trap → Type 0
+    Is d = d ≡ done (I.Scalar op) next
 
-    scalar-in : (r : Frame Cell) (f : Function) → Is (decoded_in p r f) → plan_in p words m r f ≡ scalar_plan (seen_of words m) next.0 (named p.table op)
+    scalar-in : (r : Frame Cell) (f : Option Block) → Is (decoded_in p r f) → plan_in p words m r f ≡ scalar_plan (seen_of words m) next.0 (named p.table op)
     unfolding plan_at plan_of
-    scalar-in r (F.At block) e = ap (plan_decoded (running p (frame_selector r) block) (seen_of words m)) e
-    scalar-in r F.Absent e = let z : ◌≡◌ {A = ℕ} 0 1 = cc in absurd (omega arith)
+    scalar-in r (Some block) e = ap (plan_decoded (running p (frame_selector r) block) (seen_of words m)) e
+    scalar-in r None e = let z : ◌≡◌ {A = ℕ} 0 1 = cc in absurd (omega arith)
 
     scalar-from : (l : List (Frame Cell)) → Is (decoded_from p l) → plan_from p words m l ≡ scalar_plan (seen_of words m) next.0 (named p.table op)
     scalar-from [] e = let z : ◌≡◌ {A = ℕ} 0 1 = cc in absurd (omega arith)
     scalar-from (r ∷ older) e = scalar-in r (function_of (frame_segment p.regular p.alternate (function_word r)) (function_number (function_word r))) e
 
   module _ (table : List ℕ) where
-    abbrev None : Decoded → Type 0
-    None d = (op : Operator) (next : CodeAddress) → d ≡ D.Instruction (I.Scalar op) next → ⊥
+    abbrev Other : Result Decoded Trap → Type 0
+    Other d = (op : Operator) (next : CodeAddress) → d ≡ done (I.Scalar op) next → ⊥
 
     module _ (r : Frame Cell) (block : Block) where
-      abbrev Same : Decoded → Type 0
+      abbrev Same : Result Decoded Trap → Type 0
       Same d = plan_decoded (running p (frame_selector r) block) (seen_of words m) d ≡ plan_decoded (running (lending table p) (frame_selector r) block) (seen_of words m) d
 
-      same-plan : (d : Decoded) → None d → Same d
+      same-instruction : (i : Instruction) (next : CodeAddress) → Other (done i next) → Same (done i next)
       unfolding plan_of
-      same-plan (D.Trap class number) h = refl
-      same-plan (D.Instruction (I.Scalar op) next) h = absurd (h op next refl)
-      same-plan (D.Instruction (I.Load a) next) h = refl
-      same-plan (D.Instruction (I.ShortConstant negative magnitude) next) h = refl
-      same-plan (D.Instruction (I.Memory op a) next) h = refl
-      same-plan (D.Instruction (I.Stack op) next) h = refl
-      same-plan (D.Instruction (I.Array op) next) h = refl
-      same-plan (D.Instruction (I.Control C.Branch) next) h = refl
-      same-plan (D.Instruction (I.Control C.Return) next) h = refl
-      same-plan (D.Instruction (I.Control C.NoOperation) next) h = refl
-      same-plan (D.Instruction (I.Control C.Breakpoint) next) h = refl
-      same-plan (D.Instruction (I.Control C.Attention) next) h = refl
-      same-plan (D.Instruction (I.Jump J.Go place) next) h = refl
-      same-plan (D.Instruction (I.Jump J.GoTrue place) next) h = refl
-      same-plan (D.Instruction (I.Jump J.GoFalse place) next) h = refl
-      same-plan (D.Instruction (I.ConstantScalar w) next) h = refl
-      same-plan (D.Instruction (I.ConstantVector count first) next) h = refl
-      same-plan (D.Instruction (I.Call arguments alternate number) next) h = refl
-      same-plan (D.Instruction (I.Index rank) next) h = refl
+      same-instruction (I.Scalar op) next h = absurd (h op next refl)
+      same-instruction (I.Load a) next h = refl
+      same-instruction (I.ShortConstant negative magnitude) next h = refl
+      same-instruction (I.Memory op a) next h = refl
+      same-instruction (I.Stack op) next h = refl
+      same-instruction (I.Array op) next h = refl
+      same-instruction (I.Control C.Branch) next h = refl
+      same-instruction (I.Control C.Return) next h = refl
+      same-instruction (I.Control C.NoOperation) next h = refl
+      same-instruction (I.Control C.Breakpoint) next h = refl
+      same-instruction (I.Control C.Attention) next h = refl
+      same-instruction (I.Jump J.Go place) next h = refl
+      same-instruction (I.Jump J.GoTrue place) next h = refl
+      same-instruction (I.Jump J.GoFalse place) next h = refl
+      same-instruction (I.ConstantScalar w) next h = refl
+      same-instruction (I.ConstantVector count first) next h = refl
+      same-instruction (I.Call arguments alternate number) next h = refl
+      same-instruction (I.Index rank) next h = refl
 
-    other-in : (r : Frame Cell) (f : Function) → None (decoded_in p r f) → plan_in p words m r f ≡ plan_in (lending table p) words m r f
+      same-plan : (d : Result Decoded Trap) → Other d → Same d
+      same-plan (Ok d) h = same-instruction d.instruction d.next h
+      same-plan (Err t) h = refl
+
+    other-in : (r : Frame Cell) (f : Option Block) → Other (decoded_in p r f) → plan_in p words m r f ≡ plan_in (lending table p) words m r f
     unfolding plan_at
-    other-in r (F.At block) h = same-plan r block (instruction_at (code_in (running p (frame_selector r) block)) r.pctr) h
-    other-in r F.Absent h = refl
+    other-in r (Some block) h = same-plan r block (instruction_at (code_in (running p (frame_selector r) block)) r.pctr) h
+    other-in r None h = refl
 
-    other_from : (l : List (Frame Cell)) → None (decoded_from p l) → plan_from p words m l ≡ plan_from (lending table p) words m l
+    other_from : (l : List (Frame Cell)) → Other (decoded_from p l) → plan_from p words m l ≡ plan_from (lending table p) words m l
     other_from [] h = refl
     other_from (r ∷ older) h = other-in r (function_of (frame_segment p.regular p.alternate (function_word r)) (function_number (function_word r))) h
 

@@ -11,15 +11,16 @@ use Rattle.procedure.specs.Bytes.{byte_at}
 use Rattle.procedure.specs.Headers.{code_start}
 use Rattle.procedure.specs.Directory.{selected, has_function, function_of}
 use Rattle.instruction.specs.declared.Instruction.{Instruction}
+use Rattle.std.proofs.Common.{Option, Some, None, Result, Ok, Err}
+use Rattle.trap.specs.declared.Trap.{Trap}
+use Rattle.trap.specs.Trap.{trap_of}
 use Rattle.instruction.specs.declared.Decoded.{Decoded}
-use Rattle.instruction.specs.declared.Decoded.TheVariants as D
 use Rattle.instruction.specs.declared.cursor.Cursor.{Cursor}
-use Rattle.instruction.specs.declared.cursor.FetchedByte.TheVariants.{Byte, Outside}
 use Rattle.instruction.specs.declared.family.Family.{Family}
 use Rattle.instruction.specs.declared.family.Family.TheVariants as F
 use Rattle.instruction.specs.Families.{family_of, order_of}
-use Rattle.instruction.specs.Reading.{cursor_at, fetch_byte, with_byte}
-use Rattle.instruction.specs.Decoding.{family_at, instruction_at}
+use Rattle.instruction.specs.Reading.{cursor_at, fetch_byte, with_read}
+use Rattle.instruction.specs.Decoding.{done, family_at, instruction_at}
 use Rattle.segment.specs.State.{lbase}
 use Rattle.segment.specs.Stack.{code_word_at, pctr}
 use Rattle.imports.specs.Records as file
@@ -39,7 +40,8 @@ use Rattle.effects.specs.Tally.{first_byte}
 use Rattle.legality.proofs.Runs.{function-known}
 use Rattle.step_theorems.proofs.Current.{current-function, plan-is}
 use Rattle.step_theorems.proofs.Again.{sound-of}
-use Rattle.operations.specs.declared.Replayed.{Replayed}
+use Rattle.std.proofs.Common.{Result}
+use Rattle.operations.specs.Answers.{Stop}
 use Rattle.audit.specs.Calls.{procedures_of, Answer, Passes}
 use Rattle.audit.specs.Steps.{finishes, Step, does}
 use Rattle.audit.specs.Runs.{Runs, over, goes_on, traced, stops}
@@ -53,7 +55,7 @@ abbrev Counts : ℕ → Type 0
 Counts first = order_of (family_of first) < 8
 
 module _ (code : List ℕ) (i : Instruction) (next : _) where
-  by-family : (c : Cursor) (first : ℕ) (k : Family) → family_at code c first k ≡ D.Instruction i next → order_of k < 8
+  by-family : (c : Cursor) (first : ℕ) (k : Family) → family_at code c first k ≡ done i next → order_of k < 8
   unfolding family_at
   by-family c first F.ShortLocal e = omega arith
   by-family c first F.ShortConst e = omega arith
@@ -65,13 +67,13 @@ module _ (code : List ℕ) (i : Instruction) (next : _) where
   by-family c first F.Index e = omega arith
   by-family c first F.Unassigned e = let z : ◌≡◌ {A = ℕ} 0 1 = cc in absurd (omega arith)
 
-  decoded-counts : (place : ℕ) → instruction_at code place ≡ D.Instruction i next → Counts (byte_at code place)
+  decoded-counts : (place : ℕ) → instruction_at code place ≡ done i next → Counts (byte_at code place)
   unfolding instruction_at fetch_byte
   decoded-counts place e = go (ltb place code_start) (ltb place (length code)) e
     where
       go : (before inside : Bool)
-          → cond before (D.Trap 3 1) (with_byte (cond inside (Byte (byte_at code place) (cursor_at (place + 1))) Outside) (D.Trap 3 1) (λ first next. family_at code next first (family_of first)))
-          ≡ D.Instruction i next → Counts (byte_at code place)
+          → cond before (Err (trap_of 3 1)) (with_read (cond {A = Option (ℕ × Cursor)} inside (Some (byte_at code place, cursor_at (place + 1))) None) (Err (trap_of 3 1)) (λ first next. family_at code next first (family_of first)))
+          ≡ done i next → Counts (byte_at code place)
       go true inside e = let z : ◌≡◌ {A = ℕ} 0 1 = cc in absurd (omega arith)
       go false true e = by-family (cursor_at (place + 1)) (byte_at code place) (family_of (byte_at code place)) e
       go false false e = let z : ◌≡◌ {A = ℕ} 0 1 = cc in absurd (omega arith)
@@ -80,9 +82,9 @@ planned-counts : (f : Running) (seen : Seen) (place : ℕ) (es : List Effect) �
 unfolding plan_at
 planned-counts f seen place es e = go (instruction_at (code_in f) place) refl e
   where
-    go : (d : Decoded) → instruction_at (code_in f) place ≡ d → plan_decoded f seen d ≡ gives es → Counts (byte_at (code_in f) place)
-    go (D.Instruction i next) q e = decoded-counts (code_in f) i next place q
-    go (D.Trap class number) q e = let z : ◌≡◌ {A = ℕ} 0 1 = cc in absurd (omega arith)
+    go : (d : Result Decoded Trap) → instruction_at (code_in f) place ≡ d → plan_decoded f seen d ≡ gives es → Counts (byte_at (code_in f) place)
+    go (Ok d) q e = decoded-counts (code_in f) d.instruction d.next place q
+    go (Err t) q e = let z : ◌≡◌ {A = ℕ} 0 1 = cc in absurd (omega arith)
 
 module _ (s : List ℕ) (p : Program) (h : Accepted s p.regular p.alternate) where
   function-there : has_function (selected (selector_of s) p.regular p.alternate) (current_function s) ≡ true
@@ -175,7 +177,7 @@ call-counts p (file.run budget) {a = a} (has_run passed did) counts long =
     let told : r.finished ≡ finished_of a = omega (arith, r.told) in
     subst (λ (n : ℕ). More counts n (counts_after did.steps counts)) told r.more
 
-replay-counts : {p : Program} {records : Records} {s t counts after : List ℕ} {answer : Replayed} {events : List Event}
+replay-counts : {p : Program} {records : Records} {s t counts after : List ℕ} {answer : Result (Unit {0}) Stop} {events : List Event}
     → Replays p records s counts answer t after events → length counts ≡ 8 → More counts (finished_in events) after
 replay-counts (all_done {counts = counts}) long = no_more counts long
 replay-counts (is_malformed {counts = counts}) long = no_more counts long
@@ -186,6 +188,6 @@ replay-counts {p = p} (halts {r = r} {counts = counts} did d) long =
     let first = call-counts p r did counts long in
     more-later first (no_more (call_counts did counts) first.long)
 
-pub replay-sum : {p : Program} {records : Records} {s t after : List ℕ} {answer : Replayed} {events : List Event}
+pub replay-sum : {p : Program} {records : Records} {s t after : List ℕ} {answer : Result (Unit {0}) Stop} {events : List Event}
     → Replays p records s none_counted answer t after events → AllBelow count_limit after → (length after ≡ 8) × (total after ≡ finished_in events)
 replay-sum replays below = let more = replay-counts replays refl in (more.long, omega (arith, more.sum below))

@@ -1,7 +1,7 @@
 -- A call of one of the four operations or of the sheet, what it answers, and the table of document 01: "Tests go in table order, save
 -- that 20 comes before 19; lay out omits 13–18"; 26 of document 02, paper 5, is "tested after 12". A reader must believe: each test is
 -- the sentence of its number. Assumes nothing.
-use Rattle.std.specs.Prelude.{ℕ, ◌≡◌, Bool, cond, not, ◌&&◌, ◌||◌, List, [], ◌∷◌, ◌++◌, eqb, length}
+use Rattle.std.specs.Prelude.{ℕ, ◌≡◌, Bool, cond, not, ◌&&◌, ◌||◌, List, [], ◌∷◌, ◌++◌, eqb, length, Result, Ok, Err}
 use Rattle.descriptor.specs.declared.Target.TheVariants.{Global}
 use Rattle.descriptor.specs.Kinds.{segment}
 use Rattle.operator.specs.Lent.{table_test}
@@ -23,14 +23,10 @@ use Rattle.manual.specs.Effects as manual
 use Rattle.manual.specs.Program.{Program}
 use Rattle.manual.specs.Loads.{is_undefined}
 use Rattle.fresh_segment.specs.LayOut.{Layout, function_test, parts_test}
-use Rattle.operations.specs.declared.Answer as operations
-use Rattle.operations.specs.declared.Answer.TheVariants as A
-use Rattle.operations.specs.declared.Run.{Run}
-use Rattle.operations.specs.declared.Run.TheVariants as R
+use Rattle.effects.specs.declared.Ran.{Ran}
+use Rattle.effects.specs.declared.Ran.TheVariants as R
 use Rattle.operations.specs.declared.Looked.{Looked}
 use Rattle.operations.specs.declared.Looked.TheVariants as L
-use Rattle.operations.specs.declared.Sheeted.{Sheeted}
-use Rattle.operations.specs.declared.Sheeted.TheVariants as S
 use Rattle.operations.specs.Load.{is_global, is_value}
 
 pub record Procedures : Type 0 where
@@ -63,24 +59,24 @@ pub data Answer : Type 0 where
   array : ℕ → Answer
   summed : Sheet → Answer
 
--- The answers in code.
-abbrev pub answer_of : operations.Answer → Answer
-answer_of A.Done = done
-answer_of (A.Refused number) = refused number
+-- The answers of the definitions.
+abbrev pub answer_of : Result (Unit {0}) ℕ → Answer
+answer_of (Ok nothing) = done
+answer_of (Err number) = refused number
 
-abbrev pub run_answer : Run → Answer
-run_answer (R.Done steps) = ran steps
-run_answer (R.Trapped steps) = trapped steps
-run_answer (R.Refused number) = refused number
+abbrev pub run_answer : Result Ran ℕ → Answer
+run_answer (Ok (R.Done steps)) = ran steps
+run_answer (Ok (R.Trapped steps)) = trapped steps
+run_answer (Err number) = refused number
 
-abbrev pub look_answer : Looked → Answer
-look_answer (L.Scalar w) = scalar w
-look_answer (L.Array block) = array block.0
-look_answer (L.Refused number) = refused number
+abbrev pub look_answer : Result Looked ℕ → Answer
+look_answer (Ok (L.Scalar w)) = scalar w
+look_answer (Ok (L.Array block)) = array block.0
+look_answer (Err number) = refused number
 
-abbrev pub sheet_answer : Sheeted → Answer
-sheet_answer (S.Summed sums) = summed sums
-sheet_answer (S.Refused number) = refused number
+abbrev pub sheet_answer : Result Sheet ℕ → Answer
+sheet_answer (Ok sums) = summed sums
+sheet_answer (Err number) = refused number
 
 -- ---- the table
 

@@ -1,6 +1,6 @@
 -- A list of calls and replays and the segments between them, what array storage must be before and after each call, and when full
 -- is reported. Document 01, demand 3 and "Agreement"; document 02, paper 1: "what a replay gives is what the same loads and runs give". Assumes nothing.
-use Rattle.std.specs.Prelude.{ℕ, ◌^◌, ◌<◌, ◌≤◌, ◌≡◌, true, false, ◌↔◌, ◌≢◌, ◌⊎◌, List, [], ◌∷◌, ◌++◌, length, set}
+use Rattle.std.specs.Prelude.{ℕ, ◌^◌, ◌<◌, ◌≤◌, ◌≡◌, true, false, ◌↔◌, ◌≢◌, ◌⊎◌, List, [], ◌∷◌, ◌++◌, length, set, Result}
 use Rattle.descriptor.specs.Fields.{array_word}
 use Rattle.segment.specs.State.{blockptr}
 use Rattle.segment.specs.Blocks.{count_at, need}
@@ -14,7 +14,7 @@ use Rattle.imports.specs.Records.{records_of}
 use Rattle.tally.specs.Counts.{none_counted}
 use Rattle.storage_sheet.specs.declared.Sheet.{Sheet}
 use Rattle.manual.specs.Program.{Program}
-use Rattle.operations.specs.declared.Replayed.{Replayed}
+use Rattle.operations.specs.Answers.{Stop}
 use Rattle.operations.specs.Load.{is_global, is_value}
 use Rattle.audit.specs.Calls.{Procedures, procedures_of, Call, lay_out, run, load, look, sheet, Answer, refused, done, ran, trapped, scalar, array, summed, Passes, LentProcedures, LentCall}
 use Rattle.audit.specs.Runs.{Runs, SomeRequestInVain, ReportsFull}
@@ -82,7 +82,7 @@ pub data Item : Type 0 where
 pub record ReplayEvent : Type 0 where
   pub program : Program
   pub file : List ℕ
-  pub answer : Replayed
+  pub answer : Result (Unit {0}) Stop
   pub counts : List ℕ
   pub calls : List Event
   pub after : List ℕ

@@ -1,9 +1,8 @@
 -- One function under two numberings of the operators, by computation from the definitions: 2 is taken from 5, and the sign of what is left
 -- is changed. And tables that are refused. Assumes nothing.
-use Rattle.std.specs.Prelude.{ℕ, ◌≡◌, List, [], ◌∷◌, ◌++◌, set}
+use Rattle.std.specs.Prelude.{ℕ, ◌≡◌, List, [], ◌∷◌, ◌++◌, set, Err}
 use Rattle.operator.specs.Lent.{manual_table}
 use Rattle.manual.specs.Program.{program}
-use Rattle.operations.specs.declared.Run.TheVariants.{Refused}
 use Rattle.operations.specs.Run.{Ended, ran}
 use Rattle.audit.specs.Table.{coded, laid, ran_after, OnTop}
 
@@ -29,11 +28,11 @@ pub record Numbered : Type 0 where
   -- under the manual's numbering the chain's code is another function, TEST_NUMBER and LESS
   pub other : OnTop (ran_after 4 chain_code) 4 1
   -- fifteen bytes, seventeen, a byte above 15, a byte that is repeated
-  pub short : (chain_ran (0 ∷ 1 ∷ 2 ∷ 3 ∷ 4 ∷ 5 ∷ 6 ∷ 7 ∷ 8 ∷ 9 ∷ 10 ∷ 11 ∷ 12 ∷ 13 ∷ 14 ∷ [])).answer ≡ Refused 26
-  pub long : (chain_ran (manual_table ++ (0 ∷ []))).answer ≡ Refused 26
-  pub large : (chain_ran (set chain_table 0 16)).answer ≡ Refused 26
-  pub repeated : (chain_ran (set chain_table 0 0)).answer ≡ Refused 26
+  pub short : (chain_ran (0 ∷ 1 ∷ 2 ∷ 3 ∷ 4 ∷ 5 ∷ 6 ∷ 7 ∷ 8 ∷ 9 ∷ 10 ∷ 11 ∷ 12 ∷ 13 ∷ 14 ∷ [])).answer ≡ Err 26
+  pub long : (chain_ran (manual_table ++ (0 ∷ []))).answer ≡ Err 26
+  pub large : (chain_ran (set chain_table 0 16)).answer ≡ Err 26
+  pub repeated : (chain_ran (set chain_table 0 0)).answer ≡ Err 26
   -- 12 comes before it, and 13 after it: both procedure segments have no entry; an unnamed bit is set in word 2
-  pub after : (ran (laid chain_code) (program (0 ∷ 0 ∷ 0 ∷ 0 ∷ []) (0 ∷ 0 ∷ 0 ∷ 0 ∷ []) []) 4).answer ≡ Refused 12
-  pub before : (ran (set (laid chain_code) 2 0x10) (program (coded chain_code) (coded chain_code) []) 4).answer ≡ Refused 26
-  pub otherwise : (ran (set (laid chain_code) 2 0x10) (program (coded chain_code) (coded chain_code) chain_table) 4).answer ≡ Refused 13
+  pub after : (ran (laid chain_code) (program (0 ∷ 0 ∷ 0 ∷ 0 ∷ []) (0 ∷ 0 ∷ 0 ∷ 0 ∷ []) []) 4).answer ≡ Err 12
+  pub before : (ran (set (laid chain_code) 2 0x10) (program (coded chain_code) (coded chain_code) []) 4).answer ≡ Err 26
+  pub otherwise : (ran (set (laid chain_code) 2 0x10) (program (coded chain_code) (coded chain_code) chain_table) 4).answer ≡ Err 13

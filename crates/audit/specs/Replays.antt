@@ -1,14 +1,13 @@
 -- What a replay does: the calls that its records are, one after the other, and what they count. Document 02, paper 1; decisions 83 to 85.
 -- The contract of `replay` is this relation. Assumes nothing.
-use Rattle.std.specs.Prelude.{ℕ, ◌+◌, ◌<◌, ◌≡◌, ◌≢◌, List, [], ◌∷◌, ◌++◌, map, length}
+use Rattle.std.specs.Prelude.{ℕ, ◌+◌, ◌<◌, ◌≡◌, ◌≢◌, List, [], ◌∷◌, ◌++◌, map, length, Result, Ok, Err}
 use Rattle.segment.specs.Lent.{Words, Bytes}
 use Rattle.imports.specs.Records as file
 use Rattle.imports.specs.Records.{Record, Records, ends, malformed, entry, records_of}
 use Rattle.tally.specs.Counts.{count_limit, none_counted, counted}
 use Rattle.manual.specs.Program.{Program}
 use Rattle.effects.specs.Tally.{first_byte}
-use Rattle.operations.specs.declared.Replayed.{Replayed}
-use Rattle.operations.specs.declared.Replayed.TheVariants.{Done, Halted, Malformed}
+use Rattle.operations.specs.Answers.{Stop, Halted, Malformed}
 use Rattle.audit.specs.Calls.{procedures_of, Call, run, load, Answer, refused, done, ran, trapped, scalar, array, summed, LentProcedures}
 use Rattle.audit.specs.Runs.{Runs, over, goes_on, traced, stops}
 use Rattle.audit.specs.Did.{Did, is_refused, is_laid_out, has_run, is_loaded, has_told, has_summed, Event, event}
@@ -49,21 +48,21 @@ halt_of (array block) = 0
 halt_of (summed sums) = 0
 
 -- From the words `s` and counts, over the records that are left, to an answer, the words and counts after it, and the calls made.
-pub data Replays (p : Program) : Records → List ℕ → List ℕ → Replayed → List ℕ → List ℕ → List Event → Type 0 where
+pub data Replays (p : Program) : Records → List ℕ → List ℕ → Result (Unit {0}) Stop → List ℕ → List ℕ → List Event → Type 0 where
   -- every record was done
-  all_done : {s counts : List ℕ} → Replays p ends s counts Done s counts []
+  all_done : {s counts : List ℕ} → Replays p ends s counts (Ok tt) s counts []
   -- 25: what is no record changes nothing, and no test is made for it
-  is_malformed : {place : ℕ} {s counts : List ℕ} → Replays p (malformed place) s counts (Malformed place) s counts []
+  is_malformed : {place : ℕ} {s counts : List ℕ} → Replays p (malformed place) s counts (Err (Malformed place)) s counts []
   -- a record's call is done, and the replay goes on from what it left
-  continues : {place : ℕ} {r : Record} {rest : Records} {s t u counts after : List ℕ} {a : Answer} {answer : Replayed} {events : List Event}
+  continues : {place : ℕ} {r : Record} {rest : Records} {s t u counts after : List ℕ} {a : Answer} {answer : Result (Unit {0}) Stop} {events : List Event}
       → (did : Did s (record_call p r) a t) → halt_of a ≡ 0 → Replays p rest t (call_counts did counts) answer u after events
       → Replays p (entry place r rest) s counts answer u after (event (record_call p r) a t ∷ events)
   -- a trap or a refusal halts it, at the place of the record
   halts : {place : ℕ} {r : Record} {rest : Records} {s t counts : List ℕ} {a : Answer} → (did : Did s (record_call p r) a t) → halt_of a ≢ 0
-      → Replays p (entry place r rest) s counts (Halted (halt_of a) place) t (call_counts did counts) (event (record_call p r) a t ∷ [])
+      → Replays p (entry place r rest) s counts (Err (Halted (halt_of a) place)) t (call_counts did counts) (event (record_call p r) a t ∷ [])
 
 -- What `replay` promises, of 32-bit words and bytes, as its types say in code: "zeroed first".
-unfoldable pub PromisedReplay : List ℕ → Program → List ℕ → Replayed → List ℕ → List ℕ → Type 0
+unfoldable pub PromisedReplay : List ℕ → Program → List ℕ → Result (Unit {0}) Stop → List ℕ → List ℕ → Type 0
 PromisedReplay s p bytes answer t counts =
     Words s → LentProcedures (procedures_of p) → Bytes bytes → (events : List Event) × Replays p (records_of bytes) s none_counted answer t counts events
 
@@ -103,18 +102,18 @@ AllBelow limit (n ∷ ns) = (n < limit) × AllBelow limit ns
 
 pub record ReplayTheorems : Type 0 where
   -- "Replay gives what the same loads and runs give one by one"
-  pub one_by_one : {p : Program} {records : Records} {s t counts after : List ℕ} {answer : Replayed} {events : List Event}
+  pub one_by_one : {p : Program} {records : Records} {s t counts after : List ℕ} {answer : Result (Unit {0}) Stop} {events : List Event}
       → Replays p records s counts answer t after events → OneByOne s events t
   -- they are the records' calls, in order, up to the one that halts
-  pub in_order : {p : Program} {records : Records} {s t counts after : List ℕ} {answer : Replayed} {events : List Event}
+  pub in_order : {p : Program} {records : Records} {s t counts after : List ℕ} {answer : Result (Unit {0}) Stop} {events : List Event}
       → Replays p records s counts answer t after events → (later : List Call) × (record_calls p records ≡ map (λ (e : Event). e.call) events ++ later)
   -- "0 says that every record was done"
   pub all : {p : Program} {records : Records} {s t counts after : List ℕ} {events : List Event}
-      → Replays p records s counts Done t after events → record_calls p records ≡ map (λ (e : Event). e.call) events
+      → Replays p records s counts (Ok tt) t after events → record_calls p records ≡ map (λ (e : Event). e.call) events
   -- the tally's sum is the number of finished instructions where no count is at its limit
-  pub sum : {p : Program} {records : Records} {s t after : List ℕ} {answer : Replayed} {events : List Event}
+  pub sum : {p : Program} {records : Records} {s t after : List ℕ} {answer : Result (Unit {0}) Stop} {events : List Event}
       → Replays p records s none_counted answer t after events → AllBelow count_limit after → (length after ≡ 8) × (total after ≡ finished_in events)
   -- and any file may be replayed
   pub ends : (s : List ℕ) → Words s → (p : Program) → LentProcedures (procedures_of p) → (bytes : List ℕ) → Bytes bytes
-      → (answer : Replayed) × (t : List ℕ) × (after : List ℕ) × (events : List Event)
+      → (answer : Result (Unit {0}) Stop) × (t : List ℕ) × (after : List ℕ) × (events : List Event)
       × Replays p (records_of bytes) s none_counted answer t after events × Words t

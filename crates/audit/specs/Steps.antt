@@ -41,7 +41,6 @@ abbrev pub due_after : Turn → ℕ → Header → Header → ℕ
 due_after T.Finished f called left = step_flag f
 due_after T.Entered f called left = cond (eqb (fcnctrc f) 1 && called.calltrace) 2 (step_flag f)
 due_after T.Left f called left = cond (eqb (fcnrtrc f) 1 && left.rtntrace) 3 (step_flag f)
-due_after (T.Trapped class number) f called left = 0
 
 -- ---- the step
 

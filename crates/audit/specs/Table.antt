@@ -1,15 +1,14 @@
 -- The marked examples M1–M10 of document 01 as one table: a lay out, and runs of one to three instructions after it; and the sheet of
 -- M1, as document 02 has it in paper 3, of M1 spoilt, of M2 and of M4. By computation from the definitions of the operations. Assumes nothing.
-use Rattle.std.specs.Prelude.{ℕ, ◌+◌, ◌-◌, ◌≡◌, List, [], ◌∷◌, ◌++◌, get_or, length, replicate, set}
+use Rattle.std.specs.Prelude.{ℕ, ◌+◌, ◌-◌, ◌≡◌, List, [], ◌∷◌, ◌++◌, get_or, length, replicate, set, Result, Ok, Err}
 use Rattle.segment.specs.State.{sbase, ltop, rover, trap_word}
 use Rattle.scalar.specs.Value.{units}
 use Rattle.manual.specs.Program.{under_manual}
 use Rattle.fresh_segment.specs.LayOut.{layout, laid_out}
 use Rattle.storage_sheet.specs.Sheet.{sheet_with}
-use Rattle.operations.specs.declared.Sheeted.{Sheeted}
-use Rattle.operations.specs.declared.Sheeted.TheVariants.{Summed, Refused}
+use Rattle.storage_sheet.specs.declared.Sheet.{Sheet}
 use Rattle.operations.specs.Sheet.{sheeted}
-use Rattle.operations.specs.declared.Run.TheVariants.{Done, Trapped}
+use Rattle.effects.specs.declared.Ran.TheVariants.{Done, Trapped}
 use Rattle.operations.specs.Run.{Ended, ran}
 
 -- A procedure segment of one function that has no argument, a local and four words of code: these bytes, and then NO_OPERATION.
@@ -29,7 +28,7 @@ abbrev pub ran_after : ℕ → List ℕ → Ended
 ran_after budget code = ran (laid code) (under_manual (coded code) (coded code)) budget
 
 -- The sheet of a segment beside this code.
-abbrev pub sheet_beside : List ℕ → List ℕ → Sheeted
+abbrev pub sheet_beside : List ℕ → List ℕ → Result Sheet ℕ
 sheet_beside code s = sheeted s (coded code) (coded code)
 
 -- ---- the forms of the table
@@ -44,7 +43,7 @@ pub record Lays (s : List ℕ) : Type 0 where
 
 -- So many instructions were done, and that word is on top of the stack.
 pub record OnTop (e : Ended) (steps w : ℕ) : Type 0 where
-  pub done : e.answer ≡ Done steps
+  pub done : e.answer ≡ Ok (Done steps)
   pub top : get_or e.words (sbase e.words + ltop e.words) 0 ≡ w
 
 -- INDEXGEN made an array: its descriptor, the first words of the free block at 12 and of its own block, ROVER.
@@ -61,7 +60,7 @@ pub record Sums (e : Ended) (w integer : ℕ) : Type 0 where
 
 -- An instruction trapped, after so many.
 pub record Traps (e : Ended) (steps word3 : ℕ) : Type 0 where
-  pub trapped : e.answer ≡ Trapped steps
+  pub trapped : e.answer ≡ Ok (Trapped steps)
   pub trap : trap_word e.words ≡ word3
 
 -- ---- the table
@@ -69,17 +68,17 @@ pub record Traps (e : Ended) (steps word3 : ℕ) : Type 0 where
 pub record Table : Type 0 where
   -- lay out 64 words, 4 globals, 24 array words, one local
   pub m1 : Lays (laid [])
-  pub m1_sheet : sheet_beside [] (laid []) ≡ Summed (sheet_with 0 0 21 3 24)
+  pub m1_sheet : sheet_beside [] (laid []) ≡ Ok (sheet_with 0 0 21 3 24)
   -- the dummy's last word is not 0
-  pub m1_spoilt : sheet_beside [] (set (laid []) 35 1) ≡ Refused 14
+  pub m1_spoilt : sheet_beside [] (set (laid []) 35 1) ≡ Err 14
   -- then INDEXGEN of 5
   pub m2 : Makes (ran_after 2 (0x40 ∷ 0x05 ∷ 0xA9 ∷ [])) 0x0200_0019 0x8000_000D 25 0x4000_0008
-  pub m2_sheet : sheet_beside (0x40 ∷ 0x05 ∷ 0xA9 ∷ []) (ran_after 2 (0x40 ∷ 0x05 ∷ 0xA9 ∷ [])).words ≡ Summed (sheet_with 8 0 13 3 24)
+  pub m2_sheet : sheet_beside (0x40 ∷ 0x05 ∷ 0xA9 ∷ []) (ran_after 2 (0x40 ∷ 0x05 ∷ 0xA9 ∷ [])).words ≡ Ok (sheet_with 8 0 13 3 24)
   -- INDEXGEN of 15, a need of 18 from 21, splits
   pub m3 : Makes (ran_after 2 (0x40 ∷ 0x0F ∷ 0xA9 ∷ [])) 0x0200_000F 0x8000_0003 15 0x4000_0012
   -- INDEXGEN of 16, a need of 19, leaves slop 2: the whole block is given
   pub m4 : Makes (ran_after 2 (0x40 ∷ 0x10 ∷ 0xA9 ∷ [])) 0x0200_000C 0x0002_0013 12 0x0002_0013
-  pub m4_sheet : sheet_beside (0x40 ∷ 0x10 ∷ 0xA9 ∷ []) (ran_after 2 (0x40 ∷ 0x10 ∷ 0xA9 ∷ [])).words ≡ Summed (sheet_with 19 2 0 3 24)
+  pub m4_sheet : sheet_beside (0x40 ∷ 0x10 ∷ 0xA9 ∷ []) (ran_after 2 (0x40 ∷ 0x10 ∷ 0xA9 ∷ [])).words ≡ Ok (sheet_with 19 2 0 3 24)
   -- 1 as a float: 1 divided by 1
   pub m5 : Sums (ran_after 3 (0x40 ∷ 0x01 ∷ 0x40 ∷ 0x01 ∷ 0x6B ∷ [])) 0x6000_0000 1
   -- 1 divided by 2

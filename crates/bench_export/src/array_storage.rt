@@ -1,11 +1,8 @@
 // Array storage for a Rust or C program to link: what bench/storage drives. A block's address, or 0 where none is found.
-use storage::Found;
+use descriptor::address::SegmentAddress;
 
-fn flat(found: Found) -> u32 {
-    match found {
-        Found::At(block) => block.number(),
-        Found::Full => 0,
-    }
+fn flat(block: Option<SegmentAddress>) -> u32 {
+    block.map_or(0, |block| block.number())
 }
 
 #[unsafe(no_mangle)]

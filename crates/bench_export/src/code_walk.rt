@@ -2,8 +2,7 @@
 use descriptor::address::CodeAddress;
 use instruction::decode::instruction_at;
 use instruction::{
-    Address, ArrayOperation, ControlOperation, Decoded, Instruction, Jump, MemoryOperation,
-    StackOperation,
+    Address, ArrayOperation, ControlOperation, Instruction, Jump, MemoryOperation, StackOperation,
 };
 use operator::{Dyadic, Monadic, Operator};
 
@@ -12,18 +11,12 @@ use operator::{Dyadic, Monadic, Operator};
 pub extern "C" fn crms_walk(code: &[u8]) -> u64 {
     let mut at = CodeAddress::of(8);
     let mut sum: u64 = 0;
-    let mut turns = code.len();
-    while turns > 0 {
-        match instruction_at(code, at) {
-            Decoded::Trap(_, _) => {
-                return sum;
-            }
-            Decoded::Instruction(i, next) => {
-                sum = std::num::wrapping_add_u64(sum, weight(i));
-                at = next;
-            }
-        }
-        turns -= 1;
+    for _ in 0..code.len() {
+        let Ok(decoded) = instruction_at(code, at) else {
+            return sum;
+        };
+        sum = sum.wrapping_add(weight(decoded.instruction));
+        at = decoded.next;
     }
     sum
 }

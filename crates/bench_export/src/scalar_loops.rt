@@ -3,7 +3,7 @@
 ghost use Rattle.std.specs.Prelude.{◌≡◌, ◌<◌, ◌≤◌, length};
 
 use operator::Dyadic;
-use scalar::Answer;
+use trap::Trap;
 
 #[unsafe(no_mangle)]
 pub extern "C" fn scalar_dyadic(suboperation: u32, a: &[u32], b: &[u32], out: &mut [u32]) -> usize {
@@ -26,25 +26,23 @@ fn each(operator: Dyadic, a: &[u32], b: &[u32], out: &mut [u32]) -> usize
     requires { (length b.now ≡ length a.now) × (length out.old ≡ length a.now) }
 {
     let mut traps: usize = 0;
-    let mut i = 0;
-    while i < a.len() {
-        traps += put(out, i, scalar::dyadic(operator, a[i], b[i]));
-        i += 1;
+    for (i, &x) in a.iter().enumerate() {
+        traps += put(out, i, scalar::dyadic(operator, x, b[i]));
     }
     traps
 }
 
 // Stores a word, or counts a trap.
-fn put(out: &mut [u32], i: usize, answer: Answer) -> usize
+fn put(out: &mut [u32], i: usize, answer: Result<u32, Trap>) -> usize
     requires { i < length out.old }
     ensures counted { result ≤ 1 }
     ensures kept { length out.new ≡ length out.old }
 {
     match answer {
-        Answer::Word(w) => {
+        Ok(w) => {
             out[i] = w;
             0
         }
-        Answer::Trap(_, _) => 1,
+        Err(_) => 1,
     }
 }

@@ -1,65 +1,105 @@
-// What stands after a command's word. What is wrong with it is answered here.
-use crate::answers::error;
+// What stands after a command's word.
 use line_tool::command::is;
-use line_tool::fault::Fault;
+use line_tool::fault::{Fault, Misread};
 use line_tool::list::{Listed, numbers_at};
 use line_tool::number::Base;
 use line_tool::tokens::{Token, text, token_at};
+use std::alloc::AllocError;
 
+// Why a command is not obeyed.
+#[derive(Debug, Drop)]
+pub enum Refusal {
+    Misread(Misread),
+    NoMemory(AllocError),
+}
+
+impl From<Misread> for Refusal {
+    fn from(wrong: Misread) -> Refusal {
+        Refusal::Misread(wrong)
+    }
+}
+
+impl From<AllocError> for Refusal {
+    fn from(why: AllocError) -> Refusal {
+        Refusal::NoMemory(why)
+    }
+}
+
+// A line from a place on.
 #[derive(Clone, Copy)]
-pub enum Place {
-    After(usize),
-    Wrong,
+pub struct Arguments<'a> {
+    pub line: &'a [u8],
+    pub at: usize,
 }
 
-// So many decimal numbers and nothing else?
-pub fn takes(count: usize, line: &[u8], at: usize, numbers: &mut [u32]) -> bool {
-    let Place::After(next) = decimals(count, line, at, numbers) else {
-        return false;
-    };
-    ends(line, next)
-}
+impl<'a> Arguments<'a> {
+    pub fn first(self) -> Token {
+        token_at(self.line, self.at)
+    }
 
-// The place after so many decimal numbers.
-pub fn decimals(count: usize, line: &[u8], at: usize, numbers: &mut [u32]) -> Place {
-    match numbers_at(Base::Decimal, line, at, count, numbers) {
-        Listed::Wrong(fault, token) => {
-            error(fault, line, token);
-            Place::Wrong
-        }
-        Listed::Numbers(n, next) => {
-            if n < count {
-                missing(line, next);
-                return Place::Wrong;
-            }
-            Place::After(next)
+    pub fn text(self, token: Token) -> &'a [u8] {
+        text(self.line, token)
+    }
+
+    pub fn after(self, at: usize) -> Arguments<'a> {
+        Arguments {
+            line: self.line,
+            at,
         }
     }
-}
 
-// The place after so many lengths and the bar.
-pub fn lengths(rank: usize, line: &[u8], at: usize, numbers: &mut [u32]) -> Place {
-    let Place::After(next) = decimals(rank, line, at, numbers) else {
-        return Place::Wrong;
-    };
-    let bar = token_at(line, next);
-    if is(text(line, bar), b"|") {
-        return Place::After(bar.end);
+    // So many decimal numbers and nothing else.
+    pub fn only<const N: usize>(self) -> Result<[u32; N], Misread> {
+        let mut numbers = [0u32; N];
+        self.decimals(N, &mut numbers)?.end()?;
+        Ok(numbers)
     }
-    error(Fault::NoBar, line, bar);
-    Place::Wrong
-}
 
-// Is a place the end of the line?
-pub fn ends(line: &[u8], at: usize) -> bool {
-    let token = token_at(line, at);
-    if token.is_empty() {
-        return true;
+    // So many decimal numbers; what stands after them.
+    pub fn decimals(self, count: usize, numbers: &mut [u32]) -> Result<Arguments<'a>, Misread> {
+        let listed = numbers_at(Base::Decimal, self.line, self.at, count, numbers)?;
+        let rest = self.after(listed.next);
+        if listed.count < count {
+            return Err(rest.missing());
+        }
+        Ok(rest)
     }
-    error(Fault::Extra, line, token);
-    false
+
+    // So many lengths and the bar; what stands after it.
+    pub fn lengths(self, rank: usize, numbers: &mut [u32]) -> Result<Arguments<'a>, Misread> {
+        let rest = self.decimals(rank, numbers)?;
+        let bar = rest.first();
+        if !is(rest.text(bar), b"|") {
+            return Err(wrong(Fault::NoBar, bar));
+        }
+        Ok(rest.after(bar.end))
+    }
+
+    // At most so many words.
+    pub fn words(self, most: usize, words: &mut [u32]) -> Result<Listed, Misread> {
+        numbers_at(Base::Hex, self.line, self.at, most, words)
+    }
+
+    // Nothing else.
+    pub fn end(self) -> Result<(), Misread> {
+        let token = self.first();
+        if token.is_empty() {
+            return Ok(());
+        }
+        Err(wrong(Fault::Extra, token))
+    }
+
+    pub fn missing(self) -> Misread {
+        wrong(
+            Fault::Missing,
+            Token {
+                start: self.at,
+                end: self.at,
+            },
+        )
+    }
 }
 
-pub fn missing(line: &[u8], at: usize) {
-    error(Fault::Missing, line, Token { start: at, end: at });
+pub fn wrong(fault: Fault, token: Token) -> Misread {
+    Misread { fault, token }
 }

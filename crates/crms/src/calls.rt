@@ -1,244 +1,168 @@
-// The operations, called with what a line says, and their answers. Each hands back what was answered last.
-use crate::answers::error;
-use crate::arguments::{Place, decimals, ends, lengths, takes};
-use crate::buffers::{first_words, least, words_from};
-use crate::{answers, buffers};
+// The operations, called with what a line says, and their answers. Each hands back what was answered.
+use crate::answers;
+use crate::arguments::{Arguments, Refusal};
+use crate::session::Session;
+use crate::sets::zero_words;
+use effects::Ran;
 use line_tool::explain::Last;
-use line_tool::list::{Listed, numbers_at};
-use line_tool::number::Base;
-use operations::{Answer, Looked, Replayed, Run, Sheeted};
+use line_tool::fault::Misread;
+use operations::{Halt, Looked};
+use operator::lent::manual_table;
 use segment::word;
+use trap::Trap;
 
-pub fn lay_out(
-    last: Last,
-    line: &[u8],
-    at: usize,
-    seg: &mut [u32],
-    regular: &[u8],
-    alternate: &[u8],
-) -> Last {
-    let mut numbers = [0u32; 4];
-    if !takes(4, line, at, &mut numbers) {
-        return last;
+impl Session {
+    pub fn lay_out(&mut self, arguments: Arguments<'_>) -> Result<Last, Misread> {
+        let [selector, function, globals, array_words] = arguments.only::<4>()?;
+        let answer = engine::lay_out::lay_out(
+            &mut self.words,
+            &self.regular,
+            &self.alternate,
+            selector,
+            function,
+            globals,
+            array_words,
+        );
+        Ok(answered(b"layout", answer))
     }
-    let answer = engine::lay_out::lay_out(
-        seg, regular, alternate, numbers[0], numbers[1], numbers[2], numbers[3],
-    );
-    answered(b"layout ", answer)
-}
 
-// Under the manual's table.
-pub fn run(
-    last: Last,
-    line: &[u8],
-    at: usize,
-    seg: &mut [u32],
-    regular: &[u8],
-    alternate: &[u8],
-) -> Last {
-    let mut numbers = [0u32; 1];
-    if !takes(1, line, at, &mut numbers) {
-        return last;
+    pub fn run(&mut self, arguments: Arguments<'_>) -> Result<Last, Misread> {
+        let [budget] = arguments.only::<1>()?;
+        let answer = match &self.table {
+            None => engine::run::run(&mut self.words, &self.regular, &self.alternate, budget),
+            Some(table) => engine::run::run_with(
+                &mut self.words,
+                &self.regular,
+                &self.alternate,
+                table,
+                budget,
+            ),
+        };
+        Ok(ended(answer, word(&self.words, 3)))
     }
-    let answer = engine::run::run(seg, regular, alternate, numbers[0]);
-    ended(answer, word(seg, 3))
-}
 
-pub fn run_with(
-    last: Last,
-    line: &[u8],
-    at: usize,
-    seg: &mut [u32],
-    regular: &[u8],
-    alternate: &[u8],
-    table: &[u8],
-) -> Last {
-    let mut numbers = [0u32; 1];
-    if !takes(1, line, at, &mut numbers) {
-        return last;
+    // As many lengths as the rank, then the elements. A line of n bytes has n / 2 + 1 numbers at most.
+    pub fn load(&mut self, arguments: Arguments<'_>) -> Result<Last, Refusal> {
+        let most = arguments.line.len() / 2 + 1;
+        let mut first = [0; 2];
+        let mut lengths = zero_words(self.alloc, most)?;
+        let mut elements = zero_words(self.alloc, most)?;
+        let rest = arguments.decimals(2, &mut first)?;
+        let [global, rank] = first;
+        let rank = rank as usize;
+        let rest = rest.lengths(rank, &mut lengths)?;
+        let listed = rest.words(most, &mut elements)?;
+        lengths.truncate(rank);
+        elements.truncate(listed.count);
+        let answer = engine::load::load(
+            &mut self.words,
+            &self.regular,
+            &self.alternate,
+            global,
+            &lengths,
+            &elements,
+        );
+        Ok(answered(b"load", answer))
     }
-    let answer = engine::run::run_with(seg, regular, alternate, table, numbers[0]);
-    ended(answer, word(seg, 3))
-}
 
-pub fn load(
-    last: Last,
-    line: &[u8],
-    at: usize,
-    seg: &mut [u32],
-    regular: &[u8],
-    alternate: &[u8],
-) -> Last {
-    let mut numbers = buffers::numbers();
-    let Place::After(next) = decimals(2, line, at, &mut numbers) else {
-        return last;
-    };
-    let global = word(&numbers, 0);
-    let rank = word(&numbers, 1) as usize;
-    let Place::After(end) = lengths(rank, line, next, &mut numbers) else {
-        return last;
-    };
-    load_elements(
-        last,
-        global,
-        rank,
-        line,
-        end,
-        &mut numbers,
-        seg,
-        regular,
-        alternate,
-    )
-}
-
-// The lengths are the first numbers; the elements are still to be read.
-fn load_elements(
-    last: Last,
-    global: u32,
-    rank: usize,
-    line: &[u8],
-    at: usize,
-    numbers: &mut [u32],
-    seg: &mut [u32],
-    regular: &[u8],
-    alternate: &[u8],
-) -> Last {
-    let from = least(rank, numbers.len());
-    match numbers_at(Base::Hex, line, at, line.len(), &mut numbers[from..]) {
-        Listed::Wrong(fault, token) => {
-            error(fault, line, token);
-            last
+    pub fn look(&self, arguments: Arguments<'_>) -> Result<Last, Misread> {
+        let [global] = arguments.only::<1>()?;
+        match engine::look::look(&self.words, &self.regular, &self.alternate, global) {
+            Err(refusal) => return Ok(refused(b"look", refusal)),
+            Ok(Looked::Scalar(w)) => answers::scalar(w),
+            Ok(Looked::Array(block)) => answers::array(
+                engine::look::lengths(&self.words, block),
+                engine::look::elements(&self.words, block),
+            ),
         }
-        Listed::Numbers(count, _) => load_value(
-            global, from, count, numbers, seg, regular, alternate,
-        ),
+        Ok(Last::Status(0))
     }
-}
 
-// As many lengths as the rank, then so many elements.
-fn load_value(
-    global: u32,
-    rank: usize,
-    count: usize,
-    numbers: &[u32],
-    seg: &mut [u32],
-    regular: &[u8],
-    alternate: &[u8],
-) -> Last {
-    let lengths = first_words(numbers, rank);
-    let elements = first_words(words_from(numbers, rank), count);
-    let answer = engine::load::load(seg, regular, alternate, global, lengths, elements);
-    answered(b"load ", answer)
-}
-
-pub fn look(
-    last: Last,
-    line: &[u8],
-    at: usize,
-    seg: &[u32],
-    regular: &[u8],
-    alternate: &[u8],
-) -> Last {
-    let mut numbers = [0u32; 1];
-    if !takes(1, line, at, &mut numbers) {
-        return last;
-    }
-    match engine::look::look(seg, regular, alternate, numbers[0]) {
-        Looked::Refused(n) => {
-            answers::status(b"look ", n);
-            Last::Status(n)
-        }
-        Looked::Scalar(w) => {
-            answers::scalar(w);
-            Last::Status(0)
-        }
-        Looked::Array(block) => {
-            answers::array(
-                engine::look::lengths(seg, block),
-                engine::look::elements(seg, block),
-            );
-            Last::Status(0)
+    pub fn sheet(&self, arguments: Arguments<'_>) -> Result<Last, Misread> {
+        arguments.end()?;
+        match engine::sheet::sheet(&self.words, &self.regular, &self.alternate) {
+            Err(refusal) => Ok(refused(b"sheet", refusal)),
+            Ok(sums) => {
+                answers::sheet(sums);
+                Ok(Last::Status(0))
+            }
         }
     }
-}
 
-pub fn sheet(
-    last: Last,
-    line: &[u8],
-    at: usize,
-    seg: &[u32],
-    regular: &[u8],
-    alternate: &[u8],
-) -> Last {
-    if !ends(line, at) {
-        return last;
-    }
-    match engine::sheet::sheet(seg, regular, alternate) {
-        Sheeted::Refused(n) => {
-            answers::status(b"sheet ", n);
-            Last::Status(n)
-        }
-        Sheeted::Summed(sums) => {
-            answers::sheet(sums);
-            Last::Status(0)
-        }
+    // The file of imports, replayed. What it counted is kept.
+    pub fn replay(&mut self, arguments: Arguments<'_>) -> Result<Last, Misread> {
+        arguments.end()?;
+        let manual = manual_table();
+        let table = match &self.table {
+            None => manual.as_slice(),
+            Some(table) => table.as_slice(),
+        };
+        self.counts = [0; 8];
+        let answer = replay::replay_into(
+            &mut self.words,
+            &self.regular,
+            &self.alternate,
+            table,
+            &self.file,
+            &mut self.counts,
+        );
+        Ok(replayed(answer, word(&self.words, 3)))
     }
 }
 
-fn answered(name: &[u8], answer: Answer) -> Last {
+fn answered(name: &[u8], answer: Result<(), operations::Refusal>) -> Last {
     match answer {
-        Answer::Done => {
+        Err(refusal) => refused(name, refusal),
+        Ok(()) => {
             answers::status(name, 0);
             Last::Status(0)
         }
-        Answer::Refused(n) => {
-            answers::status(name, n);
-            Last::Status(n)
-        }
     }
 }
 
+fn refused(name: &[u8], refusal: operations::Refusal) -> Last {
+    let n = refusal.number();
+    answers::status(name, n);
+    Last::Status(n)
+}
+
 // A run's answer, with word 3 as the run left it.
-fn ended(answer: Run, trap: u32) -> Last {
+fn ended(answer: Result<Ran, operations::Refusal>, trap: u32) -> Last {
     match answer {
-        Run::Done(steps) => {
+        Err(refusal) => refused(b"run", refusal),
+        Ok(Ran::Done(steps)) => {
             answers::ran(2, steps, trap);
             Last::Status(2)
         }
-        Run::Trapped(steps) => {
+        Ok(Ran::Trapped(steps)) => {
             answers::ran(3, steps, trap);
             trap_of(trap)
-        }
-        Run::Refused(n) => {
-            answers::status(b"run ", n);
-            Last::Status(n)
         }
     }
 }
 
 // A replay's answer, with word 3 as the replay left it.
-pub fn replayed(answer: Replayed, trap: u32) -> Last {
+fn replayed(answer: Result<(), Halt>, trap: u32) -> Last {
     match answer {
-        Replayed::Done => {
-            answers::status(b"replay ", 0);
+        Ok(()) => {
+            answers::status(b"replay", 0);
             Last::Status(0)
         }
-        Replayed::Malformed(place) => {
-            answers::halted(25, place);
-            Last::Status(25)
+        Err(Halt::Trapped(place)) => {
+            answers::halted_by_trap(place, trap);
+            trap_of(trap)
         }
-        Replayed::Halted(n, place) => {
-            if n == 3 {
-                answers::halted_by_trap(place, trap);
-                return trap_of(trap);
-            }
-            answers::halted(n, place);
-            Last::Status(n)
+        Err(halt) => {
+            answers::halted(halt.number(), halt.place());
+            Last::Status(halt.number())
         }
     }
 }
 
 // The trap that word 3 tells.
 fn trap_of(word: u32) -> Last {
-    Last::Trap((word / 0x100 % 0x100) as u8, (word % 0x100) as u8)
+    Last::Trap(Trap {
+        class: (word / 0x100 % 0x100) as u8,
+        number: (word % 0x100) as u8,
+    })
 }

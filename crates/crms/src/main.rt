@@ -4,7 +4,6 @@
 
 mod answers;
 mod arguments;
-mod buffers;
 mod calls;
 mod commands;
 mod input;
@@ -14,74 +13,43 @@ mod sets;
 use answers::cannot_read;
 use input::obey_all;
 use line_tool::streams::STDERR;
+use std::alloc::AllocError;
 use std::env::FillError;
 use std::fs::File;
 use std::io::{Error, ErrorKind, Input};
 use std::rt::{Env, Files};
 
-fn main(rt: HostRuntime) {
-    let mut line = buffers::line();
-    let mut data = buffers::words();
-    let mut bytes = buffers::bytes();
-    if obey_arguments(&rt, &mut line, &mut data, &mut bytes) == 0 {
-        let mut from = rt.reader();
-        obey_all(
-            &rt,
-            &mut from,
-            b"standard input",
-            &mut line,
-            &mut data,
-            &mut bytes,
-        );
+fn main(rt: HostRuntime) -> Result<(), AllocError> {
+    if !obey_arguments(&rt)? {
+        obey_all(&rt, &mut rt.reader(), b"standard input")?;
     }
+    Ok(())
 }
 
-// How many arguments there are, once the files that they name are obeyed.
-fn obey_arguments(
-    rt: &(impl Env + Files + Eprint),
-    line: &mut [u8],
-    data: &mut [u32],
-    bytes: &mut [u8],
-) -> usize {
-    for k in 0..usize::MAX {
-        if !obey_argument(rt, k + 1, line, data, bytes) {
-            return k;
+// The files that the arguments name. Are there any?
+fn obey_arguments(rt: &(impl AllocGlobal + Env + Files + Eprint)) -> Result<bool, AllocError> {
+    for k in 1..usize::MAX {
+        let mut name = io::buffer();
+        match rt.arg(k, &mut name) {
+            Err(FillError::NotPresent) => return Ok(k != 1),
+            Err(FillError::TooLong) => obey_file(rt, b"")?,
+            Ok(n) => obey_file(rt, &name[..n])?,
         }
     }
-    usize::MAX
+    Ok(true)
 }
 
-// The file that argument k names. Is there such an argument?
-fn obey_argument(
-    rt: &(impl Env + Files + Eprint),
-    k: usize,
-    line: &mut [u8],
-    data: &mut [u32],
-    bytes: &mut [u8],
-) -> bool {
-    let mut name = io::buffer();
-    match rt.arg(k, &mut name) {
-        Err(FillError::NotPresent) => return false,
-        Err(FillError::TooLong) => obey_file(rt, b"", line, data, bytes),
-        Ok(n) => obey_file(rt, &name[..n], line, data, bytes),
-    }
-    true
-}
-
-fn obey_file(
-    rt: &(impl Files + Eprint),
-    name: &[u8],
-    line: &mut [u8],
-    data: &mut [u32],
-    bytes: &mut [u8],
-) {
-    if name.len() == 0 {
+fn obey_file(rt: &(impl AllocGlobal + Files + Eprint), name: &[u8]) -> Result<(), AllocError> {
+    if name.is_empty() {
         io::write_all(STDERR, b"crms: a file's name is empty or too long\n");
-        return;
+        return Ok(());
     }
     match open(rt, name) {
-        Ok(mut file) => obey_all(rt, &mut file, name, line, data, bytes),
-        Err(why) => cannot_read(rt, name, why),
+        Ok(mut file) => obey_all(rt, &mut file, name),
+        Err(why) => {
+            cannot_read(rt, name, why);
+            Ok(())
+        }
     }
 }
 

@@ -1,5 +1,7 @@
 -- The numbers of runs, replays and looks come apart again: steps and places are below 2 to the 32, and an array of an accepted
 -- segment lies below 16,384.
+use Rattle.std.specs.Prelude.{Result, Ok, Err}
+use Rattle.trap.specs.declared.Trap.{Trap}
 use Prim.Native.Nat.{ℕ, zero, suc, ◌+◌, ◌-◌, ◌^◌, ◌≤◌, ◌<◌}
 use native.Mathlib.Omega.{arith}
 use mathlib.Core.Path.{◌≡◌, refl, sym, ap, ◌∙◌}
@@ -32,10 +34,10 @@ use Rattle.effects.specs.declared.Stepped.{Stepped}
 use Rattle.effects.specs.declared.Stepped.TheVariants as stepped
 use Rattle.effects.specs.Step.{step_of}
 use Rattle.effects.specs.Run.{RunResult, following, steps_from, run_of}
-use Rattle.operations.specs.declared.Looked.TheVariants.{Scalar, Array, Refused}
-use Rattle.operations.specs.declared.Run.{Run}
-use Rattle.operations.specs.declared.Replayed.{Replayed}
-use Rattle.operations.specs.Answers.{steps_of, replay_place}
+use Rattle.std.proofs.Common.{Result, Ok, Err}
+use Rattle.effects.specs.declared.Ran.{Ran}
+use Rattle.operations.specs.declared.Looked.TheVariants.{Scalar, Array}
+use Rattle.operations.specs.Answers.{Stop, steps_of, replay_place}
 use Rattle.operations.specs.Load.{is_global}
 use Rattle.operations.specs.Look.{seen_as, looked}
 use Rattle.operations.specs.Replay.{replayed}
@@ -48,13 +50,13 @@ use Rattle.operations.proofs.Replays.{place_inside}
 -- ---- runs
 
 abbrev steps_in : RunResult → ℕ
-steps_in o = steps_of (operations.accepted_run o.answer)
+steps_in o = steps_of (Ok o.answer)
 
-followed : (steps more : ℕ) (answer : Stepped) (s : List ℕ) (next : List ℕ → RunResult) → ((t : List ℕ) → steps_in (next t) ≤ steps + suc more)
+followed : (steps more : ℕ) (answer : Result Stepped Trap) (s : List ℕ) (next : List ℕ → RunResult) → ((t : List ℕ) → steps_in (next t) ≤ steps + suc more)
     → steps_in (following steps answer s next) ≤ steps + suc more
-followed steps more stepped.Finished s next h = h s
-followed steps more (stepped.Traced class number) s next h = omega arith
-followed steps more (stepped.Trapped class number) s next h = omega arith
+followed steps more (Ok stepped.Finished) s next h = h s
+followed steps more (Ok (stepped.Traced trap)) s next h = omega arith
+followed steps more (Err trap) s next h = omega arith
 
 -- no more steps than were asked for
 steps-most : (budget steps : ℕ) (p : Program) (s : List ℕ) → steps_in (steps_from budget steps p s) ≤ steps + budget
@@ -64,7 +66,7 @@ steps-most (suc budget) steps p s =
     followed steps budget (step_of p s).answer (step_of p s).words _
     (λ t. omega (arith, steps-most budget (steps + 1) p t))
 
-run-apart : (answer : Run) → steps_of answer < 2 ^ 32 → RunApart answer
+run-apart : (answer : Result Ran ℕ) → steps_of answer < 2 ^ 32 → RunApart answer
 run-apart answer l = record { status = omega arith; steps = omega arith }
 
 module _ (s : List ℕ) (p : Program) (budget : ℕ) where
@@ -78,7 +80,7 @@ module _ (s : List ℕ) (p : Program) (budget : ℕ) where
 
 -- ---- replays
 
-replay-apart : (answer : Replayed) → replay_place answer < 2 ^ 32 → ReplayApart answer
+replay-apart : (answer : Result (Unit {0}) Stop) → replay_place answer < 2 ^ 32 → ReplayApart answer
 replay-apart answer l = record { status = omega arith; place = omega arith }
 
 replays : (s : List ℕ) (p : Program) (file : List ℕ) → length file ≤ 2 ^ 32 → ReplayApart (replayed s p file).answer
@@ -96,12 +98,12 @@ told : (status rank first count : ℕ) → rank < 2 ^ 4 → first < 2 ^ 14 → c
 told status rank first count r f c =
     record { status-is = omega arith; rank_is = omega arith; first-is = omega arith; count-is = omega arith }
 
-refused-apart : (s : List ℕ) (g number : ℕ) → LookApart s g (Refused number)
+refused-apart : (s : List ℕ) (g number : ℕ) → LookApart s g (Err number)
 refused-apart s g number =
     let f = told number 0 0 0 (omega arith) (omega arith) (omega arith) in
     record { status = f.status-is; low = omega arith; high = omega arith; leads = tt }
 
-scalar-apart : (s : List ℕ) (g : ℕ) → g < length s → length s ≤ 16384 → LookApart s g (Scalar (get_or s g 0))
+scalar-apart : (s : List ℕ) (g : ℕ) → g < length s → length s ≤ 16384 → LookApart s g (Ok (Scalar (get_or s g 0)))
 scalar-apart s g l short =
     let f = told 0 0 g 1 (omega arith) (omega arith) (omega arith) in
     record {
@@ -131,7 +133,7 @@ module _ (s : List ℕ) (g : ℕ) (block : SegmentAddress) (size : ℕ) (sized :
   unfolding elements_at
   count-is = ap length elements-is ∙ part_length (product (shape_at s x)) s (x + 2 + rank_at s x)
 
-  apart : Fields (look_number s g (Array block)) 0 (rank_at s x) (x + 2 + rank_at s x) (product (shape_at s x))
+  apart : Fields (look_number s g (Ok (Array block))) 0 (rank_at s x) (x + 2 + rank_at s x) (product (shape_at s x))
   apart = rw (rank_is, count-is) (told 0 _ _ _ (omega arith) (omega (arith, inside.sized)) (omega (arith, inside.sized)))
 
   lengths-led : part s (x + 2 + rank_at s x - rank_at s x) (rank_at s x) ≡ shape_at s x
@@ -142,7 +144,7 @@ module _ (s : List ℕ) (g : ℕ) (block : SegmentAddress) (size : ℕ) (sized :
   unfolding elements_at
   elements-led = refl
 
-  array_apart : LookApart s g (Array block)
+  array_apart : LookApart s g (Ok (Array block))
   array_apart = record {
     status = apart.status-is;
     low = omega (arith, apart.rank_is, apart.first-is);
@@ -176,7 +178,7 @@ module _ (s regular alternate : List ℕ) (h : Accepted s regular alternate) (bl
 
 module _ (s regular alternate : List ℕ) (g : ℕ) where
   module _ (h : Accepted s regular alternate) (low : 8 ≤ g) (high : g < blockptr s) where
-    array_seen : (block : SegmentAddress) → kind_of (get_or s g 0) ≡ K.Array block → LookApart s g (Array block)
+    array_seen : (block : SegmentAddress) → kind_of (get_or s g 0) ≡ K.Array block → LookApart s g (Ok (Array block))
     array_seen block e =
         let n = names s regular alternate h block (get_or s g 0) e (h.globals g low high) in
         let place = array-place h.owned block.0 n.0 n.1 in
@@ -191,7 +193,7 @@ module _ (s regular alternate : List ℕ) (g : ℕ) where
     seen K.Invalid e = refused-apart s g 17
 
   global-seen : (b : Bool) → is_global s g ≡ b → Accepted s regular alternate
-      → LookApart s g (cond b (seen_as (get_or s g 0) (kind_of (get_or s g 0))) (Refused 21))
+      → LookApart s g (cond b (seen_as (get_or s g 0) (kind_of (get_or s g 0))) (Err 21))
   unfolding is_global
   global-seen true k h =
       let r = both (leb 8 g) (ltb g (blockptr s)) k in seen h (leb-true _ _ r.0) (ltb-true _ _ r.1) (kind_of (get_or s g 0)) refl

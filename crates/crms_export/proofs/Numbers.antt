@@ -11,21 +11,19 @@ use Rattle.segment.specs.Blocks.{part, size_at, rank_at}
 use Rattle.segment.specs.Parts.{within, shape_part, elements_part}
 use Rattle.storage_sheet.specs.declared.Sheet.{Sheet}
 use Rattle.manual.specs.Program.{Program}
-use Rattle.operations.specs.declared.Run.{Run}
-use Rattle.operations.specs.declared.Replayed.{Replayed}
-use Rattle.operations.specs.declared.Sheeted.{Sheeted}
-use Rattle.operations.specs.declared.Sheeted.TheVariants.{Summed}
-use Rattle.operations.specs.Answers.{sheet_status}
+use Rattle.std.proofs.Common.{Result, Ok}
+use Rattle.effects.specs.declared.Ran.{Ran}
+use Rattle.operations.specs.Answers.{Stop, status_of}
 use Rattle.operations.specs.Run.{Ended, ended}
 use Rattle.operations.specs.Replay.{replayed}
 use Rattle.operations.proofs.Replays.{all_set, tally-told}
 use Rattle.crms_export.specs.Numbers.{run_number, replay_number, sheet_counts}
 
-pub run-told : (number : ℕ) (answer : Run) (s : List ℕ) (e : Ended) → number ≡ run_number answer → ended answer s ≡ e
+pub run-told : (number : ℕ) (answer : Result Ran ℕ) (s : List ℕ) (e : Ended) → number ≡ run_number answer → ended answer s ≡ e
     → (number ≡ run_number e.answer) × (s ≡ e.words)
 run-told number answer s e same told = (same ∙ ap (λ (e : Ended). run_number e.answer) told, ap (λ (e : Ended). e.words) told)
 
-pub replay-told : (s : List ℕ) (p : Program) (file tally : List ℕ) {number : ℕ} {answer : Replayed} {t after : List ℕ} → number ≡ replay_number answer
+pub replay-told : (s : List ℕ) (p : Program) (file tally : List ℕ) {number : ℕ} {answer : Result (Unit {0}) Stop} {t after : List ℕ} → number ≡ replay_number answer
     → (answer ≡ (replayed s p file).answer) × ((t ≡ (replayed s p file).words) × (after ≡ sets tally 0 (replayed s p file).counts)) → length tally ≡ 8
     → (number ≡ replay_number (replayed s p file).answer) × ((t ≡ (replayed s p file).words) × (after ≡ (replayed s p file).counts))
 replay-told s p file tally same told eight = (same ∙ ap replay_number told.0, (told.1.0, tally-told s p file tally _ told.1.1 eight))
@@ -53,7 +51,7 @@ unfolding elements_part
 elements-short s a = omega (arith, within-short s (a + 2 + rank_at s a) (size_at s a - (rank_at s a + 2)))
 
 -- the five counts of a sheet, written over five words
-pub sums-told : (sums : Sheet) (answer : Sheeted) (old after : List ℕ) → Summed sums ≡ answer
+pub sums-told : (sums : Sheet) (answer : Result Sheet ℕ) (old after : List ℕ) → Ok sums ≡ answer
     → after ≡ sets old 0 (sums.arrays ∷ sums.slop ∷ sums.free ∷ sums.end ∷ sums.total ∷ []) → length old ≡ 5
-    → (0 ≡ sheet_status answer) × (after ≡ sheet_counts answer old)
+    → (0 ≡ status_of answer) × (after ≡ sheet_counts answer old)
 sums-told sums answer old after told written five = rw (← told) (refl, written ∙ all_set _ old five)

@@ -1,11 +1,11 @@
 // The operations for callers from C and Rust: include/crms.h says what each number means.
 #![tactic(auto)]
 
-ghost use Rattle.std.specs.Prelude.{◌≡◌, ◌<◌, ◌%◌, ◌^◌, length};
+ghost use Rattle.std.specs.Prelude.{◌≡◌, ◌<◌, ◌%◌, ◌^◌, length, Ok};
 ghost use Rattle.segment.specs.Parts.{shape_part, elements_part};
 ghost use Rattle.fresh_segment.specs.LayOut as layout;
 ghost use Rattle.manual.specs.Program.{program, under_manual};
-ghost use Rattle.operations.specs.Answers.{status_of, sheet_status};
+ghost use Rattle.operations.specs.Answers.{numbered, status_of, stopped};
 ghost use Rattle.operations.specs.Load as loading;
 ghost use Rattle.operations.specs.Look.{looked};
 ghost use Rattle.operations.specs.Replay.{replayed};
@@ -15,12 +15,13 @@ ghost use Rattle.operations.specs.declared.Looked.TheVariants as seen;
 ghost use Rattle.crms_export.specs.Numbers.{run_number, replay_number, look_number, sheet_counts};
 
 use descriptor::address::SegmentAddress;
+use effects::Ran;
 use engine::lay_out::lay_out;
 use engine::load::load;
 use engine::look::{elements, lengths, look};
 use engine::run::{run, run_with};
 use engine::sheet::sheet;
-use operations::{Answer, Looked, Replayed, Run, Sheeted};
+use operations::{Halt, Looked, Refusal};
 use operator::lent::manual_table;
 use replay::replay_into;
 use segment::put_all;
@@ -130,9 +131,9 @@ pub extern "C" fn crms_look(seg: &[u32], regular: &[u8], alternate: &[u8], globa
     ensures { result ≡ look_number seg.now global (looked seg.now regular.now alternate.now global) }
 {
     match look(seg, regular, alternate, global) {
-        Looked::Refused(number) => number as u64 * 0x1_0000_0000,
-        Looked::Scalar(_) => global as u64 * 0x4000 + 1,
-        Looked::Array(block) => array_number(seg, block),
+        Ok(Looked::Scalar(_)) => global as u64 * 0x4000 + 1,
+        Ok(Looked::Array(block)) => array_number(seg, block),
+        Err(why) => why.number() as u64 * 0x1_0000_0000,
     }
 }
 
@@ -144,46 +145,45 @@ pub extern "C" fn crms_sheet(
     alternate: &[u8],
     counts: &mut [u32; 5],
 ) -> u32
-    ensures value { result ≡ sheet_status (sheeted seg.now regular.now alternate.now) }
+    ensures value { result ≡ status_of (sheeted seg.now regular.now alternate.now) }
     ensures counts_after { counts.new
         ≡ sheet_counts (sheeted seg.now regular.now alternate.now) counts.old }
 {
     match sheet(seg, regular, alternate) {
-        Sheeted::Refused(number) => number as u32,
-        Sheeted::Summed(sums) => {
+        Ok(sums) => {
             let five = [sums.arrays, sums.slop, sums.free, sums.end, sums.total];
             put_all(counts, 0, &five);
             0
         }
+        Err(refusal) => refusal.number() as u32,
     }
 }
 
-fn status(answer: Answer) -> u32
-    ensures { result ≡ status_of answer }
+fn status(answer: Result<(), Refusal>) -> u32
+    ensures { result ≡ status_of (numbered answer) }
 {
     match answer {
-        Answer::Done => 0,
-        Answer::Refused(number) => number as u32,
+        Ok(()) => 0,
+        Err(refusal) => refusal.number() as u32,
     }
 }
 
-fn run_number(answer: Run) -> u64
-    ensures { result ≡ run_number answer }
+fn run_number(answer: Result<Ran, Refusal>) -> u64
+    ensures { result ≡ run_number (numbered answer) }
 {
     match answer {
-        Run::Done(steps) => 2 * 0x1_0000_0000 + steps as u64,
-        Run::Trapped(steps) => 3 * 0x1_0000_0000 + steps as u64,
-        Run::Refused(number) => number as u64 * 0x1_0000_0000,
+        Ok(Ran::Done(steps)) => 2 * 0x1_0000_0000 + steps as u64,
+        Ok(Ran::Trapped(steps)) => 3 * 0x1_0000_0000 + steps as u64,
+        Err(refusal) => refusal.number() as u64 * 0x1_0000_0000,
     }
 }
 
-fn replay_number(answer: Replayed) -> u64
-    ensures { result ≡ replay_number answer }
+fn replay_number(answer: Result<(), Halt>) -> u64
+    ensures { result ≡ replay_number (stopped answer) }
 {
     match answer {
-        Replayed::Done => 0,
-        Replayed::Halted(number, place) => number as u64 * 0x1_0000_0000 + low_half(place),
-        Replayed::Malformed(place) => 25 * 0x1_0000_0000 + low_half(place),
+        Ok(()) => 0,
+        Err(halt) => halt.number() as u64 * 0x1_0000_0000 + low_half(halt.place()),
     }
 }
 
@@ -194,7 +194,7 @@ fn low_half(place: usize) -> u64
 }
 
 fn array_number(seg: &[u32], block: SegmentAddress) -> u64
-    ensures { result ≡ look_number seg.now 0 (seen.Array block) }
+    ensures { result ≡ look_number seg.now 0 (Ok (seen.Array block)) }
 {
     let lengths = rank(seg, block);
     let first = block.number() as u64 + 2 + lengths;

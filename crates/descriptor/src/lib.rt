@@ -9,7 +9,7 @@ pub mod address;
 
 use address::{SegmentAddress, StackAddress};
 
-#[derive(Clone, Copy)]
+#[derive(Clone, Copy, PartialEq, Eq, Debug)]
 pub enum Scalar {
     Float {
         negative: bool,
@@ -24,14 +24,14 @@ pub enum Scalar {
 }
 
 // The variable that an indirect word names.
-#[derive(Clone, Copy)]
+#[derive(Clone, Copy, PartialEq, Eq, Debug)]
 pub enum Target {
     Local(StackAddress),
     Global(SegmentAddress),
 }
 
 // What a word says; `Invalid` where it is no descriptor.
-#[derive(Clone, Copy)]
+#[derive(Clone, Copy, PartialEq, Eq, Debug)]
 pub enum Kind {
     Scalar(Scalar),
     Array(SegmentAddress),
@@ -40,7 +40,7 @@ pub enum Kind {
     Invalid,
 }
 
-#[derive(Clone, Copy)]
+#[derive(Clone, Copy, PartialEq, Eq, Debug)]
 pub struct Descriptor(u32);
 
 impl Descriptor {

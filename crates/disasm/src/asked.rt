@@ -1,5 +1,5 @@
 // The table that operators are named by, as the arguments so far ask for it.
-use line_tool::bytes::{Counted, count, put_bytes};
+use line_tool::bytes::{count, put_bytes};
 use line_tool::command::is;
 use line_tool::fault::Fault;
 use line_tool::streams::STDERR;
@@ -7,9 +7,8 @@ use operator::lent::{is_table, manual_table};
 
 #[derive(Drop)]
 pub struct Asked {
-    pub table: [u8; 16],
-    // It was refused.
-    pub refused: bool,
+    // None where it was refused.
+    pub table: Option<[u8; 16]>,
     // The argument before was --table.
     pub option: bool,
 }
@@ -21,8 +20,7 @@ impl Asked {
 
     fn under(table: [u8; 16]) -> Asked {
         Asked {
-            table,
-            refused: false,
+            table: Some(table),
             option: false,
         }
     }
@@ -45,7 +43,7 @@ pub fn lent(word: &[u8]) -> Asked {
     if is(word, b"manual") {
         return Asked::manual();
     }
-    let Counted::Bytes(n) = count(word, 2048, Fault::LongTable) else {
+    let Ok(n) = count(word, 2048, Fault::LongTable) else {
         return refuse(
             b"not manual, and not bytes of two digits 0 to 9 and a to f each, 2048 at most, - for none",
         );
@@ -58,29 +56,17 @@ pub fn lent(word: &[u8]) -> Asked {
     if is_table(&places) {
         return Asked::under(places);
     }
-    if has_above(&places) {
+    if places.iter().any(|&place| 15 < place) {
         return refuse(b"refused 26, a byte above 15");
     }
     refuse(b"refused 26, a byte is repeated")
-}
-
-fn has_above(places: &[u8; 16]) -> bool {
-    let mut i = 0;
-    while i < 16 {
-        if 15 < places[i] {
-            return true;
-        }
-        i += 1;
-    }
-    false
 }
 
 fn refuse(why: &[u8]) -> Asked {
     complain(why);
     io::write_all(STDERR, b"; the files after it are not listed\n");
     Asked {
-        table: manual_table(),
-        refused: true,
+        table: None,
         option: false,
     }
 }

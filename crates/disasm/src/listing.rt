@@ -3,7 +3,7 @@ ghost use Rattle.std.specs.Prelude.{◌≡◌, ◌+◌, ◌^◌, ◌<◌};
 ghost use Rattle.procedure.specs.Headers.{code_end, code_of};
 
 use crate::text::{
-    array_name, control_name, field, flag, hex, jump_name, memory_name, number, number_right,
+    array_name, control_name, field, flag, hex, jump_name, memory, number, number_right,
     operator_name, say, stack_name, variable,
 };
 use descriptor::address::CodeAddress;
@@ -11,10 +11,11 @@ use instruction::family::{Family, family_of};
 use instruction::{Decoded, Instruction, Jump};
 use operator::lent::named;
 use procedure::bytes::{byte_at, word_at};
-use procedure::directory::{Function, entries, find};
-use procedure::header::{Block, Line};
+use procedure::directory::{entries, find};
+use procedure::header::Block;
 use procedure::refusal::{Fault, FunctionFault, fault_of};
 use reader::Reader;
+use trap::Trap;
 
 // A function as it is listed: its block, and the table that says which operator each suboperation means.
 #[derive(Clone, Copy)]
@@ -40,44 +41,42 @@ impl Shown {
 // All functions of a segment that the tests 11 and 12 accept; else what is wrong.
 pub fn segment(p: &[u8], table: [u8; 16]) {
     match fault_of(p) {
-        Fault::SegmentLength => say(b": refused 11, shorter than 4 bytes\n"),
-        Fault::Entries => say(b": refused 12, entry 0 or the number of entries\n"),
-        Fault::Function(k, wrong) => {
+        Err(Fault::SegmentLength) => say(b": refused 11, shorter than 4 bytes\n"),
+        Err(Fault::Entries) => say(b": refused 12, entry 0 or the number of entries\n"),
+        Err(Fault::Function(k, wrong)) => {
             say(b": refused 12, function ");
             number(k as u64);
             say(b", ");
-            reason(wrong);
+            say(reason(wrong));
+            say(b"\n");
         }
-        Fault::Nothing => {
+        Ok(()) => {
             say(b"\n");
             functions(p, table);
         }
     }
 }
 
-fn reason(wrong: FunctionFault) {
+fn reason(wrong: FunctionFault) -> &'static [u8] {
     match wrong {
-        FunctionFault::Start => say(b"its block starts in the directory\n"),
-        FunctionFault::End => say(b"its block ends past the segment\n"),
-        FunctionFault::Length => say(b"its length is not that of its header, code and lines\n"),
-        FunctionFault::UnnamedBits => say(b"bits 28-24 of its header are not zero\n"),
-        FunctionFault::Arguments => say(b"NARGS above 15\n"),
-        FunctionFault::ResultLocal => say(b"RESULT without a local\n"),
-        FunctionFault::Variables => say(b"NARGS + NLOCALS above 4096\n"),
+        FunctionFault::Start => b"its block starts in the directory",
+        FunctionFault::End => b"its block ends past the segment",
+        FunctionFault::Length => b"its length is not that of its header, code and lines",
+        FunctionFault::UnnamedBits => b"bits 28-24 of its header are not zero",
+        FunctionFault::Arguments => b"NARGS above 15",
+        FunctionFault::ResultLocal => b"RESULT without a local",
+        FunctionFault::Variables => b"NARGS + NLOCALS above 4096",
     }
 }
 
 fn functions(p: &[u8], table: [u8; 16]) {
-    let end = entries(p);
-    let mut k = 1;
-    while k < end {
+    for k in 1..entries(p) {
         function(p, table, k);
-        k += 1;
     }
 }
 
 fn function(p: &[u8], table: [u8; 16], k: u16) {
-    let Function::At(block) = find(p, k) else {
+    let Some(block) = find(p, k) else {
         return;
     };
     let h = block.header;
@@ -107,16 +106,13 @@ fn line_table(p: &[u8], block: Block) {
 }
 
 fn line_entries(p: &[u8], block: Block) {
-    let last = block.header.nlines as u32;
-    let mut i: u32 = 0;
-    while i < last {
-        i += 1;
+    for i in 1..=block.header.nlines as u32 {
         line_entry(p, block, i);
     }
 }
 
 fn line_entry(p: &[u8], block: Block, i: u32) {
-    let Line::At(place) = block.line(p, i) else {
+    let Some(place) = block.line(p, i) else {
         return;
     };
     say(b" ");
@@ -135,13 +131,13 @@ fn instructions(p: &[u8], shown: Shown) {
 }
 
 // The lines that start at a place, and what was found there.
-fn listed(p: &[u8], shown: Shown, at: CodeAddress, found: Decoded) {
+fn listed(p: &[u8], shown: Shown, at: CodeAddress, found: Result<Decoded, Trap>) {
     lines(p, shown.block, at.number());
     let code = shown.code(p);
     let table = shown.table;
     match found {
-        Decoded::Trap(class, n) => trapped(code, at.number(), class, n),
-        Decoded::Instruction(i, next) => decoded(code, table, at.number(), next.number(), i),
+        Ok(found) => decoded(code, table, at.number(), found),
+        Err(trap) => trapped(code, at.number(), trap),
     }
 }
 
@@ -150,7 +146,7 @@ fn past(at: CodeAddress, now: CodeAddress) -> CodeAddress
     requires { at.0 + 1 < 2 ^ 32 }
     ensures { at.0 < result.0 }
 {
-    if at.number() < now.number() {
+    if at < now {
         return now;
     }
     CodeAddress::of(at.number() + 1)
@@ -158,16 +154,13 @@ fn past(at: CodeAddress, now: CodeAddress) -> CodeAddress
 
 // The lines that start at a place.
 fn lines(p: &[u8], block: Block, at: u32) {
-    let last = block.header.nlines as u32;
-    let mut i: u32 = 0;
-    while i < last {
-        i += 1;
+    for i in 1..=block.header.nlines as u32 {
         line(p, block, i, at);
     }
 }
 
 fn line(p: &[u8], block: Block, i: u32, at: u32) {
-    let Line::At(place) = block.line(p, i) else {
+    let Some(place) = block.line(p, i) else {
         return;
     };
     if place.number() == at {
@@ -177,18 +170,18 @@ fn line(p: &[u8], block: Block, i: u32, at: u32) {
     }
 }
 
-fn trapped(code: &[u8], at: u32, class: u8, n: u8) {
+fn trapped(code: &[u8], at: u32, trap: Trap) {
     dump(code, at as usize, at as usize + 1);
     say(b"trap (");
-    number(class as u64);
+    number(trap.class as u64);
     say(b",");
-    number(n as u64);
+    number(trap.number as u64);
     say(b")\n");
 }
 
-fn decoded(code: &[u8], table: [u8; 16], at: u32, next: u32, i: Instruction) {
-    dump(code, at as usize, next as usize);
-    name(code, table, byte_at(code, at as usize), i);
+fn decoded(code: &[u8], table: [u8; 16], at: u32, found: Decoded) {
+    dump(code, at as usize, found.next.number() as usize);
+    name(code, table, byte_at(code, at as usize), found.instruction);
     say(b"\n");
 }
 
@@ -196,43 +189,39 @@ fn decoded(code: &[u8], table: [u8; 16], at: u32, next: u32, i: Instruction) {
 fn dump(code: &[u8], from: usize, to: usize) {
     number_right(from as u64);
     say(b"  ");
-    byte_column(code, from, to, 0);
-    byte_column(code, from, to, 1);
-    byte_column(code, from, to, 2);
-    byte_column(code, from, to, 3);
-    byte_column(code, from, to, 4);
+    for k in 0..5 {
+        byte_column(code, from, to, k);
+    }
     say(b" ");
 }
 
 fn byte_column(code: &[u8], from: usize, to: usize, k: usize) {
-    if from < to {
-        if k < to - from {
-            hex(byte_at(code, from + k) as u64, 2);
-            say(b" ");
-            return;
-        }
+    if k < to.saturating_sub(from) {
+        hex(byte_at(code, from + k) as u64, 2);
+        say(b" ");
+    } else {
+        say(b"   ");
     }
-    say(b"   ");
 }
 
 fn name(code: &[u8], table: [u8; 16], first: u8, i: Instruction) {
     match i {
         Instruction::Load(a) => {
-            load_name(family_of(first));
+            say(load_name(family_of(first)));
             variable(a);
         }
         Instruction::ShortConstant {
             negative,
             magnitude,
         } => short_constant(negative, magnitude),
-        Instruction::Scalar(o) => operator_name(named(&table, o)),
+        Instruction::Scalar(o) => say(operator_name(named(&table, o))),
         Instruction::Memory(o, a) => {
-            memory_name(o);
+            memory(o);
             variable(a);
         }
-        Instruction::Stack(o) => stack_name(o),
-        Instruction::Array(o) => array_name(o),
-        Instruction::Control(o) => control_name(o),
+        Instruction::Stack(o) => say(stack_name(o)),
+        Instruction::Array(o) => say(array_name(o)),
+        Instruction::Control(o) => say(control_name(o)),
         Instruction::Jump(o, to) => jump(o, to),
         Instruction::ConstantScalar(w) => {
             say(b"CONSTANT_SCALAR ");
@@ -254,11 +243,11 @@ fn name(code: &[u8], table: [u8; 16], first: u8, i: Instruction) {
     }
 }
 
-fn load_name(family: Family) {
+fn load_name(family: Family) -> &'static [u8] {
     match family {
-        Family::ShortLocal => say(b"SHORTLOCAL"),
-        Family::LongLocal => say(b"LONGLOCAL"),
-        _ => say(b"LONGGLOBAL"),
+        Family::ShortLocal => b"SHORTLOCAL",
+        Family::LongLocal => b"LONGLOCAL",
+        _ => b"LONGGLOBAL",
     }
 }
 
@@ -271,7 +260,7 @@ fn short_constant(negative: bool, magnitude: u32) {
 }
 
 fn jump(o: Jump, to: CodeAddress) {
-    jump_name(o);
+    say(jump_name(o));
     say(b" ");
     number(to.number() as u64);
 }
@@ -296,10 +285,8 @@ fn vector(code: &[u8], count: u8, words: CodeAddress) {
 fn elements(code: &[u8], count: u8, from: u64)
     requires { from < 2 ^ 32 }
 {
-    let mut j: u8 = 0;
-    while j < count {
+    for j in 0..count {
         word(code, from + 4 * j as u64);
-        j += 1;
     }
 }
 

@@ -21,15 +21,13 @@ use text::{number, say};
 
 fn main(rt: HostRuntime) {
     let mut asked = Asked::manual();
-    let mut k = 1;
-    while k < usize::MAX {
+    for k in 1..usize::MAX {
         let mut word = io::buffer();
         match rt.arg(k, &mut word) {
             Ok(n) => asked = argument(&rt, asked, &word[..n]),
             Err(FillError::TooLong) => asked = argument(&rt, asked, b""),
             Err(FillError::NotPresent) => break,
         }
-        k += 1;
     }
     asked.end();
 }
@@ -41,8 +39,7 @@ fn argument(rt: &impl Files<File = File>, asked: Asked, word: &[u8]) -> Asked {
     if is(word, b"--table") {
         return asked.at_option();
     }
-    if !asked.refused {
-        let table = asked.table;
+    if let Some(table) = asked.table {
         list_file(rt, word, table);
     }
     asked

@@ -19,17 +19,10 @@ pub fn hex(n: u64, width: usize) {
 
 // A number of at most five digits, set to the right.
 pub fn number_right(n: u64) {
-    if n < 10000 {
-        say(b" ");
-    }
-    if n < 1000 {
-        say(b" ");
-    }
-    if n < 100 {
-        say(b" ");
-    }
-    if n < 10 {
-        say(b" ");
+    for least in [10000, 1000, 100, 10] {
+        if n < least {
+            say(b" ");
+        }
     }
     number(n);
 }
@@ -62,40 +55,40 @@ pub fn variable(a: Address) {
     }
 }
 
-pub fn operator_name(o: Operator) {
+pub fn operator_name(o: Operator) -> &'static [u8] {
     match o {
         Operator::Monadic(m) => monadic_name(m),
         Operator::Dyadic(d) => dyadic_name(d),
     }
 }
 
-fn monadic_name(o: Monadic) {
+fn monadic_name(o: Monadic) -> &'static [u8] {
     match o {
-        Monadic::Identity => say(b"IDENTITY"),
-        Monadic::Negative => say(b"NEGATIVE"),
-        Monadic::Floor => say(b"FLOOR"),
-        Monadic::Ceiling => say(b"CEILING"),
-        Monadic::Magnitude => say(b"MAGNITUDE"),
-        Monadic::Not => say(b"NOT"),
-        Monadic::TestNumber => say(b"TEST_NUMBER"),
-        Monadic::Convert => say(b"CONVERT"),
+        Monadic::Identity => b"IDENTITY",
+        Monadic::Negative => b"NEGATIVE",
+        Monadic::Floor => b"FLOOR",
+        Monadic::Ceiling => b"CEILING",
+        Monadic::Magnitude => b"MAGNITUDE",
+        Monadic::Not => b"NOT",
+        Monadic::TestNumber => b"TEST_NUMBER",
+        Monadic::Convert => b"CONVERT",
     }
 }
 
-fn dyadic_name(o: Dyadic) {
+fn dyadic_name(o: Dyadic) -> &'static [u8] {
     match o {
-        Dyadic::Sum => say(b"SUM"),
-        Dyadic::Difference => say(b"DIFFERENCE"),
-        Dyadic::Product => say(b"PRODUCT"),
-        Dyadic::Quotient => say(b"QUOTIENT"),
-        Dyadic::LogicalProduct => say(b"LOGICAL_PRODUCT"),
-        Dyadic::LogicalSum => say(b"LOGICAL_SUM"),
-        Dyadic::Less => say(b"LESS"),
-        Dyadic::Equal => say(b"EQUAL"),
+        Dyadic::Sum => b"SUM",
+        Dyadic::Difference => b"DIFFERENCE",
+        Dyadic::Product => b"PRODUCT",
+        Dyadic::Quotient => b"QUOTIENT",
+        Dyadic::LogicalProduct => b"LOGICAL_PRODUCT",
+        Dyadic::LogicalSum => b"LOGICAL_SUM",
+        Dyadic::Less => b"LESS",
+        Dyadic::Equal => b"EQUAL",
     }
 }
 
-pub fn memory_name(o: MemoryOperation) {
+pub fn memory(o: MemoryOperation) {
     match o {
         MemoryOperation::AssignIndexed(rank) => {
             say(b"ASSIGN_INDEXED rank ");
@@ -108,40 +101,40 @@ pub fn memory_name(o: MemoryOperation) {
     }
 }
 
-pub fn stack_name(o: StackOperation) {
+pub fn stack_name(o: StackOperation) -> &'static [u8] {
     match o {
-        StackOperation::Undefined => say(b"UNDEFINED"),
-        StackOperation::Eat1 => say(b"EAT1"),
-        StackOperation::Interchange => say(b"INTERCHANGE"),
-        StackOperation::SetOrigin => say(b"SETORIGIN"),
-        StackOperation::GetOrigin => say(b"GETORIGIN"),
+        StackOperation::Undefined => b"UNDEFINED",
+        StackOperation::Eat1 => b"EAT1",
+        StackOperation::Interchange => b"INTERCHANGE",
+        StackOperation::SetOrigin => b"SETORIGIN",
+        StackOperation::GetOrigin => b"GETORIGIN",
     }
 }
 
-pub fn array_name(o: ArrayOperation) {
+pub fn array_name(o: ArrayOperation) -> &'static [u8] {
     match o {
-        ArrayOperation::Shape => say(b"SHAPE"),
-        ArrayOperation::Reshape => say(b"RESHAPE"),
-        ArrayOperation::Ravel => say(b"RAVEL"),
-        ArrayOperation::Catenate => say(b"CATENATE"),
-        ArrayOperation::IndexGenerator => say(b"INDEX_GENERATOR"),
+        ArrayOperation::Shape => b"SHAPE",
+        ArrayOperation::Reshape => b"RESHAPE",
+        ArrayOperation::Ravel => b"RAVEL",
+        ArrayOperation::Catenate => b"CATENATE",
+        ArrayOperation::IndexGenerator => b"INDEX_GENERATOR",
     }
 }
 
-pub fn control_name(o: ControlOperation) {
+pub fn control_name(o: ControlOperation) -> &'static [u8] {
     match o {
-        ControlOperation::Branch => say(b"BRANCH"),
-        ControlOperation::Return => say(b"RETURN"),
-        ControlOperation::NoOperation => say(b"NO_OPERATION"),
-        ControlOperation::Breakpoint => say(b"BREAKPOINT"),
-        ControlOperation::Attention => say(b"ATTENTION"),
+        ControlOperation::Branch => b"BRANCH",
+        ControlOperation::Return => b"RETURN",
+        ControlOperation::NoOperation => b"NO_OPERATION",
+        ControlOperation::Breakpoint => b"BREAKPOINT",
+        ControlOperation::Attention => b"ATTENTION",
     }
 }
 
-pub fn jump_name(o: Jump) {
+pub fn jump_name(o: Jump) -> &'static [u8] {
     match o {
-        Jump::Go => say(b"GO"),
-        Jump::GoTrue => say(b"GO_TRUE"),
-        Jump::GoFalse => say(b"GO_FALSE"),
+        Jump::Go => b"GO",
+        Jump::GoTrue => b"GO_TRUE",
+        Jump::GoFalse => b"GO_FALSE",
     }
 }

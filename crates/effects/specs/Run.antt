@@ -1,9 +1,10 @@
 -- At most a given number of instructions. Document 01's table: 2 and the steps where the number asked was done, 3 and the steps
 -- at a trap. Steps count finished instructions, the one before a step or trace trap among them. Assumes nothing.
-use Rattle.std.specs.Prelude.{ℕ, zero, suc, ◌+◌, List, set}
+use Rattle.std.specs.Prelude.{ℕ, zero, suc, ◌+◌, List, set, Result, Ok, Err}
+use Rattle.trap.specs.declared.Trap.{Trap}
 use Rattle.manual.specs.Program.{Program}
 use Rattle.effects.specs.declared.Stepped.{Stepped}
-use Rattle.effects.specs.declared.Stepped.TheVariants.{Finished, Traced, Trapped}
+use Rattle.effects.specs.declared.Stepped.TheVariants.{Finished, Traced}
 use Rattle.effects.specs.declared.Ran.{Ran}
 use Rattle.effects.specs.declared.Ran.TheVariants as R
 use Rattle.effects.specs.Step.{step_of}
@@ -16,10 +17,10 @@ abbrev pub run_result : Ran → List ℕ → RunResult
 run_result answer s = record { answer = answer; words = s }
 
 -- What follows a step that answered so, `steps` instructions having finished before it.
-abbrev pub following : ℕ → Stepped → List ℕ → (List ℕ → RunResult) → RunResult
-following steps Finished s more = more s
-following steps (Traced class number) s more = run_result (R.Trapped (steps + 1)) s
-following steps (Trapped class number) s more = run_result (R.Trapped steps) s
+abbrev pub following : ℕ → Result Stepped Trap → List ℕ → (List ℕ → RunResult) → RunResult
+following steps (Ok Finished) s more = more s
+following steps (Ok (Traced trap)) s more = run_result (R.Trapped (steps + 1)) s
+following steps (Err trap) s more = run_result (R.Trapped steps) s
 
 unfoldable pub steps_from : ℕ → ℕ → Program → List ℕ → RunResult
 steps_from zero steps p s = run_result (R.Done steps) s

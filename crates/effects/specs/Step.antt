@@ -1,10 +1,11 @@
 -- A step on words: fetch, plan, do, and then the step and trace traps. Document 01, "Meanings fixed here": fetch traps first;
 -- (1,2) last; "(2,1) and (2,2) come after a finished, counted instruction; both due: (2,2). Call trace goes by FCNCTRC and the
 -- called header, return trace by FCNRTRC"; decision 16 for (2,3). Assumes nothing.
-use Rattle.std.specs.Prelude.{ℕ, ◌%◌, ◌^◌, Bool, cond, ◌&&◌, List, eqb}
+use Rattle.std.specs.Prelude.{ℕ, ◌%◌, ◌^◌, Bool, cond, ◌&&◌, List, eqb, Option, Some, None, Result, Ok, Err}
+use Rattle.trap.specs.Trap.{trap_of}
+use Rattle.trap.specs.declared.Trap.{Trap}
 use Rattle.procedure.specs.declared.header.Header.{Header}
-use Rattle.procedure.specs.declared.directory.Function.{Function}
-use Rattle.procedure.specs.declared.directory.Function.TheVariants as F
+use Rattle.procedure.specs.declared.header.Block.{Block}
 use Rattle.procedure.specs.Directory.{selected, function_of, header_of_function}
 use Rattle.segment.specs.State.{lbase, flags, fcnctrc, fcnrtrc, step_flag, set_trap}
 use Rattle.segment.specs.Stack as stack
@@ -16,14 +17,14 @@ use Rattle.effects.specs.declared.Outcome.{Outcome}
 use Rattle.effects.specs.declared.Outcome.TheVariants as O
 use Rattle.effects.specs.Carried.{Carried, carry}
 use Rattle.effects.specs.declared.Stepped.{Stepped}
-use Rattle.effects.specs.declared.Stepped.TheVariants.{Finished, Traced, Trapped}
+use Rattle.effects.specs.declared.Stepped.TheVariants.{Finished, Traced}
 
 -- What a step answers, and the segment after it.
 pub record StepResult : Type 0 where
-  pub answer : Stepped
+  pub answer : Result Stepped Trap
   pub words : List ℕ
 
-abbrev pub step_result : Stepped → List ℕ → StepResult
+abbrev pub step_result : Result Stepped Trap → List ℕ → StepResult
 step_result answer s = record { answer = answer; words = s }
 
 -- ---- the current frame
@@ -49,23 +50,20 @@ abbrev pub due : List ℕ → List ℕ → Bool → Outcome → List ℕ → ℕ
 due regular alternate rtntrace O.Finished s = step_flag (flags s)
 due regular alternate rtntrace O.Entered s = due_if (eqb (fcnctrc (flags s)) 1 && (current_header regular alternate s).calltrace) 2 s
 due regular alternate rtntrace O.Left s = due_if (eqb (fcnrtrc (flags s)) 1 && rtntrace) 3 s
-due regular alternate rtntrace (O.Trapped class number) s = 0
 
 -- ---- the step
 
 -- The instruction traps: everything but the trap word is unchanged. Class and number have eight bits each.
 abbrev pub trapped : List ℕ → ℕ → ℕ → StepResult
-trapped s class number = step_result (Trapped class number) (set_trap s (class % 2 ^ 8) (number % 2 ^ 8))
+trapped s class number = step_result (Err (trap_of class number)) (set_trap s (class % 2 ^ 8) (number % 2 ^ 8))
 
 -- It is done and counted; what is due comes after.
 abbrev pub finished : ℕ → List ℕ → StepResult
-finished due s = cond (eqb due 0) (step_result Finished s) (step_result (Traced 2 due) (set_trap s 2 due))
+finished due s = cond (eqb due 0) (step_result (Ok Finished) s) (step_result (Ok (Traced (trap_of 2 due))) (set_trap s 2 due))
 
-abbrev pub settled : List ℕ → List ℕ → Bool → Outcome → List ℕ → StepResult
-settled regular alternate rtntrace (O.Trapped class number) s = trapped s class number
-settled regular alternate rtntrace O.Finished s = finished (due regular alternate rtntrace O.Finished s) s
-settled regular alternate rtntrace O.Entered s = finished (due regular alternate rtntrace O.Entered s) s
-settled regular alternate rtntrace O.Left s = finished (due regular alternate rtntrace O.Left s) s
+abbrev pub settled : List ℕ → List ℕ → Bool → Result Outcome Trap → List ℕ → StepResult
+settled regular alternate rtntrace (Err trap) s = trapped s trap.class trap.number
+settled regular alternate rtntrace (Ok outcome) s = finished (due regular alternate rtntrace outcome s) s
 
 abbrev pub settle : List ℕ → List ℕ → Bool → Carried → StepResult
 settle regular alternate rtntrace c = settled regular alternate rtntrace c.outcome c.words
@@ -76,9 +74,9 @@ step_in f s =
     (carry s (plan_at f (seen s) (pctr (code_word_at s (lbase s)))))
 
 -- The function of the current frame; one outside its bounds is (3,1).
-abbrev pub step_found : Program → List ℕ → Bool → Function → StepResult
-step_found p s selector (F.At block) = step_in (running p selector block) s
-step_found p s selector F.Absent = trapped s 3 1
+abbrev pub step_found : Program → List ℕ → Bool → Option Block → StepResult
+step_found p s selector (Some block) = step_in (running p selector block) s
+step_found p s selector None = trapped s 3 1
 
 unfoldable pub step_of : Program → List ℕ → StepResult
 step_of p s = step_found p s (selector_of s) (function_of (selected (selector_of s) p.regular p.alternate) (current_function s))

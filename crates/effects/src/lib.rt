@@ -1,21 +1,22 @@
 // What an instruction, a step and a run answer. The effects of instructions on the words of a data segment are definitions, in specs/.
 #![tactic(auto)]
 
-// What an instruction did. After `Trapped` no word has changed.
+use trap::Trap;
+
+// What an instruction did. It answers a `Result`: after a trap no word has changed.
 #[derive(Clone, Copy)]
 pub enum Outcome {
     Finished,
     Entered,
     Left,
-    Trapped(u8, u8),
 }
 
-// What a step did. After `Traced` the instruction has finished; after `Trapped` nothing but the trap word has changed.
+// What a step did. After `Traced` the instruction has finished. A step answers a `Result`: after a trap nothing but the trap word
+// has changed.
 #[derive(Clone, Copy)]
 pub enum Stepped {
     Finished,
-    Traced(u8, u8),
-    Trapped(u8, u8),
+    Traced(Trap),
 }
 
 // How a run ended, with the number of instructions that finished.

@@ -10,10 +10,11 @@ use Rattle.manual.specs.OrTrap.{gives}
 use Rattle.manual.specs.Effects.{variable, operand, made, Effect, replaces, jumps}
 use Rattle.effects.specs.Sources.{held_at, operand_at}
 use Rattle.effects.specs.Perform.{replace, store_at, store, perform, performs, none_for, is_full, first_full}
-use Rattle.effects.specs.declared.Outcome.TheVariants.{Trapped}
 use Rattle.effects.specs.Carried.{did, outcome_of, carry}
-use Rattle.effects_code.specs.declared.Done.TheVariants as D
-use Rattle.effects_code.specs.Done.{replace_shared, store_shared, full_or_done, attempt}
+use Rattle.std.specs.Prelude.{Ok, Err}
+use Rattle.trap.specs.Trap.{trap_of}
+use Rattle.trap.specs.declared.Trap.{Trap}
+use Rattle.effects_code.specs.Done.{replace_shared, store_shared, answered, full_or_done, attempt}
 use Rattle.effects_code.proofs.Placing.{full-by-need}
 
 -- ---- effects by their words
@@ -33,20 +34,20 @@ full-made s n shape ravel place = full-by-need s shape ravel (replaces n (made s
 
 -- by the code's answer to the first effect
 module _ (s : List ℕ) (e : Effect) (es : List Effect) where
-  pub carry-refused : D.Full ≡ full_or_done s e → did (Trapped 1 2) (attempt s e) ≡ carry s (gives (e ∷ es))
+  pub carry-refused : {trap : Trap} → Err trap ≡ full_or_done s e → did (Err trap) (attempt s e) ≡ carry s (gives (e ∷ es))
   unfolding full_or_done attempt
-  carry-refused full = by-test (is_full s e) full
+  carry-refused {trap} full = by-test (is_full s e) full
     where
-      by-test : (b : Bool) → D.Full ≡ cond b D.Full D.Done
-          → did (Trapped 1 2) (cond b s (perform s e)) ≡ cond b (did (Trapped 1 2) s) (did (outcome_of (e ∷ es)) (performs (perform s e) es))
-      by-test true same = refl
+      by-test : (b : Bool) → Err trap ≡ answered b
+          → did (Err trap) (cond b s (perform s e)) ≡ cond b (did (Err (trap_of 1 2)) s) (did (Ok (outcome_of (e ∷ es))) (performs (perform s e) es))
+      by-test true same = cc
       by-test false same = cc
 
-  pub carry-served : D.Done ≡ full_or_done s e → did (outcome_of (e ∷ es)) (performs (attempt s e) es) ≡ carry s (gives (e ∷ es))
+  pub carry-served : {done : Unit} → Ok done ≡ full_or_done s e → did (Ok (outcome_of (e ∷ es))) (performs (attempt s e) es) ≡ carry s (gives (e ∷ es))
   unfolding full_or_done attempt
-  carry-served done = by-test (is_full s e) done
+  carry-served {done} served = by-test (is_full s e) served
     where
-      by-test : (b : Bool) → D.Done ≡ cond b D.Full D.Done
-          → did (outcome_of (e ∷ es)) (performs (cond b s (perform s e)) es) ≡ cond b (did (Trapped 1 2) s) (did (outcome_of (e ∷ es)) (performs (perform s e) es))
+      by-test : (b : Bool) → Ok done ≡ answered b
+          → did (Ok (outcome_of (e ∷ es))) (performs (cond b s (perform s e)) es) ≡ cond b (did (Err (trap_of 1 2)) s) (did (Ok (outcome_of (e ∷ es))) (performs (perform s e) es))
       by-test true same = cc
       by-test false same = refl

@@ -14,8 +14,9 @@ use Rattle.effects.specs.Sources.{address_of}
 use Rattle.effects.specs.Perform.{block_of, store, unshare, write_element, replace, store_element, wanted, is_full}
 use Rattle.effects.specs.Seen.{whole}
 use Rattle.operands.proofs.Whole.{whole-facts}
-use Rattle.effects_code.specs.declared.Done.TheVariants as D
-use Rattle.effects_code.specs.Done.{full_or_done, attempt, Held, writing, copied}
+use Rattle.std.specs.Prelude.{Ok, Err}
+use Rattle.trap.specs.declared.Trap.{Trap}
+use Rattle.effects_code.specs.Done.{answered, full_or_done, attempt, Held, writing, copied}
 use Rattle.effects_code.proofs.Placing.{full-by-need}
 
 -- the words of a list kept at the start of another
@@ -41,7 +42,7 @@ module _ (s : List ℕ) (t : Target) (a : ℕ) (held : Held s t a) where
   elements-few short = let facts = whole-facts s a held_whole in omega arith
 
   -- held by no other cell
-  pub alone : count_at s a < 2 → (D.Done ≡ full_or_done s (writing t)) × (s ≡ copied s t)
+  pub alone : count_at s a < 2 → (Ok tt ≡ full_or_done s (writing t)) × (s ≡ copied s t)
   unfolding full_or_done copied unshare
   alone few =
       let one : leb 2 (count_at s (block_of s (address_of s t))) ≡ false = rw (← held.there) (lt-leb _ _ few) in
@@ -67,7 +68,7 @@ module _ (s : List ℕ) (t : Target) (a : ℕ) (held : Held s t a) where
 
     same_answer : full_or_done s copying ≡ full_or_done s (writing t)
     unfolding full_or_done
-    same_answer = ap (λ (full : Bool). cond full D.Full D.Done) shared-full
+    same_answer = ap answered shared-full
 
     same-words : attempt s copying ≡ copied s t
     unfolding attempt copied
@@ -84,18 +85,18 @@ module _ (s : List ℕ) (t : Target) (at w n : ℕ) where
   abbrev storing : Effect
   storing = stores_element t at w n
 
-  pub element-full : D.Full ≡ full_or_done s (writing t) → (D.Full ≡ full_or_done s storing) × (copied s t ≡ attempt s storing)
+  pub element-full : {trap : Trap} → Err trap ≡ full_or_done s (writing t) → (Err trap ≡ full_or_done s storing) × (copied s t ≡ attempt s storing)
   unfolding full_or_done copied attempt
-  element-full full = by-test (is_full s (writing t)) full
+  element-full {trap} full = by-test (is_full s (writing t)) full
     where
-      by-test : (b : Bool) → D.Full ≡ cond b D.Full D.Done → (D.Full ≡ cond b D.Full D.Done) × (cond b s (unshare s (address_of s t)) ≡ cond b s (store_element s t at w n))
-      by-test true e = (refl, refl)
+      by-test : (b : Bool) → Err trap ≡ answered b → (Err trap ≡ answered b) × (cond b s (unshare s (address_of s t)) ≡ cond b s (store_element s t at w n))
+      by-test true e = (e, refl)
       by-test false e = (cc, cc)
 
-  pub element-done : D.Done ≡ full_or_done s (writing t) → (D.Done ≡ full_or_done s storing) × (replace (write_element (copied s t) (address_of s t) at w) n (variable t) ≡ attempt s storing)
+  pub element-done : {done : Unit} → Ok done ≡ full_or_done s (writing t) → (Ok done ≡ full_or_done s storing) × (replace (write_element (copied s t) (address_of s t) at w) n (variable t) ≡ attempt s storing)
   unfolding full_or_done copied attempt store_element
-  element-done done = by-test (is_full s (writing t)) done
+  element-done {done} served = by-test (is_full s (writing t)) served
     where
-      by-test : (b : Bool) → D.Done ≡ cond b D.Full D.Done → (D.Done ≡ cond b D.Full D.Done) × (replace (write_element (cond b s (unshare s (address_of s t))) (address_of s t) at w) n (variable t) ≡ cond b s (replace (write_element (unshare s (address_of s t)) (address_of s t) at w) n (variable t)))
+      by-test : (b : Bool) → Ok done ≡ answered b → (Ok done ≡ answered b) × (replace (write_element (cond b s (unshare s (address_of s t))) (address_of s t) at w) n (variable t) ≡ cond b s (replace (write_element (unshare s (address_of s t)) (address_of s t) at w) n (variable t)))
       by-test true e = (cc, cc)
-      by-test false e = (refl, refl)
+      by-test false e = (e, refl)

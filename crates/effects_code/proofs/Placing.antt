@@ -1,5 +1,6 @@
 -- An effect that asks for a block for an array, as the code meets it: more asked for than the longest segment has, no block
 -- found, or a block, whose address fits a descriptor in a segment of 32-bit words.
+use Rattle.std.specs.Prelude.{Some, None}
 use Prim.Native.Nat.{ℕ, zero, suc, ◌+◌, ◌-◌, ◌^◌, ◌<◌, ◌≤◌}
 use mathlib.Core.Path.{◌≡◌, refl, ◌∙◌}
 use mathlib.Core.Bool.{Bool, true, false, cond, ◌||◌}
@@ -9,39 +10,30 @@ use mir.Syntax.{w32}
 use mir.Val.{Fits}
 use lib.ListN.{get_or, set, length}
 use lib.Dec.{ltb, leb, eqb}
-use borrow.Author.Tests.{eqb-true, eq-eqb, ne_eqb, lt-ltb, le-ltb}
+use borrow.Author.Tests.{eq-eqb, ne_eqb, lt-ltb, le-ltb}
 use Rattle.descriptor.specs.declared.Target.{Target}
 use Rattle.descriptor.specs.declared.address.SegmentAddress.{SegmentAddress}
-use Rattle.descriptor.specs.Kinds.{segment}
 use Rattle.descriptor.specs.Fields.{array_word}
 use Rattle.segment.specs.State.{rover}
 use Rattle.segment.specs.Blocks.{size_at, next_at, need}
-use Rattle.storage.specs.declared.request.Found.TheVariants.{At, Full}
 use Rattle.storage.specs.Found.{found}
 use Rattle.storage.specs.Request.{find_from, find, given, request_at}
 use Rattle.storage.specs.Arrays.{place, place_at, drop_word, drop_words}
-use Rattle.storage.proofs.Placing.{at_some}
+use Rattle.storage.proofs.Requests.{full-zero, at_some}
 use Rattle.manual.specs.Effects.{made, Effect}
 use Rattle.effects.specs.Sources.{address_of, held_at}
 use Rattle.effects.specs.Perform.{bottom_of, finish, replace, store_at, store, perform, wanted, none_for, is_full}
-use Rattle.effects_code.specs.declared.Done.TheVariants as D
+use Rattle.std.specs.Prelude.{Ok, Err}
+use Rattle.trap.specs.Trap.{trap_of}
 use Rattle.effects_code.specs.Done.{full_or_done, attempt}
-
-full-zero : (a : ℕ) → found a ≡ Full → a ≡ 0
-unfolding found
-full-zero a full = by-test (eqb a 0) refl full
-  where
-    by-test : (b : Bool) → eqb a 0 ≡ b → cond b Full (At (segment a)) ≡ Full → a ≡ 0
-    by-test true e full = eqb-true a 0 e
-    by-test false e full = let never : ◌≡◌ {A = ℕ} 0 1 = cc in omega arith
 
 -- an effect by whether there is room
 module _ (s : List ℕ) (e : Effect) where
-  kept : is_full s e ≡ true → (D.Full ≡ full_or_done s e) × (s ≡ attempt s e)
+  kept : is_full s e ≡ true → (Err (trap_of 1 2) ≡ full_or_done s e) × (s ≡ attempt s e)
   unfolding full_or_done attempt
   kept full = (rw full, rw full)
 
-  done : is_full s e ≡ false → (D.Done ≡ full_or_done s e) × (perform s e ≡ attempt s e)
+  done : is_full s e ≡ false → (Ok tt ≡ full_or_done s e) × (perform s e ≡ attempt s e)
   unfolding full_or_done attempt
   done room = (rw room, rw room)
 
@@ -50,10 +42,10 @@ module _ (s shape ravel : List ℕ) (e : Effect) (asks : wanted s e ≡ need sha
   pub full-by-need : is_full s e ≡ none_for s (need shape ravel)
   full-by-need = rw asks (simp (ne_eqb (need shape ravel) 0 (λ none. omega arith)))
 
-  pub long_kept : 16384 < need shape ravel → (D.Full ≡ full_or_done s e) × (s ≡ attempt s e)
+  pub long_kept : 16384 < need shape ravel → (Err (trap_of 1 2) ≡ full_or_done s e) × (s ≡ attempt s e)
   long_kept more = kept s e (full-by-need ∙ simp (lt-ltb _ _ more))
 
-  pub none_kept : found (place_at s shape ravel) ≡ Full → (D.Full ≡ full_or_done s e) × (place s shape ravel ≡ attempt s e)
+  pub none_kept : found (place_at s shape ravel) ≡ None → (Err (trap_of 1 2) ≡ full_or_done s e) × (place s shape ravel ≡ attempt s e)
   unfolding place place_at
   none_kept none =
       let still = kept s e (full-by-need ∙ by-test (ltb 16384 (need shape ravel))) in
@@ -63,13 +55,13 @@ module _ (s shape ravel : List ℕ) (e : Effect) (asks : wanted s e ≡ need sha
       by-test true = refl
       by-test false = eq-eqb _ _ (full-zero _ none)
 
-  pub found-done : (block : SegmentAddress) → need shape ravel ≤ 16384 → found (place_at s shape ravel) ≡ At block
-      → (D.Done ≡ full_or_done s e) × (perform s e ≡ attempt s e)
+  pub found-done : (block : SegmentAddress) → need shape ravel ≤ 16384 → found (place_at s shape ravel) ≡ Some block
+      → (Ok tt ≡ full_or_done s e) × (perform s e ≡ attempt s e)
   unfolding place_at
   found-done block little at = done s e (full-by-need ∙ simp (le-ltb _ _ little, ne_eqb _ _ (at_some _ block at).0))
 
 -- the words after a block is found
-module _ (s shape ravel : List ℕ) (block : SegmentAddress) (at : found (place_at s shape ravel) ≡ At block) where
+module _ (s shape ravel : List ℕ) (block : SegmentAddress) (at : found (place_at s shape ravel) ≡ Some block) where
   pub replace-block : (n : ℕ) → finish (drop_words n (place s shape ravel) (bottom_of s n)) (bottom_of s n) (array_word block.0) ≡ replace s n (made shape ravel)
   unfolding replace
   replace-block n = rw (← (at_some _ block at).1)
@@ -104,6 +96,6 @@ module _ (s : List ℕ) (words : (i : ℕ) → Fits w32 (get_or s i 0)) where
   unfolding request_at
   request-below size = cond_below (2 ^ 17) (eqb (find s size) 0) 0 _ (omega arith) (given_below (find s size) size (find-below size))
 
-  pub block-below : (shape ravel : List ℕ) (block : SegmentAddress) → found (place_at s shape ravel) ≡ At block → block.0 < 2 ^ 24
+  pub block-below : (shape ravel : List ℕ) (block : SegmentAddress) → found (place_at s shape ravel) ≡ Some block → block.0 < 2 ^ 24
   unfolding place_at
   block-below shape ravel block at = omega (arith, request-below (need shape ravel), (at_some _ block at).1)

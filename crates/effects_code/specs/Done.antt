@@ -1,6 +1,8 @@
 -- Effects as the code does them: a result that is there already, by its word; and an effect that asks for a block, done, or full
 -- and nothing changed. proofs/Carrying has the laws that instructions go by. Assumes nothing.
-use Rattle.std.specs.Prelude.{ℕ, ◌≡◌, true, cond, List, ◌++◌, set}
+use Rattle.std.specs.Prelude.{ℕ, ◌≡◌, Bool, true, cond, List, ◌++◌, set, Result, Ok, Err}
+use Rattle.trap.specs.Trap.{trap_of}
+use Rattle.trap.specs.declared.Trap.{Trap}
 use Rattle.descriptor.specs.declared.Target.{Target}
 use Rattle.storage.specs.Arrays.{share, drop_word, drop_words}
 use Rattle.segment.specs.declared.blocks.Part.{Part}
@@ -9,8 +11,6 @@ use Rattle.manual.specs.Effects.{Effect, made, replaces, stores_element}
 use Rattle.effects.specs.Sources.{address_of, held_at}
 use Rattle.effects.specs.Perform.{bottom_of, finish, block_of, unshare, perform, is_full}
 use Rattle.effects.specs.Seen.{whole}
-use Rattle.effects_code.specs.declared.Done.{Done}
-use Rattle.effects_code.specs.declared.Done.TheVariants as D
 
 -- `w` is held by one cell more: the operand in the place of n others, or the variable in the place of its old word.
 unfoldable pub replace_shared : List ℕ → ℕ → ℕ → List ℕ
@@ -19,9 +19,12 @@ replace_shared s n w = finish (drop_words n (share s w) (bottom_of s n)) (bottom
 unfoldable pub store_shared : List ℕ → Target → ℕ → List ℕ
 store_shared s t w = drop_word (set (share s w) (address_of s t) w) (held_at s t)
 
--- An effect that may ask for a block: the answer, and the words after it.
-unfoldable pub full_or_done : List ℕ → Effect → Done
-full_or_done s e = cond (is_full s e) D.Full D.Done
+-- An effect that may ask for a block: done, or the trap (1,2) where there is none; and the words after it.
+abbrev pub answered : Bool → Result Unit Trap
+answered full = cond full (Err (trap_of 1 2)) (Ok tt)
+
+unfoldable pub full_or_done : List ℕ → Effect → Result Unit Trap
+full_or_done s e = answered (is_full s e)
 
 unfoldable pub attempt : List ℕ → Effect → List ℕ
 attempt s e = cond (is_full s e) s (perform s e)

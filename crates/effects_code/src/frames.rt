@@ -7,13 +7,12 @@ ghost use Rattle.segment.specs.Stack as stack;
 ghost use Rattle.manual.specs.Effects as manual;
 ghost use Rattle.effects.specs.Perform as effect;
 
-use super::taking::{drop_from, frame, frame_cell, top};
+use super::taking::{frame, frame_cell, top};
 use descriptor::Descriptor;
 use descriptor::address::{SegmentAddress, StackAddress};
-use elements::copies::fill;
 use segment::state::{lbase, set_lbase, set_ltop, top_cell};
-use segment::{low, minus, put, word};
-use storage::share;
+use segment::{low, put, word};
+use storage::{drop_cells, share};
 
 // A new frame on top of the arguments: undefined locals, last LBASE, the function's word.
 pub fn enter(seg: &mut [u32], nlocals: u32, function: u32)
@@ -33,7 +32,7 @@ fn lay(seg: &mut [u32], start: usize, nlocals: u32, last: u32, function: u32)
     ensures { seg.new ≡ sets seg.old start (replicate nlocals undefined_word ++ (last ∷ function ∷ [])) }
 {
     let end = start + nlocals as usize;
-    fill(Descriptor::UNDEFINED, &mut seg[start..end]);
+    seg[start..end].fill(Descriptor::UNDEFINED);
     put(seg, end, last);
     put(seg, end + 1, function);
 }
@@ -57,8 +56,8 @@ fn leave_with(seg: &mut [u32], n: u32)
     let start = below(seg, n);
     let w = result_word(seg);
     share(seg, w);
-    drop_from(seg, start, n);
-    set_frame(seg, minus(frame, n), last);
+    drop_cells(seg, start, n);
+    set_frame(seg, frame.saturating_sub(n), last);
     put(seg, start.index(), w);
 }
 
@@ -68,8 +67,8 @@ fn leave_without(seg: &mut [u32], n: u32)
     let frame = frame(seg) as u32;
     let last = last_lbase(seg) as u32;
     let lowest = below(seg, n);
-    drop_from(seg, lowest, n);
-    set_frame(seg, minus(minus(frame, n), 1), last);
+    drop_cells(seg, lowest, n);
+    set_frame(seg, frame.saturating_sub(n).saturating_sub(1), last);
 }
 
 // What the result variable of the current frame holds: the highest of those under its two words.
@@ -83,7 +82,7 @@ pub fn result_word(seg: &[u32]) -> u32
 fn below(seg: &[u32], n: u32) -> SegmentAddress
     ensures { result.0 ≡ effect.leaving_start seg.now n }
 {
-    SegmentAddress::of(minus(frame_cell(seg).number(), n))
+    SegmentAddress::of(frame_cell(seg).number().saturating_sub(n))
 }
 
 // Last LBASE of the current frame, of which LBASE has room for sixteen bits.

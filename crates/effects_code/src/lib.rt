@@ -1,13 +1,7 @@
-// The effects of which instructions are made, done on a lent data segment.
+// The effects of which instructions are made, done on a lent data segment. One that asks for storage is done, or is the trap (1,2)
+// and no word has changed.
 #![tactic(auto)]
 
 pub mod frames;
 pub mod storing;
 pub mod taking;
-
-// Whether an effect that asks for storage was done; where it was not, no word has changed.
-#[derive(Clone, Copy)]
-pub enum Done {
-    Done,
-    Full,
-}

@@ -4,16 +4,15 @@ ghost use Rattle.manual.specs.Effects as manual;
 ghost use Rattle.effects.specs.Perform as effect;
 ghost use Rattle.effects_code.specs.Done as answers;
 
-use super::Done;
 use super::taking::replace_by_share;
 use descriptor::address::SegmentAddress;
 use descriptor::{Descriptor, Target};
-use elements::copies::copy;
 use operands::reading::{elements_of, lengths_of};
 use operands::variables::{held, place_of};
 use segment::blocks::{count, rank};
 use segment::{low, put, word};
-use storage::{Found, drop_word, place, share};
+use storage::{drop_word, place, share};
+use trap::Trap;
 
 // The variable holds `w`, a word that is there already, from now on.
 pub fn store_share(seg: &mut [u32], t: Target, w: u32)
@@ -27,23 +26,21 @@ pub fn store_share(seg: &mut [u32], t: Target, w: u32)
 }
 
 // The variable holds a new array from now on.
-pub fn store_array(seg: &mut [u32], t: Target, shape: &[u32], ravel: &[u32]) -> Done
+pub fn store_array(seg: &mut [u32], t: Target, shape: &[u32], ravel: &[u32]) -> Result<(), Trap>
     ensures value { result ≡ answers.full_or_done seg.old (manual.stores t (manual.made shape.now ravel.now)) }
     ensures seg_after { seg.new ≡ answers.attempt seg.old (manual.stores t (manual.made shape.now ravel.now)) }
 {
     if 16384 < 2 + shape.len() + ravel.len() {
-        return Done::Full;
+        return Err(Trap::STORAGE_FULL);
     }
     let i = place_of(seg, t);
     let old = word(seg, i);
-    match place(seg, shape, ravel) {
-        Found::Full => Done::Full,
-        Found::At(block) => {
-            put(seg, i, Descriptor::array(block).word());
-            drop_word(seg, old);
-            Done::Done
-        }
-    }
+    let Some(block) = place(seg, shape, ravel) else {
+        return Err(Trap::STORAGE_FULL);
+    };
+    put(seg, i, Descriptor::array(block).word());
+    drop_word(seg, old);
+    Ok(())
 }
 
 // The element at that place of the variable's array is `w` from now on; n operands go, and the array is pushed.
@@ -55,32 +52,33 @@ pub fn store_element(
     w: u32,
     n: u32,
     scratch: &mut [u32],
-) -> Done
+) -> Result<(), Trap>
     requires held { answers.Held seg.old t block.0 }
     requires n_nonzero { (0 < n) × (length seg.old ≤ 16384) × (length scratch.old ≡ 16384) }
     ensures value { result ≡ answers.full_or_done seg.old (manual.stores_element t at w n) }
     ensures seg_after { seg.new ≡ answers.attempt seg.old (manual.stores_element t at w n) }
 {
     let i = place_of(seg, t);
-    match unshare(seg, t, block, scratch) {
-        Done::Full => Done::Full,
-        Done::Done => {
-            write_element(seg, i, at, w);
-            push_variable(seg, t, n);
-            Done::Done
-        }
-    }
+    unshare(seg, t, block, scratch)?;
+    write_element(seg, i, at, w);
+    push_variable(seg, t, n);
+    Ok(())
 }
 
 // An array that another cell holds too is copied, and the copy is the variable's from now on.
-fn unshare(seg: &mut [u32], t: Target, block: SegmentAddress, scratch: &mut [u32]) -> Done
+fn unshare(
+    seg: &mut [u32],
+    t: Target,
+    block: SegmentAddress,
+    scratch: &mut [u32],
+) -> Result<(), Trap>
     requires held { answers.Held seg.old t block.0 }
     requires seg_len_bound { (length seg.old ≤ 16384) × (length scratch.old ≡ 16384) }
     ensures value { result ≡ answers.full_or_done seg.old (answers.writing t) }
     ensures seg_after { seg.new ≡ answers.copied seg.old t }
 {
     if count(seg, block) < 2 {
-        return Done::Done;
+        return Ok(());
     }
     let mut lengths = [0u32; 16];
     let r = keep(lengths_of(seg, block), &mut lengths);
@@ -95,7 +93,7 @@ pub fn keep(from: &[u32], to: &mut [u32]) -> usize
     ensures to_after { take (length from.now) to.new ≡ from.now }
 {
     let n = from.len();
-    copy(from, &mut to[..n]);
+    to[..n].copy_from_slice(from);
     n
 }
 

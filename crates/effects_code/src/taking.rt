@@ -6,15 +6,15 @@ ghost use Rattle.manual.specs.Effects as manual;
 ghost use Rattle.effects.specs.Perform as effect;
 ghost use Rattle.effects_code.specs.Done as answers;
 
-use super::Done;
 use descriptor::Descriptor;
 use descriptor::address::{CodeAddress, SegmentAddress, StackAddress};
 use segment::blocks::Part;
 use segment::stack::set_pctr;
 use segment::state::{set_ltop, top_cell};
-use segment::{high, low, minus, put, word};
-use storage::{Found, drop_word, place, share};
+use segment::{high, low, put, word};
+use storage::{drop_cells, place, share};
 use storage_joins::place_joined;
+use trap::Trap;
 
 // `w`, a word that names no array, takes the place of n operands.
 pub fn replace_by_word(seg: &mut [u32], n: u32, w: u32)
@@ -36,22 +36,20 @@ pub fn replace_by_share(seg: &mut [u32], n: u32, w: u32)
 }
 
 // A new array takes the place of n operands.
-pub fn replace_by_array(seg: &mut [u32], n: u32, shape: &[u32], ravel: &[u32]) -> Done
+pub fn replace_by_array(seg: &mut [u32], n: u32, shape: &[u32], ravel: &[u32]) -> Result<(), Trap>
     requires { effect.bottom_of seg.old n < 2 ^ 17 - 1 }
     ensures value { result ≡ answers.full_or_done seg.old (manual.replaces n (manual.made shape.now ravel.now)) }
     ensures seg_after { seg.new ≡ answers.attempt seg.old (manual.replaces n (manual.made shape.now ravel.now)) }
 {
     if 16384 < 2 + shape.len() + ravel.len() {
-        return Done::Full;
+        return Err(Trap::STORAGE_FULL);
     }
     let b = bottom(seg, n);
-    match place(seg, shape, ravel) {
-        Found::Full => Done::Full,
-        Found::At(block) => {
-            take(seg, b, n, Descriptor::array(block).word());
-            Done::Done
-        }
-    }
+    let Some(block) = place(seg, shape, ravel) else {
+        return Err(Trap::STORAGE_FULL);
+    };
+    take(seg, b, n, Descriptor::array(block).word());
+    Ok(())
 }
 
 // A new array with the elements of two parts of the segment takes the place of n operands.
@@ -62,23 +60,21 @@ pub fn replace_by_joined(
     first: Part,
     second: Part,
     scratch: &mut [u32],
-) -> Done
+) -> Result<(), Trap>
     requires n_bound { effect.bottom_of seg.old n < 2 ^ 17 - 1 }
     requires count_bound { (first.count ≤ 16384) × (second.count ≤ 16384) × (length scratch.old ≡ 16384) }
     ensures value { result ≡ answers.full_or_done seg.old (answers.joining n shape.now seg.old first second) }
     ensures seg_after { seg.new ≡ answers.attempt seg.old (answers.joining n shape.now seg.old first second) }
 {
     if 16384 < 2 + shape.len() + (first.count + second.count) {
-        return Done::Full;
+        return Err(Trap::STORAGE_FULL);
     }
     let b = bottom(seg, n);
-    match place_joined(seg, shape, first, second, scratch) {
-        Found::Full => Done::Full,
-        Found::At(block) => {
-            take(seg, b, n, Descriptor::array(block).word());
-            Done::Done
-        }
-    }
+    let Some(block) = place_joined(seg, shape, first, second, scratch) else {
+        return Err(Trap::STORAGE_FULL);
+    };
+    take(seg, b, n, Descriptor::array(block).word());
+    Ok(())
 }
 
 // n operands go.
@@ -86,8 +82,8 @@ pub fn discard(seg: &mut [u32], n: u32)
     ensures { seg.new ≡ effect.discard seg.old n }
 {
     let b = bottom(seg, n);
-    let left = minus(top(seg) as u32, n);
-    drop_from(seg, b, n);
+    let left = (top(seg) as u32).saturating_sub(n);
+    drop_cells(seg, b, n);
     set_ltop(seg, StackAddress::of(left));
 }
 
@@ -110,25 +106,12 @@ pub fn jump(seg: &mut [u32], place: CodeAddress)
     set_pctr(seg, CodeAddress::of(place.number() % 0x1_0000));
 }
 
-// The n cells from `start` up are dropped, the highest first.
-pub fn drop_from(seg: &mut [u32], start: SegmentAddress, n: u32)
-    ensures { seg.new ≡ arrays.drop_words n seg.old start.0 }
-{
-    let at = start.index();
-    let mut left = n;
-    while 0 < left {
-        left -= 1;
-        let w = word(seg, at + left as usize);
-        drop_word(seg, w);
-    }
-}
-
 // The n cells from b up go, and the stack ends at b with `w`.
 fn take(seg: &mut [u32], b: SegmentAddress, n: u32, w: u32)
     requires { b.0 < 2 ^ 17 - 1 }
     ensures { seg.new ≡ effect.finish (arrays.drop_words n seg.old b.0) b.0 w }
 {
-    drop_from(seg, b, n);
+    drop_cells(seg, b, n);
     finish(seg, b, w);
 }
 
@@ -138,7 +121,7 @@ pub fn finish(seg: &mut [u32], b: SegmentAddress, w: u32)
     ensures { seg.new ≡ effect.finish seg.old b.0 w }
 {
     let base = base(seg) as u32;
-    put(seg, 0, base * 0x1_0000 + minus(b.number(), base));
+    put(seg, 0, base * 0x1_0000 + b.number().saturating_sub(base));
     put(seg, b.index(), w);
 }
 
@@ -146,7 +129,7 @@ pub fn finish(seg: &mut [u32], b: SegmentAddress, w: u32)
 fn bottom(seg: &[u32], n: u32) -> SegmentAddress
     ensures { result.0 ≡ effect.bottom_of seg.now n }
 {
-    SegmentAddress::of(minus(top_cell(seg).number() + 1, n))
+    SegmentAddress::of((top_cell(seg).number() + 1).saturating_sub(n))
 }
 
 // LBASE, counted from the segment's start.

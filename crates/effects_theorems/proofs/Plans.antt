@@ -1,4 +1,5 @@
 -- A plan goes by no more of what is seen than the running function's variables and its result.
+use Rattle.std.proofs.Common.{Option, Some, None}
 use Prim.Native.Nat.{ℕ, zero, suc, ◌-◌}
 use mathlib.Core.Path.{◌≡◌, refl, sym, ◌∙◌, ap}
 use mathlib.Core.List.{List, ◌∷◌}
@@ -6,8 +7,7 @@ use lib.ListN.{length}
 use Rattle.scalar.specs.declared.Whole.{Whole}
 use Rattle.scalar.specs.declared.Whole.TheVariants as W
 use Rattle.procedure.specs.declared.header.Header.{Header}
-use Rattle.procedure.specs.declared.header.Line.{Line}
-use Rattle.procedure.specs.declared.header.Line.TheVariants as L
+use Rattle.descriptor.specs.declared.address.CodeAddress.{CodeAddress}
 use Rattle.operator.specs.declared.Operator.TheVariants as O
 use Rattle.instruction.specs.declared.Address.{Address}
 use Rattle.instruction.specs.declared.Address.TheVariants as A
@@ -18,8 +18,9 @@ use Rattle.instruction.specs.declared.ControlOperation.TheVariants as C
 use Rattle.instruction.specs.declared.Jump.TheVariants as J
 use Rattle.instruction.specs.declared.Instruction.{Instruction}
 use Rattle.instruction.specs.declared.Instruction.TheVariants as I
+use Rattle.std.proofs.Common.{Result, Ok, Err}
+use Rattle.trap.specs.declared.Trap.{Trap}
 use Rattle.instruction.specs.declared.Decoded.{Decoded}
-use Rattle.instruction.specs.declared.Decoded.TheVariants as D
 use Rattle.instruction.specs.Decoding.{instruction_at}
 use Rattle.segment.specs.State.{sbase}
 use Rattle.segment.specs.Cells.{Cell}
@@ -52,11 +53,11 @@ module _ (f : Running) (all : Seen) where
   operands-by i zero = refl
   operands-by i (suc n) = ap (λ (cs : List Cell). all.operand i ∷ cs) (operands-by (suc i) n)
 
-  line-by : (line : Line) → line_or_leave all h line ≡ line_or_leave some h line
-  line-by (L.At place) = refl
-  line-by L.Absent = refl
+  line-by : (line : Option CodeAddress) → line_or_leave all h line ≡ line_or_leave some h line
+  line-by (Some place) = refl
+  line-by None = refl
 
-  branch_by : (line : ℕ → Line) (w : Whole) → branch_to all h line w ≡ branch_to some h line w
+  branch_by : (line : ℕ → Option CodeAddress) (w : Whole) → branch_to all h line w ≡ branch_to some h line w
   branch_by line (W.Number negative n) = line-by (line (line_number negative n))
   branch_by line W.Fraction = refl
   branch_by line W.Character = refl
@@ -102,9 +103,9 @@ module _ (s : List ℕ) (g : Sound s) (f : Running) (runs : HasFrame s (variable
       ∙ ap (λ (q : Seen). plan_of f q i next) (seen-theorem s g (variables_of (header_of f)) (header_of f).result runs)
       ∙ sym (plan-by f (seen_of (length s - sbase s) (view s)) i next)
 
-  decoded-theorem : (d : Decoded) → plan_decoded f (seen s) d ≡ plan_decoded f (seen_of (length s - sbase s) (view s)) d
-  decoded-theorem (D.Instruction i next) = plan-theorem (under_table f.program.table i) next.0
-  decoded-theorem (D.Trap class number) = refl
+  decoded-theorem : (d : Result Decoded Trap) → plan_decoded f (seen s) d ≡ plan_decoded f (seen_of (length s - sbase s) (view s)) d
+  decoded-theorem (Ok d) = plan-theorem (under_table f.program.table d.instruction) d.next.0
+  decoded-theorem (Err t) = refl
 
   plan_at-theorem : (place : ℕ) → plan_at f (seen s) place ≡ plan_at f (seen_of (length s - sbase s) (view s)) place
   unfolding plan_at

@@ -1,4 +1,5 @@
 -- The words that the fast loops store for LESS and EQUAL are right among integers and among floats.
+use Rattle.std.proofs.Common.{Ok}
 use Prim.Native.Nat.{ℕ, ◌/◌, ◌%◌, ◌^◌}
 use native.Mathlib.Omega.{arith}
 use mathlib.Core.Path.{◌≡◌, sym, ap, ◌∙◌}
@@ -9,8 +10,7 @@ use lib.Dec.{ltb, eqb}
 use borrow.Author.Tests.{eq-eqb, ne_eqb, eqb-true}
 use Rattle.descriptor.specs.Fields.{is_character}
 use Rattle.descriptor.specs.Kinds.{bit}
-use Rattle.scalar.specs.declared.Answer.{Answer}
-use Rattle.scalar.specs.declared.Answer.TheVariants.{Word}
+use Rattle.scalar.specs.Results.{Answer}
 use Rattle.scalar.specs.Operators.{less, equal}
 use Rattle.scalar.specs.Parts.{word_place}
 use Rattle.scalar.proofs.Operands.{character-bits, small_plain}
@@ -45,16 +45,16 @@ with-both false seen x y h =
     (eq-eqb (seen / 2 ^ 23 % 2 ^ 8) 0 q.0, integers x y q.1 q.2)
 
 module _ (x y : ℕ) (k : Comparable x y) where
-  pub fast-less : less x y ≡ Word (bit (ltb (word_place x) (word_place y)))
-  fast-less = sym (ap (λ (t : Bool). Word (bit t)) (below_by x y k.alike) ∙ less-numbers x y k.first k.second)
+  pub fast-less : less x y ≡ Ok (bit (ltb (word_place x) (word_place y)))
+  fast-less = sym (ap (λ (t : Bool). Ok (bit t)) (below_by x y k.alike) ∙ less-numbers x y k.first k.second)
 
-  pub fast-equal : equal x y ≡ Word (bit (eqb (word_place x) (word_place y)))
-  fast-equal = sym (ap (λ (t : Bool). Word (bit t)) (equal_by x y k.alike) ∙ equal-numbers x y k.first k.second)
+  pub fast-equal : equal x y ≡ Ok (bit (eqb (word_place x) (word_place y)))
+  fast-equal = sym (ap (λ (t : Bool). Ok (bit t)) (equal_by x y k.alike) ∙ equal-numbers x y k.first k.second)
 
 -- A turn of either loop: from the words x and y, the bits seen before and after, and what the test says of the places.
-module _ {f : ℕ → ℕ → Answer} (test : ℕ → ℕ → Bool) (right : (x y : ℕ) → Comparable x y → f x y ≡ Word (bit (test (word_place x) (word_place y)))) where
+module _ {f : ℕ → ℕ → Answer} (test : ℕ → ℕ → Bool) (right : (x y : ℕ) → Comparable x y → f x y ≡ Ok (bit (test (word_place x) (word_place y)))) where
   pub compared : (floats : Bool) (seen x y : ℕ) {after : ℕ} {says : Bool} → after ≡ seen_with floats seen x y → says ≡ test (word_place x) (word_place y)
-      → one_kind floats after ≡ true → (one_kind floats seen ≡ true) × (f x y ≡ Word (bit says))
+      → one_kind floats after ≡ true → (one_kind floats seen ≡ true) × (f x y ≡ Ok (bit says))
   compared floats seen x y put said fine =
       let p = with-both floats seen x y (ap (one_kind floats) (sym put) ∙ fine) in
-      (p.0, right x y p.1 ∙ ap (λ (t : Bool). Word (bit t)) (sym said))
+      (p.0, right x y p.1 ∙ ap (λ (t : Bool). Ok (bit t)) (sym said))

@@ -1,12 +1,12 @@
 -- The fast loops over two operands: one law for any operator on words, of which each turn tells whether all was fine.
+use Rattle.std.proofs.Common.{Ok}
 use Prim.Native.Nat.{ℕ, ◌+◌, ◌<◌, ◌≤◌}
 use native.Mathlib.Omega.{arith}
 use mathlib.Core.Path.{◌≡◌, refl, sym, ap, ◌∙◌}
 use mathlib.Core.Bool.{Bool, true}
 use mathlib.Core.List.{List}
 use lib.ListN.{length, get_or, take, set, length-set}
-use Rattle.scalar.specs.declared.Answer.{Answer}
-use Rattle.scalar.specs.declared.Answer.TheVariants.{Word}
+use Rattle.scalar.specs.Results.{Answer}
 use Rattle.manual.specs.OrTrap.{OrTrap}
 use Rattle.manual.specs.Values.{answered, zip, spread}
 use Rattle.elements.specs.Parts.{Operands, Relied}
@@ -37,7 +37,7 @@ module _ {f : ℕ → ℕ → Answer} {fine : Type 0} {n i : ℕ} {a b out₀ ou
 
     -- A turn: the elements x and y are picked, and w is written. If all is still fine, it was, and w is the result.
     pub goes_on : {x y w : ℕ} {still : Type 0} → ((m : ℕ) → i < m → x ≡ get_or (spread m a) i 0) → ((m : ℕ) → i < m → y ≡ get_or (spread m b) i 0)
-        → (still → fine × (f x y ≡ Word w)) → Fast f still a b n out₀ (set out i w) (i + 1)
+        → (still → fine × (f x y ≡ Ok w)) → Fast f still a b n out₀ (set out i w) (i + 1)
     goes_on first second is =
         record {
           operands = inv.operands;

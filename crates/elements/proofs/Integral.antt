@@ -1,4 +1,5 @@
 -- The words that the fast loops store are those of the operators, for integers whose result is an integer.
+use Rattle.std.proofs.Common.{Ok}
 use Prim.Native.Nat.{ℕ, ◌+◌, ◌-◌, ◌*◌, ◌/◌, ◌%◌, ◌^◌, ◌≤◌, ◌<◌, min}
 use native.Mathlib.Nat.{mod-eq_of_lt}
 use native.Mathlib.Omega.{arith}
@@ -7,9 +8,7 @@ use mathlib.Core.Bool.{◌||◌}
 use borrow.Author.Tests.{eq-eqb, ne_eqb, lt-ltb}
 use Rattle.descriptor.specs.Fields.{sign, magnitude}
 use Rattle.scalar.specs.Value.{units, one_float}
-use Rattle.scalar.specs.declared.Answer.{Answer}
-use Rattle.scalar.specs.declared.Answer.TheVariants.{Word}
-use Rattle.scalar.specs.Results.{integer}
+use Rattle.scalar.specs.Results.{Answer, integer}
 use Rattle.scalar.specs.Operators.{sum_sign, sum_size, plus, minus, times, sum, difference, product, product_sign, numbers}
 use Rattle.scalar.proofs.Operands.{numbers-plain, small_plain}
 use Rattle.scalar.proofs.Addition.{like, less, more, cases, either, plus-integers, sum-integers, minus-integers}
@@ -24,15 +23,15 @@ record IsWord (s k r : ℕ) : Type 0 where
   none : k ≡ 0 → r ≡ 0
   some : 0 < k → r ≡ s * 2 ^ 31 + k
 
-integer-word : (s k r : ℕ) → IsWord s k r → integer s k ≡ Word r
+integer-word : (s k r : ℕ) → IsWord s k r → integer s k ≡ Ok r
 unfolding integer
-integer-word s k r w = either (integer s k ≡ Word r) (min k 1) (omega arith) (λ e. zero (omega arith)) (λ e. other (omega arith))
+integer-word s k r w = either (integer s k ≡ Ok r) (min k 1) (omega arith) (λ e. zero (omega arith)) (λ e. other (omega arith))
   where
-    zero : k ≡ 0 → integer s k ≡ Word r
-    zero e = simp (eq-eqb k 0 e, lt-ltb k (2 ^ 23) w.short) (ap Word (sym (w.none e)))
+    zero : k ≡ 0 → integer s k ≡ Ok r
+    zero e = simp (eq-eqb k 0 e, lt-ltb k (2 ^ 23) w.short) (ap Ok (sym (w.none e)))
 
-    other : 0 < k → integer s k ≡ Word r
-    other h = simp (ne_eqb k 0 (λ e. omega arith), lt-ltb k (2 ^ 23) w.short) (ap Word (sym (w.some h)))
+    other : 0 < k → integer s k ≡ Ok r
+    other h = simp (ne_eqb k 0 (λ e. omega arith), lt-ltb k (2 ^ 23) w.short) (ap Ok (sym (w.some h)))
 
 plain-high : (d : ℕ) → d ≤ 2 ^ 24 → Plain (2 ^ 31 + d) → d < 2 ^ 23
 plain-high d h p = omega arith
@@ -53,7 +52,7 @@ back-high s v k r b e h l p =
 
 module _ (n m o q r : ℕ) (hn : n < 2 ^ 23) (hm : m < 2 ^ 23) (b : Back (o + q) r) (p : Plain r) where
   Goal : ℕ → ℕ → Type 0
-  Goal s t = integer (sum_sign s n t m) (sum_size s n t m) ≡ Word r
+  Goal s t = integer (sum_sign s n t m) (sum_size s n t m) ≡ Ok r
 
   by : (s t i k : ℕ) → (sum_sign s n t m ≡ i) × (sum_size s n t m ≡ k) → IsWord i k r → Goal s t
   unfolding Goal
@@ -72,13 +71,13 @@ module _ (n m o q r : ℕ) (hn : n < 2 ^ 23) (hm : m < 2 ^ 23) (b : Back (o + q)
 
   plus-minus : o ≡ 2 ^ 24 + n → q + m ≡ 2 ^ 24 → Goal 0 1
   unfolding Goal
-  plus-minus x y = cases 0 n 1 m (integer (sum_sign 0 n 1 m) (sum_size 0 n 1 m) ≡ Word r) (λ e. absurd (omega arith))
+  plus-minus x y = cases 0 n 1 m (integer (sum_sign 0 n 1 m) (sum_size 0 n 1 m) ≡ Ok r) (λ e. absurd (omega arith))
       (λ e l. by 0 1 1 (m - n) (less 0 n 1 m e l) (back_low (o + q) (m - n) r b (omega arith) (omega arith) (omega arith) p))
       (λ e l. by 0 1 0 (n - m) (more 0 n 1 m e l) (back-high 0 (o + q) (n - m) r b (omega arith) (λ z. refl) (omega arith) p))
 
   minus_plus : o + n ≡ 2 ^ 24 → q ≡ 2 ^ 24 + m → Goal 1 0
   unfolding Goal
-  minus_plus x y = cases 1 n 0 m (integer (sum_sign 1 n 0 m) (sum_size 1 n 0 m) ≡ Word r) (λ e. absurd (omega arith))
+  minus_plus x y = cases 1 n 0 m (integer (sum_sign 1 n 0 m) (sum_size 1 n 0 m) ≡ Ok r) (λ e. absurd (omega arith))
       (λ e l. by 1 0 0 (m - n) (less 1 n 0 m e l) (back-high 0 (o + q) (m - n) r b (omega arith) (λ z. refl) (omega arith) p))
       (λ e l. by 1 0 1 (n - m) (more 1 n 0 m e l) (two (n - m) refl l))
     where
@@ -117,7 +116,7 @@ negated s n q hs hn o =
     }
 
 module _ (x y o q r : ℕ) (hx : x < 2 ^ 32) (hy : y < 2 ^ 32) (ox : Offset (x / 2 ^ 31) (x % 2 ^ 23) o) (oy : Offset (y / 2 ^ 31) (y % 2 ^ 23) q) (px : Plain x) (py : Plain y) (pr : Plain r) where
-  pub fast_sum : Back (o + q) r → sum x y ≡ Word r
+  pub fast_sum : Back (o + q) r → sum x y ≡ Ok r
   unfolding sum Goal
   fast_sum b =
       plain-numbers x y (plus (one_float x y) (sign x) (units x) (sign y) (units y)) px py
@@ -125,7 +124,7 @@ module _ (x y o q r : ℕ) (hx : x < 2 ^ 32) (hy : y < 2 ^ 32) (ox : Offset (x /
       ∙ plus-integers (x / 2 ^ 31) (x % 2 ^ 23) (y / 2 ^ 31) (y % 2 ^ 23)
       ∙ any_sign (x % 2 ^ 23) (y % 2 ^ 23) o q r (omega arith) (omega arith) b pr (x / 2 ^ 31) (y / 2 ^ 31) (omega arith) (omega arith) ox oy
 
-  pub fast-difference : Back (o + (2 ^ 25 - q)) r → difference x y ≡ Word r
+  pub fast-difference : Back (o + (2 ^ 25 - q)) r → difference x y ≡ Ok r
   unfolding difference Goal
   fast-difference b =
       plain-numbers x y (minus x y) px py
@@ -138,7 +137,7 @@ module _ (x y o q r : ℕ) (hx : x < 2 ^ 32) (hy : y < 2 ^ 32) (ox : Offset (x /
 
 -- from the product p of the magnitudes, of which the lowest 23 bits are taken
 module _ (x y p r : ℕ) (px : Plain x) (py : Plain y) (e : p ≡ magnitude x * magnitude y) (h : magnitude x * magnitude y < 2 ^ 23) where
-  pub fast-product : (p % 2 ^ 23 ≡ 0 → r ≡ 0) → ((p % 2 ^ 23 ≡ 0 → ⊥) → r ≡ product_sign x y * 2 ^ 31 + p % 2 ^ 23) → product x y ≡ Word r
+  pub fast-product : (p % 2 ^ 23 ≡ 0 → r ≡ 0) → ((p % 2 ^ 23 ≡ 0 → ⊥) → r ≡ product_sign x y * 2 ^ 31 + p % 2 ^ 23) → product x y ≡ Ok r
   unfolding product
   fast-product z k =
       plain-numbers x y (times x y) px py

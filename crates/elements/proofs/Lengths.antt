@@ -1,39 +1,14 @@
--- Loops over the lengths of shapes: two shapes compared, and a product up to a bound.
+-- A loop over the lengths of shapes: a product up to a bound.
 use Prim.Native.Nat.{ℕ, zero, suc, ◌+◌, ◌*◌, ◌^◌, ◌≤◌, ◌<◌, min}
 use native.Mathlib.Nat.{mul_assoc, mul-one, one-mul, mul-zero, mul-suc, mul-le-mul, le_of_lt}
 use native.Mathlib.Decide.{dec_lt}
 use native.Mathlib.Numerals.{add-one}
 use native.Mathlib.Omega.{arith}
-use mathlib.Core.Path.{◌≡◌, refl, sym, ap, ◌∙◌}
-use mathlib.Core.Bool.{true, false, ◌&&◌}
+use mathlib.Core.Path.{◌≡◌, sym, ap, ◌∙◌}
 use mathlib.Core.List.{List}
-use lib.Dec.{eqb}
-use borrow.Author.Tests.{eq-eqb, ne_eqb}
 use lib.ListN.{length, get_or, drop}
 use lib.Seq.{drop-cons, drop-length}
 use Rattle.segment.specs.Blocks.{product}
-use Rattle.manual.specs.Values.{same}
-
--- the two are the same as far as i
-pub record Agree (a b : List ℕ) (i : ℕ) : Type 0 where
-  pub so_far : same a b ≡ same (drop i a) (drop i b)
-
-pub agree-start : {a b : List ℕ} → Agree a b 0
-agree-start = record { so_far = refl }
-
-here : (a b : List ℕ) (i : ℕ) → i < length a → i < length b → same (drop i a) (drop i b) ≡ (eqb (get_or a i 0) (get_or b i 0) && same (drop (suc i) a) (drop (suc i) b))
-here a b i ha hb = rw (drop-cons a i 0 ha, drop-cons b i 0 hb)
-
-pub agree_on : {a b : List ℕ} {i : ℕ} → Agree a b i → i < length a → i < length b → get_or a i 0 ≡ get_or b i 0 → Agree a b (i + 1)
-agree_on {a} {b} {i} p ha hb e = record { so_far = rw (add-one i) (p.so_far ∙ here a b i ha hb ∙ rw (eq-eqb (get_or a i 0) (get_or b i 0) e)) }
-
-pub agree-not : {a b : List ℕ} {i : ℕ} → Agree a b i → i < length a → i < length b → (get_or a i 0 ≡ get_or b i 0 → ⊥) → false ≡ same a b
-agree-not {a} {b} {i} p ha hb e = sym (p.so_far ∙ here a b i ha hb ∙ rw (ne_eqb (get_or a i 0) (get_or b i 0) e))
-
-pub agree-all : {a b : List ℕ} {i : ℕ} → Agree a b i → i ≡ length a → i ≡ length b → true ≡ same a b
-agree-all {a} {b} {i} p ha hb = sym (p.so_far ∙ ap (λ (k : ℕ). same (drop k a) (drop i b)) ha ∙ ap (λ (k : ℕ). same (drop (length a) a) (drop k b)) hb ∙ rw (drop-length a, drop-length b))
-
--- ---- a product up to a bound
 
 -- over variables: a bound on the way does not change the bounded product
 cap-mul : (x p c : ℕ) → min (x * p) c ≡ min (min x c * p) c

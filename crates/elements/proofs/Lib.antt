@@ -3,7 +3,6 @@ pub mod Filling
 pub mod Collecting
 pub mod Fast
 pub mod Seen
-pub mod Testing
 pub mod Lengths
 pub mod Places
 pub mod Integral

@@ -1,14 +1,11 @@
 -- What the contracts of the inner functions say. Nothing here need be believed: the public contracts do not cite it.
 -- Assumes nothing.
-use Rattle.std.specs.Prelude.{ℕ, ◌+◌, ◌/◌, ◌%◌, ◌^◌, ◌<◌, ◌≤◌, max, ◌≡◌, Bool, true, cond, List, [], ◌∷◌, eqb, length}
+use Rattle.std.specs.Prelude.{ℕ, ◌+◌, ◌/◌, ◌%◌, ◌^◌, ◌<◌, ◌≤◌, ◌≡◌, Bool, true, cond, List, eqb, length}
 use Rattle.std.specs.Int.Bits.{bit_and, bit_or}
-use Rattle.scalar.specs.declared.Answer.{Answer}
-use Rattle.scalar.specs.declared.Whole.{Whole}
-use Rattle.scalar.specs.declared.Whole.TheVariants as W
-use Rattle.scalar.specs.Reading.{whole_of}
+use Rattle.scalar.specs.Results.{Answer}
 use Rattle.segment.specs.Blocks.{product}
 use Rattle.manual.specs.OrTrap.{gives}
-use Rattle.manual.specs.Values.{answered, extent, pairwise, in_range, in_ranges}
+use Rattle.manual.specs.Values.{answered, extent, pairwise, in_ranges}
 
 -- An operand for n elements has one, or n.
 pub record Spans (n : ℕ) (a : List ℕ) : Type 0 where
@@ -46,17 +43,6 @@ pub record Offset (s n o : ℕ) : Type 0 where
 pub record Back (t r : ℕ) : Type 0 where
   pub low : t < 2 ^ 25 → r + t ≡ 2 ^ 31 + 2 ^ 25
   pub high : 2 ^ 25 ≤ t → r + 2 ^ 25 ≡ t
-
--- What is wrong with a subscript: 3 a character, 2 a fraction, 1 out of range, 0 nothing; and the worst of all.
-abbrev pub subscript_fault : ℕ → Whole → ℕ → ℕ
-subscript_fault origin W.Character l = 3
-subscript_fault origin W.Fraction l = 2
-subscript_fault origin (W.Number negative n) l = cond (in_range origin (W.Number negative n) l) 0 1
-
-abbrev pub worst_of : ℕ → List ℕ → List ℕ → ℕ
-worst_of origin [] ls = 0
-worst_of origin (w ∷ ws) [] = 0
-worst_of origin (w ∷ ws) (l ∷ ls) = max (subscript_fault origin (whole_of w) l) (worst_of origin ws ls)
 
 -- Subscripts that lead to a place of an array with these lengths.
 abbrev pub Within : ℕ → List ℕ → List ℕ → Type 0

@@ -6,18 +6,18 @@ ghost use Rattle.elements.specs.Answers.{results, pairwise_by, Paired};
 ghost use Rattle.elements.specs.Parts.{Operands, Relied};
 
 use crate::extension::{extent, pick};
-use crate::{Finished, comparisons, integers};
+use crate::{comparisons, integers};
 use operator::Dyadic;
-use scalar::Answer;
+use trap::Trap;
 
 // The fast loops first, and where they do not serve, the exact one from the start.
-pub fn dyadic(op: Dyadic, a: &[u32], b: &[u32], out: &mut [u32]) -> Finished
+pub fn dyadic(op: Dyadic, a: &[u32], b: &[u32], out: &mut [u32]) -> Result<(), Trap>
     requires { Paired a.now b.now × (values.extent a.now b.now ≤ length out.old) }
     ensures { results result (take (values.extent a.now b.now) out.new) ≡ pairwise_by op a.now b.now }
 {
     let n = extent(a, b);
     if fast(op, a, b, n, out) {
-        return Finished::Done;
+        return Ok(());
     }
     exact(op, a, b, n, out)
 }
@@ -34,22 +34,12 @@ fn fast(op: Dyadic, a: &[u32], b: &[u32], n: usize, out: &mut [u32]) -> bool
 }
 
 // At the first trap the words of `out` so far are left.
-fn exact(op: Dyadic, a: &[u32], b: &[u32], n: usize, out: &mut [u32]) -> Finished
+fn exact(op: Dyadic, a: &[u32], b: &[u32], n: usize, out: &mut [u32]) -> Result<(), Trap>
     requires { Operands a.now b.now n × (n ≤ length out.old) }
     ensures { results result (take n out.new) ≡ pairwise_by op a.now b.now }
 {
-    let mut i = 0;
-    while i < n {
-        let r = scalar::dyadic(op, pick(a, i), pick(b, i));
-        match r {
-            Answer::Word(w) => {
-                out[i] = w;
-            }
-            Answer::Trap(class, number) => {
-                return Finished::Trap(class, number);
-            }
-        }
-        i += 1;
+    for i in 0..n {
+        out[i] = scalar::dyadic(op, pick(a, i), pick(b, i))?;
     }
-    Finished::Done
+    Ok(())
 }

@@ -1,56 +1,39 @@
 // The shape of a join: elements are counted where neither operand is above rank one, else rows of one width.
-ghost use Rattle.std.specs.Prelude.{◌≡◌, ◌&&◌, [], ◌∷◌, ◌≤◌, leb, length};
+ghost use Rattle.std.specs.Prelude.{◌≡◌, ℕ, List, ◌∷◌, ◌≤◌, length};
 ghost use Rattle.segment.specs.Blocks as layout;
+ghost use Rattle.manual.specs.OrTrap.{gives, and_then};
 ghost use Rattle.manual.specs.Values as values;
 ghost use Rattle.elements.specs.Answers.{join_named};
 
 use crate::Joined;
+use trap::Trap;
 
-pub fn joined(a: &[u32], b: &[u32]) -> Joined
+pub fn joined(a: &[u32], b: &[u32]) -> Result<Joined, Trap>
     ensures { join_named result ≡ values.joined_shape a.now b.now }
 {
-    if are_plain(a, b) {
-        return vector(count(a) as u64 + count(b) as u64);
+    if a.len() <= 1 && b.len() <= 1 {
+        let n = lengthened(count(a) as u64 + count(b) as u64)?;
+        return Ok(Joined::Vector(n));
     }
-    if !has_rows(a) {
-        return Joined::Trap(5, 0);
-    }
-    if !has_rows(b) {
-        return Joined::Trap(5, 0);
+    if !has_rows(a) || !has_rows(b) {
+        return Err(Trap::RANK_ERROR);
     }
     let w = width(a);
     if w != width(b) {
-        return Joined::Trap(6, 0);
+        return Err(Trap::LENGTH_ERROR);
     }
-    matrix(rows(a) as u64 + rows(b) as u64, w)
+    let n = lengthened(rows(a) as u64 + rows(b) as u64)?;
+    Ok(Joined::Matrix(n, w))
 }
 
-fn vector(n: u64) -> Joined
-    ensures { join_named result ≡ values.lengthened n [] }
+// The first length of a join, which is below 2^16.
+fn lengthened(n: u64) -> Result<u32, Trap>
+    ensures { (lengths : List ℕ) → and_then (values.answered result) (λ k. gives (k ∷ lengths)) ≡ values.lengthened n lengths }
 {
     if 0x1_0000 <= n {
-        return Joined::Trap(6, 0);
+        return Err(Trap::LENGTH_ERROR);
     }
-    Joined::Vector(n as u32)
-}
-
-fn matrix(n: u64, w: u32) -> Joined
-    ensures { join_named result ≡ values.lengthened n (w ∷ []) }
-{
-    if 0x1_0000 <= n {
-        return Joined::Trap(6, 0);
-    }
-    Joined::Matrix(n as u32, w)
-}
-
-// Neither is above rank one.
-fn are_plain(a: &[u32], b: &[u32]) -> bool
-    ensures { result ≡ (leb (length a.now) 1 && leb (length b.now) 1) }
-{
-    if 1 < a.len() {
-        return false;
-    }
-    b.len() <= 1
+    Ok(n as u32)
 }
 
 // How many elements a scalar or a vector has.
@@ -58,29 +41,20 @@ fn count(shape: &[u32]) -> u32
     requires { length shape.now ≤ 1 }
     ensures { result ≡ layout.product shape.now }
 {
-    if shape.len() == 0 {
-        return 1;
-    }
-    shape[0]
+    if shape.is_empty() { 1 } else { shape[0] }
 }
 
 fn has_rows(shape: &[u32]) -> bool
     ensures { result ≡ values.has_rows shape.now }
 {
-    if shape.len() < 1 {
-        return false;
-    }
-    shape.len() <= 2
+    1 <= shape.len() && shape.len() <= 2
 }
 
 // A vector counts as one row.
 fn rows(shape: &[u32]) -> u32
     ensures { result ≡ values.rows shape.now }
 {
-    if shape.len() == 2 {
-        return shape[0];
-    }
-    1
+    if shape.len() == 2 { shape[0] } else { 1 }
 }
 
 fn width(shape: &[u32]) -> u32

@@ -5,103 +5,57 @@ ghost use Rattle.segment.specs.Blocks as layout;
 ghost use Rattle.manual.specs.Values as values;
 ghost use Rattle.elements.specs.Answers.{results, shape_named, lengths_of};
 
-use crate::{Finished, Shape, kinds};
-use scalar::{Answer, Whole, reading};
+use crate::{Side, kinds};
+use scalar::{Whole, reading};
+use trap::Trap;
 
 // The shape of a result, from the operands' shapes and numbers of elements, m and n.
-pub fn conform(a: &[u32], m: usize, b: &[u32], n: usize) -> Shape
+pub fn conform(a: &[u32], m: usize, b: &[u32], n: usize) -> Result<Side, Trap>
     ensures { shape_named result a.now b.now ≡ values.conform a.now m b.now n }
 {
-    if m == 1 {
-        if n == 1 {
-            if b.len() < a.len() {
-                return Shape::First;
-            }
-            return Shape::Second;
-        }
-        return Shape::Second;
+    match (m, n) {
+        (1, 1) if b.len() < a.len() => Ok(Side::First),
+        (1, _) => Ok(Side::Second),
+        (_, 1) => Ok(Side::First),
+        _ if a.len() != b.len() => Err(Trap::RANK_ERROR),
+        _ if a == b => Ok(Side::First),
+        _ => Err(Trap::LENGTH_ERROR),
     }
-    if n == 1 {
-        return Shape::First;
-    }
-    if a.len() != b.len() {
-        return Shape::Trap(5, 0);
-    }
-    if same(a, b) {
-        return Shape::First;
-    }
-    Shape::Trap(6, 0)
-}
-
-fn same(a: &[u32], b: &[u32]) -> bool
-    requires { length a.now ≡ length b.now }
-    ensures { result ≡ values.same a.now b.now }
-{
-    let mut i = 0;
-    while i < a.len() {
-        if a[i] != b[i] {
-            return false;
-        }
-        i += 1;
-    }
-    true
 }
 
 // The lengths that a ravel's numbers are. The characters among them are judged before the other faults.
-pub fn lengths(ravel: &[u32], out: &mut [u32]) -> Finished
+pub fn lengths(ravel: &[u32], out: &mut [u32]) -> Result<(), Trap>
     requires { length ravel.now ≤ length out.old }
     ensures { results result (take (length ravel.now) out.new) ≡ lengths_of ravel.now }
 {
     if kinds::any_character(ravel) {
-        return Finished::Trap(7, 0);
+        return Err(Trap::TYPE_ERROR);
     }
     shorts(ravel, out)
 }
 
-fn shorts(ravel: &[u32], out: &mut [u32]) -> Finished
+fn shorts(ravel: &[u32], out: &mut [u32]) -> Result<(), Trap>
     requires { length ravel.now ≤ length out.old }
     ensures { results result (take (length ravel.now) out.new) ≡ values.shorts ravel.now }
 {
-    let mut i = 0;
-    while i < ravel.len() {
-        let r = short(ravel[i]);
-        match r {
-            Answer::Word(n) => {
-                out[i] = n;
-            }
-            Answer::Trap(class, number) => {
-                return Finished::Trap(class, number);
-            }
-        }
-        i += 1;
+    for (i, w) in ravel.iter().enumerate() {
+        out[i] = short(*w)?;
     }
-    Finished::Done
+    Ok(())
 }
 
 // A scalar read as a length: a whole number from 0 to 65,535.
-pub fn short(w: u32) -> Answer
+pub fn short(w: u32) -> Result<u32, Trap>
     ensures { values.answered result ≡ values.short_of (whole_of w) }
 {
     match reading::whole(w) {
         Whole::Number {
             negative,
             magnitude,
-        } => short_number(negative, magnitude),
-        Whole::Fraction => Answer::Trap(8, 5),
-        Whole::Character => Answer::Trap(7, 0),
+        } if !negative && magnitude < 0x1_0000 => Ok(magnitude),
+        Whole::Number { .. } | Whole::Fraction => Err(Trap::DOMAIN_ERROR),
+        Whole::Character => Err(Trap::TYPE_ERROR),
     }
-}
-
-fn short_number(negative: bool, magnitude: u32) -> Answer
-    ensures { values.answered result ≡ values.short_of (Whole.Number negative magnitude) }
-{
-    if negative {
-        return Answer::Trap(8, 5);
-    }
-    if 0x1_0000 <= magnitude {
-        return Answer::Trap(8, 5);
-    }
-    Answer::Word(magnitude)
 }
 
 // The product of lengths, up to 65,536.
@@ -109,16 +63,8 @@ pub fn product(lengths: &[u32]) -> u32
     ensures { result ≡ min (layout.product lengths.now) 65536 }
 {
     let mut so_far: u64 = 1;
-    let mut i = 0;
-    while i < lengths.len() {
-        so_far = capped(so_far * lengths[i] as u64);
-        i += 1;
+    for n in lengths {
+        so_far = (so_far * *n as u64).min(0x1_0000);
     }
     so_far as u32
-}
-
-fn capped(n: u64) -> u64
-    ensures { result ≡ min n 65536 }
-{
-    if n < 0x1_0000 { n } else { 0x1_0000 }
 }

@@ -1,75 +1,48 @@
 // Subscripts, and the place in the ravel that they lead to.
-ghost use Rattle.std.specs.Prelude.{◌≡◌, ◌≤◌, max, length};
+ghost use Rattle.std.specs.Prelude.{◌≡◌, ◌≤◌, length};
 ghost use Rattle.scalar.specs.Reading.{whole_of};
 ghost use Rattle.segment.specs.Blocks as layout;
 ghost use Rattle.manual.specs.Values as values;
-ghost use Rattle.elements.specs.Answers.{place_named};
-ghost use Rattle.elements.specs.Parts.{subscript_fault, worst_of, Within};
+ghost use Rattle.elements.specs.Parts.{Within};
 
-use crate::Found;
+use crate::kinds;
 use scalar::{Whole, reading};
-use segment::minus;
+use trap::Trap;
 
 // Where the subscripts lead in the ravel of an array with these lengths.
-pub fn place(origin: u32, subscripts: &[u32], lengths: &[u32]) -> Found
+pub fn place(origin: u32, subscripts: &[u32], lengths: &[u32]) -> Result<u32, Trap>
     requires { (length subscripts.now ≡ length lengths.now) × (layout.product lengths.now ≤ 65536) }
-    ensures { place_named result ≡ values.ravel_place origin subscripts.now lengths.now }
+    ensures { values.answered result ≡ values.ravel_place origin subscripts.now lengths.now }
 {
-    match worst(origin, subscripts, lengths) {
-        0 => Found::At(place_of(origin, subscripts, lengths)),
-        1 => Found::Trap(9, 2),
-        2 => Found::Trap(8, 5),
-        _ => Found::Trap(7, 0),
+    if in_ranges(origin, subscripts, lengths) {
+        return Ok(place_of(origin, subscripts, lengths));
     }
+    if kinds::any_character(subscripts) {
+        return Err(Trap::TYPE_ERROR);
+    }
+    if kinds::any_fraction(subscripts) {
+        return Err(Trap::DOMAIN_ERROR);
+    }
+    Err(Trap::INDEX_ERROR)
 }
 
-// The worst fault of any subscript. A fault's number is the greater, the earlier its trap is judged.
-fn worst(origin: u32, subscripts: &[u32], lengths: &[u32]) -> u32
+fn in_ranges(origin: u32, subscripts: &[u32], lengths: &[u32]) -> bool
     requires { length subscripts.now ≡ length lengths.now }
-    ensures { result ≡ worst_of origin subscripts.now lengths.now }
+    ensures { result ≡ values.in_ranges origin subscripts.now lengths.now }
 {
-    let mut so_far: u32 = 0;
-    let mut i = 0;
-    while i < subscripts.len() {
-        so_far = greater(so_far, fault(origin, subscripts[i], lengths[i]));
-        i += 1;
-    }
-    so_far
+    subscripts.iter().zip(lengths).all(|(subscript, length)| in_range(origin, *subscript, *length))
 }
 
-fn greater(x: u32, y: u32) -> u32
-    ensures { result ≡ max x y }
-{
-    if x < y { y } else { x }
-}
-
-fn fault(origin: u32, subscript: u32, length: u32) -> u32
-    ensures { result ≡ subscript_fault origin (whole_of subscript) length }
+fn in_range(origin: u32, subscript: u32, length: u32) -> bool
+    ensures { result ≡ values.in_range origin (whole_of subscript) length }
 {
     match reading::whole(subscript) {
         Whole::Number {
             negative,
             magnitude,
-        } => outside(origin, negative, magnitude, length),
-        Whole::Fraction => 2,
-        Whole::Character => 3,
+        } => !negative && origin <= magnitude && magnitude - origin < length,
+        Whole::Fraction | Whole::Character => false,
     }
-}
-
-// 0 where the number is in range, else 1.
-fn outside(origin: u32, negative: bool, magnitude: u32, length: u32) -> u32
-    ensures { result ≡ subscript_fault origin (Whole.Number negative magnitude) length }
-{
-    if negative {
-        return 1;
-    }
-    if magnitude < origin {
-        return 1;
-    }
-    if magnitude - origin < length {
-        return 0;
-    }
-    1
 }
 
 // The place, for subscripts in range. All ranges are judged before: a zero length would let the earlier factors overflow.
@@ -78,10 +51,8 @@ fn place_of(origin: u32, subscripts: &[u32], lengths: &[u32]) -> u32
     ensures { result ≡ values.ravel_offset origin subscripts.now lengths.now }
 {
     let mut at: u32 = 0;
-    let mut i = 0;
-    while i < subscripts.len() {
-        at = at * lengths[i] + offset(origin, subscripts[i]);
-        i += 1;
+    for (i, subscript) in subscripts.iter().enumerate() {
+        at = at * lengths[i] + offset(origin, *subscript);
     }
     at
 }
@@ -93,8 +64,7 @@ fn offset(origin: u32, subscript: u32) -> u32
         Whole::Number {
             negative: _,
             magnitude,
-        } => minus(magnitude, origin),
-        Whole::Fraction => 0,
-        Whole::Character => 0,
+        } => magnitude.saturating_sub(origin),
+        Whole::Fraction | Whole::Character => 0,
     }
 }

@@ -1,7 +1,6 @@
 // The words of integer results, without branches.
 ghost use Rattle.std.specs.Prelude.{◌≡◌, ◌*◌, ◌/◌, ◌%◌, ◌^◌, ◌<◌, eqb};
 ghost use Rattle.descriptor.specs.Fields.{magnitude};
-ghost use Rattle.scalar.specs.declared.Answer.TheVariants.{Word};
 ghost use Rattle.scalar.specs.Operators as S;
 ghost use Rattle.elements.specs.Parts.{Plain, Offset, Back};
 
@@ -14,13 +13,13 @@ pub fn plain(w: u32) -> bool
 
 // The word of the sum of two integers, and of the difference, if all three words have bits 30-23 clear.
 pub fn sum_word(x: u32, y: u32) -> u32
-    ensures { Plain x → Plain y → Plain result → S.sum x y ≡ Word result }
+    ensures { Plain x → Plain y → Plain result → S.sum x y ≡ Ok result }
 {
     back(offset(x) + offset(y))
 }
 
 pub fn difference_word(x: u32, y: u32) -> u32
-    ensures { Plain x → Plain y → Plain result → S.difference x y ≡ Word result }
+    ensures { Plain x → Plain y → Plain result → S.difference x y ≡ Ok result }
 {
     back(offset(x) + (0x200_0000 - offset(y)))
 }
@@ -51,7 +50,7 @@ fn back(t: u32) -> u32
 
 // The word of the product of two integers, if the product of their magnitudes is below 2^23.
 pub fn product_word(x: u32, y: u32) -> u32
-    ensures { Plain x → Plain y → magnitude x * magnitude y < 2 ^ 23 → S.product x y ≡ Word result }
+    ensures { Plain x → Plain y → magnitude x * magnitude y < 2 ^ 23 → S.product x y ≡ Ok result }
 {
     let m = (product_size(x, y) % 0x80_0000) as u32;
     if m == 0 {

@@ -18,12 +18,14 @@ use Rattle.effects.specs.Perform.{store_at, store, is_full}
 use Rattle.acceptance_storage.proofs.Tests.{both, never}
 use Rattle.acceptance.specs.Refusal.{refusal}
 use Rattle.descriptor.proofs.Arrays.{scalar-array}
-use Rattle.effects_code.specs.declared.Done.TheVariants as D
-use Rattle.effects_code.specs.Done.{store_shared, full_or_done, attempt}
+use Rattle.trap.specs.declared.Trap.{Trap}
+use Rattle.effects_code.specs.Done.{answered, store_shared, full_or_done, attempt}
 use Rattle.effects_code.proofs.Placing.{full-by-need}
-use Rattle.operations.specs.declared.Answer.{Answer}
-use Rattle.operations.specs.declared.Answer.TheVariants.{Done, Refused}
-use Rattle.operations.specs.Answers.{done_or_refused}
+use Rattle.std.proofs.Common.{Result, Ok, Err}
+use Rattle.operations.specs.declared.Refusal.{Refusal}
+use Rattle.operations.specs.declared.Refusal.TheVariants as R
+use Rattle.operations.specs.Answers.{number_of, numbered, status_of}
+use Rattle.operations.proofs.Answers.{nonzero, by-status}
 use Rattle.audit.specs.Calls as call
 use Rattle.audit.specs.Did.{Promised}
 use Rattle.audit.proofs.Load.{load-did}
@@ -50,40 +52,40 @@ one-scalar (l ∷ lengths) ravel value rank = absurd (omega arith)
 
 -- ---- the table
 
-told-full : (b : Bool) → D.Full ≡ cond b D.Full D.Done → b ≡ true
-told-full true same = refl
-told-full false same = cc
+told-full : (b : Bool) (t : Trap) → Err t ≡ answered b → b ≡ true
+told-full true t same = refl
+told-full false t same = cc
 
-told-done : (b : Bool) → D.Done ≡ cond b D.Full D.Done → b ≡ false
-told-done true same = cc
-told-done false same = refl
+told-done : (b : Bool) (u : Unit {0}) → Ok u ≡ answered b → b ≡ false
+told-done true u same = cc
+told-done false u same = refl
 
 module _ (s regular alternate : List ℕ) (g : ℕ) (lengths ravel : List ℕ) where
   -- what load answers, and what it leaves
-  abbrev pub Answers : Answer → List ℕ → Type 0
-  Answers answer after = (answer ≡ done_or_refused (load_refusal s regular alternate g lengths ravel)) × (after ≡ loaded s regular alternate g lengths ravel)
+  abbrev pub Answers : Result (Unit {0}) Refusal → List ℕ → Type 0
+  Answers answer after = (status_of (numbered answer) ≡ load_refusal s regular alternate g lengths ravel) × (after ≡ loaded s regular alternate g lengths ravel)
 
-  refused : (n : ℕ) → (n ≡ 0 → ⊥) → load_refusal s regular alternate g lengths ravel ≡ n → Answers (Refused n) s
+  refused : (refusal : Refusal) → load_refusal s regular alternate g lengths ravel ≡ number_of refusal → Answers (Err refusal) s
   unfolding loaded
-  refused n some e = (simp (e, ne_eqb n 0 some), simp (e, ne_eqb n 0 some))
+  refused refusal e = (sym e, simp (e, ne_eqb (number_of refusal) 0 (nonzero refusal)))
 
-  done : load_refusal s regular alternate g lengths ravel ≡ 0 → Answers Done (store_at s g (source_of lengths ravel))
+  done : load_refusal s regular alternate g lengths ravel ≡ 0 → Answers (Ok tt) (store_at s g (source_of lengths ravel))
   unfolding loaded
-  done e = (simp e, simp e)
+  done e = (sym e, simp e)
 
-  pub unaccepted : (n : ℕ) → n ≡ refusal s regular alternate → (n ≡ 0 → ⊥) → Answers (Refused n) s
+  pub unaccepted : (by : Refusal) → number_of by ≡ refusal s regular alternate → Answers (Err by) s
   unfolding load_refusal
-  unaccepted n same some = refused n some (simp (← same, ne_eqb n 0 some))
+  unaccepted by same = refused by (simp (← same, ne_eqb (number_of by) 0 (nonzero by)))
 
   module _ (accepted : 0 ≡ refusal s regular alternate) where
-    pub no-global : is_global s g ≡ false → Answers (Refused 21) s
+    pub no-global : is_global s g ≡ false → Answers (Err R.Global) s
     unfolding load_refusal
-    no-global none = refused 21 (λ e. omega (arith, e)) (simp (← accepted, none))
+    no-global none = refused R.Global (simp (← accepted, none))
 
     module _ (global : is_global s g ≡ true) where
-      pub no_value : is_value lengths ravel ≡ false → Answers (Refused 23) s
+      pub no_value : is_value lengths ravel ≡ false → Answers (Err R.Value) s
       unfolding load_refusal
-      no_value none = refused 23 (λ e. omega (arith, e)) (simp (← accepted, global, none))
+      no_value none = refused R.Value (simp (← accepted, global, none))
 
       module _ (value : is_value lengths ravel ≡ true) where
         judged : (b : Bool) → meaning.lacks_room s lengths ravel ≡ b → load_refusal s regular alternate g lengths ravel ≡ cond b 24 0
@@ -91,7 +93,7 @@ module _ (s regular alternate : List ℕ) (g : ℕ) (lengths ravel : List ℕ) w
         judged b full = simp (← accepted, global, value, full)
 
         module _ (a : SegmentAddress) (at : a.0 ≡ g) (after : List ℕ) where
-          pub scalar-stored : length lengths ≡ 0 → after ≡ store_shared s (Global a) (first ravel) → Answers Done after
+          pub scalar-stored : length lengths ≡ 0 → after ≡ store_shared s (Global a) (first ravel) → Answers (Ok tt) after
           unfolding store_shared store_at share meaning.lacks_room
           scalar-stored rank left =
               let same = done (judged false (simp rank)) in
@@ -105,26 +107,26 @@ module _ (s regular alternate : List ℕ) (g : ℕ) (lengths ravel : List ℕ) w
             unfolding meaning.lacks_room
             by-need = simp (lt-ltb 0 (length lengths) (omega (arith, rank))) (sym (full-by-need s lengths ravel effect refl))
 
-            pub full : D.Full ≡ full_or_done s effect → Answers (Refused 24) after
+            pub full : (t : Trap) → Err t ≡ full_or_done s effect → Answers (Err R.Full) after
             unfolding full_or_done attempt
-            full told =
-                let e = told-full (is_full s effect) told in
-                let same = refused 24 (λ z. omega (arith, z)) (judged true (by-need ∙ e)) in
+            full t told =
+                let e = told-full (is_full s effect) t told in
+                let same = refused R.Full (judged true (by-need ∙ e)) in
                 (same.0, left ∙ rw e same.1)
 
-            pub array-stored : D.Done ≡ full_or_done s effect → Answers Done after
+            pub array-stored : (u : Unit {0}) → Ok u ≡ full_or_done s effect → Answers (Ok tt) after
             unfolding full_or_done attempt store
-            array-stored told =
-                let e = told-done (is_full s effect) told in
+            array-stored u told =
+                let e = told-done (is_full s effect) u told in
                 let same = done (judged false (by-need ∙ e)) in
                 (same.0, left ∙ rw (e, at) (simp (ne_eqb (length lengths) 0 rank) at same.1))
 
 -- ---- the promise
 
-pub promised : (s regular alternate : List ℕ) (g : ℕ) (lengths ravel : List ℕ) (answer : Answer) (after : List ℕ)
+pub promised : (s regular alternate : List ℕ) (g : ℕ) (lengths ravel : List ℕ) (answer : Result (Unit {0}) Refusal) (after : List ℕ)
     → Answers s regular alternate g lengths ravel answer after
-    → (answer ≡ done_or_refused (load_refusal s regular alternate g lengths ravel))
-    × ((after ≡ loaded s regular alternate g lengths ravel) × Promised s (call.load (call.procedures regular alternate) g lengths ravel) (call.answer_of answer) after)
+    → (status_of (numbered answer) ≡ load_refusal s regular alternate g lengths ravel)
+    × ((after ≡ loaded s regular alternate g lengths ravel) × Promised s (call.load (call.procedures regular alternate) g lengths ravel) (call.answer_of (numbered answer)) after)
 unfolding Promised
 promised s regular alternate g lengths ravel answer after e =
-    (e.0, (e.1, λ words lent. rw (e.0, e.1) (load-did s (call.procedures regular alternate) g lengths ravel)))
+    (e.0, (e.1, λ words lent. rw (by-status answer e.0, e.1) (load-did s (call.procedures regular alternate) g lengths ravel)))

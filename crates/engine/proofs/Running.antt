@@ -10,9 +10,11 @@ use Rattle.manual.specs.Program.{Program}
 use Rattle.effects.specs.declared.Ran.{Ran}
 use Rattle.effects.specs.Run as machine
 use Rattle.effects.specs.Tally.{tallied_from}
-use Rattle.operations.specs.declared.Run.{Run}
-use Rattle.operations.specs.declared.Run.TheVariants.{Refused}
-use Rattle.operations.specs.Run.{Ended, ended, accepted_run, accepted_end, run_refusal, ran}
+use Rattle.std.proofs.Common.{Result, Ok, Err}
+use Rattle.operations.specs.declared.Refusal.{Refusal}
+use Rattle.operations.specs.Answers.{number_of}
+use Rattle.operations.proofs.Answers.{nonzero}
+use Rattle.operations.specs.Run.{Ended, ended, accepted_end, run_refusal, ran}
 use Rattle.operations.specs.Replay.{tallied}
 use Rattle.operations.proofs.Tests.{Passed, run-passes}
 use Rattle.audit.specs.Calls as call
@@ -35,13 +37,13 @@ module _ (s : List ℕ) (p : Program) (passed : run_refusal s p ≡ 0) where
 
 module _ (s : List ℕ) (p : Program) (budget : ℕ) (counts : List ℕ) where
   -- what run answers and leaves, the promise, and the counts
-  abbrev pub Answers : Run → List ℕ → List ℕ → Type 0
+  abbrev pub Answers : Result Ran ℕ → List ℕ → List ℕ → Type 0
   Answers answer after more =
       (ended answer after ≡ ran s p budget)
       × (Promised s (call.run p budget) (call.run_answer answer) after
       × (more ≡ tallied s p budget counts))
 
-  promised : (answer : Run) (after more : List ℕ) → ended answer after ≡ ran s p budget → more ≡ tallied s p budget counts → Answers answer after more
+  promised : (answer : Result Ran ℕ) (after more : List ℕ) → ended answer after ≡ ran s p budget → more ≡ tallied s p budget counts → Answers answer after more
   unfolding Promised
   promised answer after more e up = (
     e,
@@ -53,12 +55,14 @@ module _ (s : List ℕ) (p : Program) (budget : ℕ) (counts : List ℕ) where
     ),
   )
 
-  pub unaccepted : (n : ℕ) → n ≡ run_refusal s p → (n ≡ 0 → ⊥) → Answers (Refused n) s counts
+  pub unaccepted : (refusal : Refusal) → number_of refusal ≡ run_refusal s p → Answers (Err (number_of refusal)) s counts
   unfolding ran tallied
-  unaccepted n same some = promised (Refused n) s counts (simp (← same, ne_eqb n 0 some)) (simp (← same, ne_eqb n 0 some))
+  unaccepted refusal same =
+      let refused = ne_eqb (number_of refusal) 0 (nonzero refusal) in
+      promised (Err (number_of refusal)) s counts (simp (← same, refused)) (simp (← same, refused))
 
   module _ (passed : 0 ≡ run_refusal s p) (after more : List ℕ) where
-    has-run : (r : Ran) → machine.run_result r after ≡ machine.steps_from budget 0 p (set s 3 0) → ended (accepted_run r) after ≡ ran s p budget
+    has-run : (r : Ran) → machine.run_result r after ≡ machine.steps_from budget 0 p (set s 3 0) → ended (Ok r) after ≡ ran s p budget
     unfolding ran machine.run_of
     has-run r same = simp (← passed) (ap accepted_end same)
 
@@ -67,6 +71,6 @@ module _ (s : List ℕ) (p : Program) (budget : ℕ) (counts : List ℕ) where
     has-counted same = simp (← passed) same
 
     -- from the words with word 3 zero
-    pub has_ended : (start : List ℕ) → start ≡ set s 3 0 → (told r : Ran) → told ≡ r → machine.run_result told after ≡ machine.steps_from budget 0 p start
-        → more ≡ tallied_from budget counts p start → Answers (accepted_run r) after more
-    has_ended start zero told r known same up = promised (accepted_run r) after more (has-run r (rw (zero, known) at same)) (has-counted (rw zero at up))
+    pub has_ended : (start : List ℕ) → start ≡ set s 3 0 → (r : Ran) → machine.run_result r after ≡ machine.steps_from budget 0 p start
+        → more ≡ tallied_from budget counts p start → Answers (Ok r) after more
+    has_ended start zero r same up = promised (Ok r) after more (has-run r (rw zero at same)) (has-counted (rw zero at up))

@@ -37,10 +37,8 @@ pub fn numbers_of(line: &[u8], numbers: &mut [u32]) -> usize
 // The last eight digits.
 fn number(digits: &[u8]) -> u32 {
     let mut value: u32 = 0;
-    let mut i = 0;
-    while i < digits.len() {
-        value = value % 0x1000_0000 * 16 + digit(digits[i]);
-        i += 1;
+    for &code in digits {
+        value = value % 0x1000_0000 * 16 + digit(code);
     }
     value
 }

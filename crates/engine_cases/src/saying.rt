@@ -1,5 +1,6 @@
 // What the program writes.
-use operations::{Answer, Looked, Run};
+use effects::Ran;
+use operations::{Looked, Refusal};
 use segment::word;
 
 const STDOUT: i32 = 1;
@@ -19,29 +20,31 @@ fn say_word(w: u32) {
 }
 
 fn say_words(words: &[u32]) {
-    let mut i = 0;
-    while i < words.len() {
-        say_word(words[i]);
-        i += 1;
+    for &w in words {
+        say_word(w);
     }
 }
 
-pub fn say_answer(answer: Answer) {
+pub fn say_answer(answer: Result<(), Refusal>) {
     match answer {
-        Answer::Done => say_number(0),
-        Answer::Refused(number) => say_number(number as u64),
+        Ok(()) => say_number(0),
+        Err(refusal) => say_refusal(refusal),
     }
+}
+
+fn say_refusal(refusal: Refusal) {
+    say_number(refusal.number() as u64);
 }
 
 // With the trap that a run leaves in word 3.
-pub fn say_run(answer: Run, trap: u32) {
+pub fn say_run(answer: Result<Ran, Refusal>, trap: u32) {
     match answer {
-        Run::Done(steps) => say_steps(2, steps),
-        Run::Trapped(steps) => {
+        Ok(Ran::Done(steps)) => say_steps(2, steps),
+        Ok(Ran::Trapped(steps)) => {
             say_steps(3, steps);
             say_trap(trap);
         }
-        Run::Refused(number) => say_number(number as u64),
+        Err(refusal) => say_refusal(refusal),
     }
 }
 
@@ -59,14 +62,14 @@ fn say_trap(trap: u32) {
     say(b")");
 }
 
-pub fn say_look(seg: &[u32], seen: Looked) {
+pub fn say_look(seg: &[u32], seen: Result<Looked, Refusal>) {
     match seen {
-        Looked::Refused(number) => say_number(number as u64),
-        Looked::Scalar(w) => {
+        Err(refusal) => say_refusal(refusal),
+        Ok(Looked::Scalar(w)) => {
             say_number(0);
             say_word(w);
         }
-        Looked::Array(block) => {
+        Ok(Looked::Array(block)) => {
             say_number(0);
             say_words(engine::look::lengths(seg, block));
             say(b" |");
@@ -77,10 +80,8 @@ pub fn say_look(seg: &[u32], seen: Looked) {
 
 // The words at these addresses.
 pub fn say_shown(seg: &[u32], addresses: &[u32]) {
-    let mut i = 0;
-    while i < addresses.len() {
-        show(seg, addresses[i]);
-        i += 1;
+    for &address in addresses {
+        show(seg, address);
     }
 }
 

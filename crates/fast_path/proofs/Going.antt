@@ -1,4 +1,5 @@
 -- GO, and GO_TRUE and GO_FALSE with the integer 0 or 1, to a place of the code.
+use Rattle.std.specs.Prelude.{Ok}
 use Prim.Native.Nat.{ℕ, ◌+◌, ◌-◌, ◌*◌, ◌/◌, ◌^◌, ◌≤◌, ◌<◌}
 use native.Mathlib.Omega.{arith}
 use native.Mathlib.Nat.{mod-eq_of_lt}
@@ -40,9 +41,9 @@ module _ (h : Header) (place : ℕ) (low : code_start ≤ place) (high : place <
   jump-inside : (before : List Effect) → jump_to h place before ≡ gives (before ++ (jumps place ∷ []))
   jump-inside before = rw (le-ltb place code_start low, lt-leb (code_end h) place high)
 
-  pub gone : (s : List ℕ) {t : List ℕ} → t ≡ perform s (jumps place) → did Finished t ≡ carry s (go h place)
+  pub gone : (s : List ℕ) {t : List ℕ} → t ≡ perform s (jumps place) → did (Ok Finished) t ≡ carry s (go h place)
   unfolding go
-  gone s done = ap (did Finished) done ∙ ap (carry s) (sym (jump-inside []))
+  gone s done = ap (did (Ok Finished)) done ∙ ap (carry s) (sym (jump-inside []))
 
 -- The integers 0 and 1 are read as false and true.
 bit-scalar : (b : Bool) → is_scalar (bit b) ≡ true
@@ -87,9 +88,9 @@ module _ (s : List ℕ) (h : Header) (next to : ℕ) (wanted : Bool) (some : 1 �
   abbrev pub left : List ℕ
   left = set_ltop s (ltop s - 1)
 
-  after-discard : (place : ℕ) {u t : List ℕ} → u ≡ left → t ≡ perform u (jumps place) → did Finished t ≡ carry s (gives (discards 1 ∷ jumps place ∷ []))
+  after-discard : (place : ℕ) {u t : List ℕ} → u ≡ left → t ≡ perform u (jumps place) → did (Ok Finished) t ≡ carry s (gives (discards 1 ∷ jumps place ∷ []))
   after-discard place dropped done =
-      ap (did Finished) (done ∙ ap (λ (v : List ℕ). perform v (jumps place)) (dropped ∙ sym (discarded s (scalar-no-array (operand_at s 0) is-scalar))))
+      ap (did (Ok Finished)) (done ∙ ap (λ (v : List ℕ). perform v (jumps place)) (dropped ∙ sym (discarded s (scalar-no-array (operand_at s 0) is-scalar))))
 
   planned : go_if (seen s) h next wanted to ≡ cond (cond wanted held (not held)) (jump_to h to (discards 1 ∷ [])) (gives (discards 1 ∷ jumps next ∷ []))
   unfolding go_if
@@ -99,13 +100,13 @@ module _ (s : List ℕ) (h : Header) (next to : ℕ) (wanted : Bool) (some : 1 �
       truth = ap truth_of is-bit ∙ bit-truth held
 
   module _ {number : ℕ} (named : number ≡ bit wanted) where
-    pub jump-taken : {u t : List ℕ} → code_start ≤ to → to < code_end h → operand_at s 0 ≡ number → u ≡ left → t ≡ perform u (jumps to) → did Finished t ≡ carry s (go_if (seen s) h next wanted to)
+    pub jump-taken : {u t : List ℕ} → code_start ≤ to → to < code_end h → operand_at s 0 ≡ number → u ≡ left → t ≡ perform u (jumps to) → did (Ok Finished) t ≡ carry s (go_if (seen s) h next wanted to)
     jump-taken low high same dropped done = after-discard to dropped done ∙ ap (carry s) (sym taken)
       where
         taken : go_if (seen s) h next wanted to ≡ gives (discards 1 ∷ jumps to ∷ [])
         taken = planned ∙ rw (same_bit wanted held (sym is-bit ∙ same ∙ named)) (jump-inside h to low high (discards 1 ∷ []))
 
-    pub jump-passed : {u t : List ℕ} → (operand_at s 0 ≡ number → ⊥) → u ≡ left → t ≡ perform u (jumps next) → did Finished t ≡ carry s (go_if (seen s) h next wanted to)
+    pub jump-passed : {u t : List ℕ} → (operand_at s 0 ≡ number → ⊥) → u ≡ left → t ≡ perform u (jumps next) → did (Ok Finished) t ≡ carry s (go_if (seen s) h next wanted to)
     jump-passed other dropped done = after-discard next dropped done ∙ ap (carry s) (sym passed)
       where
         passed : go_if (seen s) h next wanted to ≡ gives (discards 1 ∷ jumps next ∷ [])

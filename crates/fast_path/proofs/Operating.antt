@@ -1,4 +1,5 @@
 -- An operator on one operand or two that are scalars, and that gives a word. EAT1.
+use Rattle.std.proofs.Common.{Ok}
 use Prim.Native.Nat.{ℕ, ◌+◌, ◌-◌, ◌≤◌}
 use native.Mathlib.Omega.{arith}
 use mathlib.Core.Path.{◌≡◌, sym, ap, ◌∙◌}
@@ -10,8 +11,7 @@ use Rattle.descriptor.specs.Fields.{is_array}
 use Rattle.descriptor.specs.Kinds.{is_scalar}
 use Rattle.operator.specs.declared.Dyadic.{Dyadic}
 use Rattle.operator.specs.declared.Monadic.{Monadic}
-use Rattle.scalar.specs.declared.Answer.{Answer}
-use Rattle.scalar.specs.declared.Answer.TheVariants.{Word}
+use Rattle.scalar.specs.Results.{Answer}
 use Rattle.scalar.specs.Operators.{monadic_of, dyadic_of}
 use Rattle.segment.specs.State.{sbase, ltop, set_ltop}
 use Rattle.storage.specs.Arrays.{drop_words}
@@ -30,11 +30,11 @@ use Rattle.effects.specs.Carried.{did, carry}
 use Rattle.fast_path.proofs.Words.{scalar-no-array, scalar-operand, dropped-two, discarded}
 
 -- EAT1
-pub eaten : (s : List ℕ) → 1 ≤ temporaries s → (next : ℕ) {u t : List ℕ} → u ≡ discard s 1 → t ≡ perform u (jumps next) → did Finished t ≡ carry s (eat (seen s) next)
+pub eaten : (s : List ℕ) → 1 ≤ temporaries s → (next : ℕ) {u t : List ℕ} → u ≡ discard s 1 → t ≡ perform u (jumps next) → did (Ok Finished) t ≡ carry s (eat (seen s) next)
 unfolding eat
 eaten s some next dropped done =
     rw (count-seen s, le-ltb (temporaries s) 1 some)
-    (ap (did Finished) (done ∙ ap (λ (v : List ℕ). perform v (jumps next)) dropped))
+    (ap (did (Ok Finished)) (done ∙ ap (λ (v : List ℕ). perform v (jumps next)) dropped))
 
 module _ (s : List ℕ) (some : 1 ≤ temporaries s) {x : ℕ} (top : x ≡ operand_at s 0) (first : is_scalar x ≡ true) where
   one-scalar : is_scalar (operand_at s 0) ≡ true
@@ -50,20 +50,20 @@ module _ (s : List ℕ) (some : 1 ≤ temporaries s) {x : ℕ} (top : x ≡ oper
       rw (at, drop-other s (operand_at s 0) none)
 
   module _ (next : ℕ) where
-    module _ (op : Monadic) {answer : Answer} {w : ℕ} (computed : answer ≡ monadic_of op x) (gave : answer ≡ Word w) where
-      one-result : monadic_of op (operand_at s 0) ≡ Word w
+    module _ (op : Monadic) {answer : Answer} {w : ℕ} (computed : answer ≡ monadic_of op x) (gave : answer ≡ Ok w) where
+      one-result : monadic_of op (operand_at s 0) ≡ Ok w
       one-result = cc
 
       one-planned : plan.monadic (seen s) next op ≡ gives (replaces 1 (word w) ∷ jumps next ∷ [])
       unfolding plan.monadic values.monadic values.each
       one-planned = rw (count-seen s, le-ltb (temporaries s) 1 some, scalar-operand s 0 (omega arith) one-scalar, one-result)
 
-      pub scalar-computed : {u t : List ℕ} → u ≡ finish s (bottom_of s 1) w → t ≡ perform u (jumps next) → did Finished t ≡ carry s (plan.monadic (seen s) next op)
+      pub scalar-computed : {u t : List ℕ} → u ≡ finish s (bottom_of s 1) w → t ≡ perform u (jumps next) → did (Ok Finished) t ≡ carry s (plan.monadic (seen s) next op)
       scalar-computed replaced done =
-          ap (did Finished) (done ∙ ap (λ (v : List ℕ). perform v (jumps next)) (replaced ∙ one-taken w))
+          ap (did (Ok Finished)) (done ∙ ap (λ (v : List ℕ). perform v (jumps next)) (replaced ∙ one-taken w))
           ∙ ap (carry s) (sym one-planned)
 
-    pub scalar-eaten : {u t : List ℕ} → u ≡ set_ltop s (ltop s - 1) → t ≡ perform u (jumps next) → did Finished t ≡ carry s (eat (seen s) next)
+    pub scalar-eaten : {u t : List ℕ} → u ≡ set_ltop s (ltop s - 1) → t ≡ perform u (jumps next) → did (Ok Finished) t ≡ carry s (eat (seen s) next)
     scalar-eaten dropped done = eaten s some next (dropped ∙ sym (discarded s none)) done
 
 module _ (s : List ℕ) (two : 2 ≤ temporaries s) {x y : ℕ} (top : x ≡ operand_at s 0) (first : is_scalar x ≡ true) (under : y ≡ operand_at s 1) (second : is_scalar y ≡ true) where
@@ -89,15 +89,15 @@ module _ (s : List ℕ) (two : 2 ≤ temporaries s) {x y : ℕ} (top : x ≡ ope
           (ap (λ (i : ℕ). is_array (get_or s i 0)) high ∙ scalar-no-array (operand_at s 0) scalar-top)
           (ap (λ (i : ℕ). is_array (get_or s i 0)) low ∙ scalar-no-array (operand_at s 1) scalar-under)
 
-  module _ (next : ℕ) (op : Dyadic) {answer : Answer} {w : ℕ} (combined : answer ≡ dyadic_of op x y) (gave : answer ≡ Word w) where
-    result : dyadic_of op (operand_at s 0) (operand_at s 1) ≡ Word w
+  module _ (next : ℕ) (op : Dyadic) {answer : Answer} {w : ℕ} (combined : answer ≡ dyadic_of op x y) (gave : answer ≡ Ok w) where
+    result : dyadic_of op (operand_at s 0) (operand_at s 1) ≡ Ok w
     result = cc
 
     planned : plan.dyadic (seen s) next op ≡ gives (replaces 2 (word w) ∷ jumps next ∷ [])
     unfolding plan.dyadic values.dyadic values.conform values.pairwise
     planned = rw (count-seen s, le-ltb (temporaries s) 2 two, scalar-operand s 0 (omega arith) scalar-top, scalar-operand s 1 (omega arith) scalar-under, result)
 
-    pub scalars-combined : {u t : List ℕ} → u ≡ finish s (bottom_of s 2) w → t ≡ perform u (jumps next) → did Finished t ≡ carry s (plan.dyadic (seen s) next op)
+    pub scalars-combined : {u t : List ℕ} → u ≡ finish s (bottom_of s 2) w → t ≡ perform u (jumps next) → did (Ok Finished) t ≡ carry s (plan.dyadic (seen s) next op)
     scalars-combined replaced done =
-        ap (did Finished) (done ∙ ap (λ (v : List ℕ). perform v (jumps next)) (replaced ∙ taken w))
+        ap (did (Ok Finished)) (done ∙ ap (λ (v : List ℕ). perform v (jumps next)) (replaced ∙ taken w))
         ∙ ap (carry s) (sym planned)

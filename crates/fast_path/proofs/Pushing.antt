@@ -1,4 +1,5 @@
 -- A word pushed, and a variable loaded that holds a scalar or an array, or refers to one that does.
+use Rattle.std.specs.Prelude.{Ok}
 use Prim.Native.Nat.{ℕ, ◌+◌, ◌-◌, ◌≤◌}
 use mathlib.Core.Path.{◌≡◌, refl, sym, ap, ◌∙◌}
 use mathlib.Core.Bool.{Bool, true, false}
@@ -39,15 +40,15 @@ module _ (s : List ℕ) (next : ℕ) where
   abbrev pushed : Source → Plan
   pushed source = plan.push (seen s) next source
 
-  pub word-pushed : (w : ℕ) {x u : List ℕ} → 1 ≤ room s → x ≡ replace s 0 (word w) → u ≡ perform x (jumps next) → did Finished u ≡ carry s (pushed (word w))
+  pub word-pushed : (w : ℕ) {x u : List ℕ} → 1 ≤ room s → x ≡ replace s 0 (word w) → u ≡ perform x (jumps next) → did (Ok Finished) u ≡ carry s (pushed (word w))
   word-pushed w some placed jumped =
-      ap (did Finished) (jumped ∙ ap (λ (v : List ℕ). perform v (jumps next)) placed)
+      ap (did (Ok Finished)) (jumped ∙ ap (λ (v : List ℕ). perform v (jumps next)) placed)
       ∙ sym (rw (room-seen s, le-ltb (room s) 1 some))
 
 module _ (s : List ℕ) (next : ℕ) (t : Target) where
-  pub array-pushed : {w : ℕ} {x u : List ℕ} → w ≡ held_at s t → 1 ≤ room s → x ≡ replace_shared s 0 w → u ≡ perform x (jumps next) → did Finished u ≡ carry s (pushed s next (variable t))
+  pub array-pushed : {w : ℕ} {x u : List ℕ} → w ≡ held_at s t → 1 ≤ room s → x ≡ replace_shared s 0 w → u ≡ perform x (jumps next) → did (Ok Finished) u ≡ carry s (pushed s next (variable t))
   array-pushed held some placed jumped =
-      ap (did Finished) (jumped ∙ ap (λ (v : List ℕ). perform v (jumps next)) (placed ∙ ap (replace_shared s 0) held ∙ replace-variable s 0 t))
+      ap (did (Ok Finished)) (jumped ∙ ap (λ (v : List ℕ). perform v (jumps next)) (placed ∙ ap (replace_shared s 0) held ∙ replace-variable s 0 t))
       ∙ sym (rw (room-seen s, le-ltb (room s) 1 some))
 
   -- A scalar is pushed as its word.
@@ -64,7 +65,7 @@ module _ (s : List ℕ) (next : ℕ) (t : Target) where
       where
         by-room : (full : Bool) → carry s (stop_if full 1 1 (gives (replaces 0 (word w) ∷ jumps next ∷ []))) ≡ carry s (stop_if full 1 1 (gives (replaces 0 (variable t) ∷ jumps next ∷ [])))
         by-room true = refl
-        by-room false = ap (λ (u : List ℕ). did Finished (perform u (jumps next))) as-word
+        by-room false = ap (λ (u : List ℕ). did (Ok Finished) (perform u (jumps next))) as-word
 
   -- What a variable holds is loaded, where it is that variable that was named or referred to.
   module _ {resolved : OrTrap Variable} {r : Bool} {u : List ℕ} where

@@ -4,17 +4,20 @@ use mathlib.Core.Path.{◌≡◌, ap, ◌∙◌}
 use mathlib.Core.List.{List}
 use lib.ListN.{length, get_or}
 use borrow.Author.Tests.{le-ltb, lt-ltb, lt-leb}
+use Rattle.std.proofs.Common.{Result, Ok, Err}
+use Rattle.trap.specs.declared.Trap.{Trap}
+use Rattle.trap.specs.Trap.{trap_of}
 use Rattle.descriptor.specs.declared.Target.TheVariants.{Global}
 use Rattle.descriptor.specs.Kinds.{segment}
 use Rattle.segment.specs.State.{sbase, lbase, blockptr}
 use Rattle.procedure.specs.Bytes.{byte_at}
 use Rattle.procedure.specs.declared.header.Header.{Header}
-use Rattle.instruction.specs.declared.variable.FetchedAddress.TheVariants as F
+use Rattle.instruction.specs.declared.Address.{Address}
 use Rattle.instruction.specs.declared.Address.TheVariants as A
 use Rattle.instruction.specs.declared.family.Family.{Family}
 use Rattle.instruction.specs.declared.family.Family.TheVariants.{ShortLocal, LongLocal, LongGlobal}
 use Rattle.instruction.specs.declared.cursor.Cursor.{Cursor}
-use Rattle.instruction.specs.Reading.{cursor_at, fetch_byte, with_byte}
+use Rattle.instruction.specs.Reading.{cursor_at, fetch_byte, with_read}
 use Rattle.instruction.specs.Variables.{long_local, long_global, address_in}
 use Rattle.manual.specs.Seen.{variables_of}
 use Rattle.manual.specs.Instructions.{resolve}
@@ -22,7 +25,7 @@ use Rattle.effects.specs.Seen.{seen}
 use Rattle.fast_path.specs.Naming.{local_of, Stands, Names}
 
 -- A byte that is there is fetched.
-pub fetched : {A : Type 0} (code : List ℕ) (place : ℕ) (outside : A) (f : ℕ → Cursor → A) → place < length code → with_byte (fetch_byte code (cursor_at place)) outside f ≡ f (byte_at code place) (cursor_at (place + 1))
+pub fetched : {A : Type 0} (code : List ℕ) (place : ℕ) (outside : A) (f : ℕ → Cursor → A) → place < length code → with_read (fetch_byte code (cursor_at place)) outside f ≡ f (byte_at code place) (cursor_at (place + 1))
 unfolding fetch_byte
 fetched code place outside f inside = simp (lt-ltb place (length code) inside)
 
@@ -60,7 +63,7 @@ module _ (s : List ℕ) where
           address = A.Local (4096 - bits);
           end = cursor_at (at + 1);
           target = local_of s (4096 - bits);
-          fetches = rw (told, is) (fetched code at (F.Trap 3 1) (λ second next. F.At (long_local (first * 2 ^ 8 + second)) next) inside);
+          fetches = rw (told, is) (fetched {A = Result (Address × Cursor) Trap} code at (Err (trap_of 3 1)) (λ second next. Ok (long_local (first * 2 ^ 8 + second), next)) inside);
           stands = in_frame variables (4096 - bits) stands;
         }
 
@@ -71,6 +74,6 @@ module _ (s : List ℕ) where
           address = A.Global (record { 0 = bits });
           end = cursor_at (at + 1);
           target = Global (segment bits);
-          fetches = rw (told, is) (fetched code at (F.Trap 3 1) (λ second next. F.At (long_global (first * 2 ^ 8 + second)) next) inside);
+          fetches = rw (told, is) (fetched {A = Result (Address × Cursor) Trap} code at (Err (trap_of 3 1)) (λ second next. Ok (long_global (first * 2 ^ 8 + second), next)) inside);
           stands = λ h. λ same. stands;
         }

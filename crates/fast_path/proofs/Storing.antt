@@ -1,4 +1,5 @@
 -- A scalar assigned to a variable that holds a scalar or nothing, and kept on the stack or not.
+use Rattle.std.specs.Prelude.{Ok}
 use Prim.Native.Nat.{ℕ, ◌+◌, ◌-◌, ◌≤◌}
 use native.Mathlib.Omega.{arith}
 use mathlib.Core.Path.{◌≡◌, sym, ap, ◌∙◌}
@@ -69,15 +70,15 @@ module _ (s : List ℕ) (i : ℕ) {w old : ℕ} (top : w ≡ operand_at s 0) (sc
     done-so = sym (ap (λ (j : ℕ). store_at s j (operand 0)) (sym at) ∙ store-plain)
 
     -- ASSIGN
-    pub scalar-kept : {x u : List ℕ} → keep ≡ true → x ≡ stored → u ≡ perform x (jumps next) → did Finished u ≡ carry s planned
+    pub scalar-kept : {x u : List ℕ} → keep ≡ true → x ≡ stored → u ≡ perform x (jumps next) → did (Ok Finished) u ≡ carry s planned
     unfolding plan.assign
     scalar-kept keeps put jumped =
-        ap (did Finished) (jumped ∙ ap (λ (v : List ℕ). perform v (jumps next)) (put ∙ done-so))
+        ap (did (Ok Finished)) (jumped ∙ ap (λ (v : List ℕ). perform v (jumps next)) (put ∙ done-so))
         ∙ sym (rw keeps (ap (carry s) (assigned (λ v. stores v.place (operand 0) ∷ jumps next ∷ []))))
 
     -- ASSIGN_NORESULT
-    pub scalar-stored : {x y u : List ℕ} → keep ≡ false → (i ≡ 0 → ⊥) → x ≡ stored → y ≡ set_ltop x (ltop x - 1) → u ≡ perform y (jumps next) → did Finished u ≡ carry s planned
+    pub scalar-stored : {x y u : List ℕ} → keep ≡ false → (i ≡ 0 → ⊥) → x ≡ stored → y ≡ set_ltop x (ltop x - 1) → u ≡ perform y (jumps next) → did (Ok Finished) u ≡ carry s planned
     unfolding plan.assign_no_result
     scalar-stored keeps apart put went jumped =
-        ap (did Finished) (jumped ∙ ap (λ (v : List ℕ). perform v (jumps next)) (went ∙ ap (λ (v : List ℕ). set_ltop v (ltop v - 1)) put ∙ sym (discard-stored apart) ∙ ap (λ (v : List ℕ). discard v 1) done-so))
+        ap (did (Ok Finished)) (jumped ∙ ap (λ (v : List ℕ). perform v (jumps next)) (went ∙ ap (λ (v : List ℕ). set_ltop v (ltop v - 1)) put ∙ sym (discard-stored apart) ∙ ap (λ (v : List ℕ). discard v 1) done-so))
         ∙ sym (rw keeps (ap (carry s) (assigned (λ v. stores v.place (operand 0) ∷ discards 1 ∷ jumps next ∷ []))))

@@ -1,6 +1,7 @@
 -- What the fast path of an instruction answers: `true` where the instruction is done to its end, `false` where no word has
 -- changed and it is still to be done. A reader must believe: with these two a caller can go either way. Assumes nothing.
-use Rattle.std.specs.Prelude.{ℕ, ◌+◌, ◌%◌, ◌^◌, ◌≤◌, ◌<◌, ◌≡◌, Bool, true, false, List}
+use Rattle.std.specs.Prelude.{ℕ, ◌+◌, ◌%◌, ◌^◌, ◌≤◌, ◌<◌, ◌≡◌, Bool, true, false, List, Result, Ok}
+use Rattle.trap.specs.declared.Trap.{Trap}
 use Rattle.descriptor.specs.declared.address.CodeAddress.{CodeAddress}
 use Rattle.descriptor.specs.declared.Target.{Target}
 use Rattle.descriptor.specs.Kinds.{bit}
@@ -24,7 +25,7 @@ use Rattle.fast_path.specs.Naming.{Stands}
 
 -- The words were `s`, the answer is `r`, the words are `after`.
 pub record DoneOrKept (s : List ℕ) (plan : Plan) (r : Bool) (after : List ℕ) : Type 0 where
-  pub done : r ≡ true → did Finished after ≡ carry s plan
+  pub done : r ≡ true → did (Ok Finished) after ≡ carry s plan
   pub kept : r ≡ false → after ≡ s
 
 -- `CarriesOut` where the answer is `true`.
@@ -33,7 +34,7 @@ CarriesOutIf s r after plan = DoneOrKept s (plan (seen s)) r after
 
 -- ---- contracts by what is decoded, in every function that the code can be of
 
-abbrev pub CarriesOutIn : List ℕ → Bool → List ℕ → (Running → Type 0) → Decoded → Type 0
+abbrev pub CarriesOutIn : List ℕ → Bool → List ℕ → (Running → Type 0) → Result Decoded Trap → Type 0
 CarriesOutIn s r after Of d = (f : Running) → Of f → CarriesOutIf s r after (λ sees. plan_decoded f sees d)
 
 abbrev pub Any : Running → Type 0

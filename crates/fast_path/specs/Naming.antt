@@ -1,6 +1,7 @@
 -- The variable that an address of the code names, and where it stands. A reader must believe: an address is resolved with one
 -- indirection from the variable that it names itself, which is the word at that place. Assumes nothing.
-use Rattle.std.specs.Prelude.{ℕ, ◌-◌, ◌≡◌, Bool, true, false, ◌||◌, List, eqb}
+use Rattle.std.specs.Prelude.{ℕ, ◌-◌, ◌≡◌, Bool, true, false, ◌||◌, List, eqb, Option, Some, Result, Ok}
+use Rattle.trap.specs.declared.Trap.{Trap}
 use Rattle.descriptor.specs.declared.Target.{Target}
 use Rattle.descriptor.specs.declared.Target.TheVariants.{Local}
 use Rattle.descriptor.specs.Fields.{undefined_word}
@@ -10,10 +11,6 @@ use Rattle.procedure.specs.declared.header.Header.{Header}
 use Rattle.instruction.specs.declared.Address.{Address}
 use Rattle.instruction.specs.declared.MemoryOperation.{MemoryOperation}
 use Rattle.instruction.specs.declared.MemoryOperation.TheVariants.{Assign, AssignNoResult}
-use Rattle.instruction.specs.declared.table.MemorySuboperation.{MemorySuboperation}
-use Rattle.instruction.specs.declared.table.MemorySuboperation.TheVariants.{Defined}
-use Rattle.instruction.specs.declared.variable.FetchedAddress.{FetchedAddress}
-use Rattle.instruction.specs.declared.variable.FetchedAddress.TheVariants.{At}
 use Rattle.instruction.specs.declared.cursor.Cursor.{Cursor}
 use Rattle.manual.specs.OrTrap.{OrTrap}
 use Rattle.manual.specs.Seen.{Variable, follow, variables_of}
@@ -35,11 +32,11 @@ pub record Stands (s : List ℕ) (resolved : OrTrap Variable) (t : Target) (i : 
   pub place : i ≡ address_of s t
 
 -- An address was fetched, and word i is the variable that it names in a frame with so many.
-pub record Names (s : List ℕ) (variables : ℕ) (fetched : FetchedAddress) (i : ℕ) : Type 0 where
+pub record Names (s : List ℕ) (variables : ℕ) (fetched : Result (Address × Cursor) Trap) (i : ℕ) : Type 0 where
   pub address : Address
   pub end : Cursor
   pub target : Target
-  pub fetches : fetched ≡ At address end
+  pub fetches : fetched ≡ Ok (address, end)
   pub stands : (h : Header) → variables_of h ≡ variables → Stands s (resolve (seen s) h address) target i
 
 -- A word that names no array, and is no reference: a scalar, or undefined.
@@ -51,5 +48,5 @@ abbrev pub assignment : Bool → MemoryOperation
 assignment true = Assign
 assignment false = AssignNoResult
 
-abbrev pub assign_entry : Bool → MemorySuboperation
-assign_entry keep = Defined (assignment keep)
+abbrev pub assign_entry : Bool → Option MemoryOperation
+assign_entry keep = Some (assignment keep)

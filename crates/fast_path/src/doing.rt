@@ -19,9 +19,8 @@ use effects_code::taking::{finish, replace_by_share, replace_by_word};
 use operands::reading::{count, operand_at, room};
 use operands::variables::held;
 use operator::{Dyadic, Monadic};
-use scalar::Answer;
 use segment::state::{lbase, ltop, sbase, set_ltop, top_cell};
-use segment::{high, minus, put, word};
+use segment::{high, put, word};
 
 // What a variable holds, word i, or one that it refers to: a scalar or an array.
 pub fn load_from(seg: &mut [u32], i: usize, next: CodeAddress) -> bool
@@ -92,8 +91,8 @@ pub fn monadic(seg: &mut [u32], op: Monadic, next: CodeAddress) -> bool
         return false;
     }
     match scalar::monadic(op, x) {
-        Answer::Trap(_, _) => false,
-        Answer::Word(w) => {
+        Err(_) => false,
+        Ok(w) => {
             replace(seg, 1, w);
             jump(seg, next);
             true
@@ -116,8 +115,8 @@ pub fn dyadic(seg: &mut [u32], op: Dyadic, next: CodeAddress) -> bool
         return false;
     }
     match scalar::dyadic(op, x, y) {
-        Answer::Trap(_, _) => false,
-        Answer::Word(w) => {
+        Err(_) => false,
+        Ok(w) => {
             replace(seg, 2, w);
             jump(seg, next);
             true
@@ -130,7 +129,7 @@ fn replace(seg: &mut [u32], n: u32, w: u32)
     requires { 0 < n }
     ensures { seg.new ≡ finish seg.old (bottom_of seg.old n) w }
 {
-    let b = minus(top_cell(seg).number() + 1, n);
+    let b = (top_cell(seg).number() + 1).saturating_sub(n);
     finish(seg, SegmentAddress::of(b), w);
 }
 
@@ -236,6 +235,6 @@ pub fn go_if(seg: &mut [u32], wanted: u32, to: CodeAddress, next: CodeAddress) -
 fn discard(seg: &mut [u32], n: u32)
     ensures { seg.new ≡ fields.set_ltop seg.old (fields.ltop seg.old - n) }
 {
-    let left = minus(ltop(seg).number(), n);
+    let left = ltop(seg).number().saturating_sub(n);
     set_ltop(seg, StackAddress::of(left));
 }

@@ -21,12 +21,12 @@ use descriptor::address::CodeAddress;
 use doing::{dyadic, eat, go, go_if, is_scalar, load_from, monadic, push, store};
 use instruction::family::{Family, family_of};
 use instruction::length::length_in;
-use instruction::table::{EtcSuboperation, MemorySuboperation, etc_of, memory_of};
+use instruction::table::{EtcSuboperation, etc_of, memory_of};
 use instruction::{Jump, MemoryOperation, StackOperation};
 use naming::{half, local, long, variable};
 use operands::variables::variables;
+use operator::Operator;
 use operator::lent::operator_under;
-use operator::{Operator, Suboperation};
 use procedure::header::Header;
 use segment::word;
 
@@ -63,8 +63,7 @@ pub fn try_fast(
         Family::Etc => etc(seg, h, code, first, place),
         Family::LongLocal => load_long(seg, variables(h), code, first, Family::LongLocal, place),
         Family::LongGlobal => load_long(seg, variables(h), code, first, Family::LongGlobal, place),
-        Family::Index => false,
-        Family::Unassigned => false,
+        Family::Index | Family::Unassigned => false,
     }
 }
 
@@ -130,7 +129,7 @@ fn scalar_operation(seg: &mut [u32], table: &[u8; 16], first: u8, place: CodeAdd
     ensures { CarriesOutIn seg.old result seg.new (WithTable table.now)
         (decoding.scalar_at (operator_of (first % 2 ^ 5)) (past place)) }
 {
-    let Suboperation::Defined(operator) = operator_under(table, first % 32) else {
+    let Some(operator) = operator_under(table, first % 32) else {
         return false;
     };
     let next = after(place, Family::GenScalar, first);
@@ -144,20 +143,19 @@ fn memory(
     seg: &mut [u32],
     variables: u32,
     code: &[u8],
-    sub: MemorySuboperation,
+    operation: Option<MemoryOperation>,
     place: CodeAddress,
 ) -> bool
-    ensures { CarriesOutIn seg.old result seg.new (WithVariables variables) (decoding.memory_at code.now (past place) sub) }
+    ensures { CarriesOutIn seg.old result seg.new (WithVariables variables)
+        (decoding.memory_at code.now (past place) operation) }
 {
-    let MemorySuboperation::Defined(operation) = sub else {
+    let Some(operation) = operation else {
         return false;
     };
     match operation {
         MemoryOperation::Assign => assign(seg, variables, code, true, place),
         MemoryOperation::AssignNoResult => assign(seg, variables, code, false, place),
-        MemoryOperation::AssignIndexed(_) => false,
-        MemoryOperation::Reference => false,
-        MemoryOperation::TestDefined => false,
+        _ => false,
     }
 }
 
@@ -184,8 +182,11 @@ fn etc(seg: &mut [u32], h: Header, code: &[u8], first: u8, place: CodeAddress) -
     ensures { CarriesOutIn seg.old result seg.new (WithHeader h)
         (decoding.etc_at code.now (past place) (etc_of (first % 2 ^ 5))) }
 {
+    let Some(sub) = etc_of(first % 32) else {
+        return false;
+    };
     // The place after is worked out in each arm: there the compiler knows the suboperation, and no comparison is left.
-    match etc_of(first % 32) {
+    match sub {
         EtcSuboperation::Jump(kind) => jump_to(
             seg,
             h,
@@ -201,11 +202,7 @@ fn etc(seg: &mut [u32], h: Header, code: &[u8], first: u8, place: CodeAddress) -
             place,
             after(place, Family::Etc, first),
         ),
-        EtcSuboperation::Array(_) => false,
-        EtcSuboperation::Control(_) => false,
-        EtcSuboperation::ConstantVector => false,
-        EtcSuboperation::Call => false,
-        EtcSuboperation::Undefined => false,
+        _ => false,
     }
 }
 
@@ -214,16 +211,13 @@ fn stack_operation(seg: &mut [u32], op: StackOperation, next: CodeAddress) -> bo
 {
     match op {
         StackOperation::Eat1 => eat(seg, next),
-        StackOperation::Undefined => false,
-        StackOperation::Interchange => false,
-        StackOperation::SetOrigin => false,
-        StackOperation::GetOrigin => false,
+        _ => false,
     }
 }
 
 fn constant_scalar(seg: &mut [u32], code: &[u8], place: CodeAddress, next: CodeAddress) -> bool
     requires seg_len_bound { length seg.old ≤ 16384 }
-    requires next_value { next.0 ≡ next_after place (etc_length E.ConstantScalar) }
+    requires next_value { next.0 ≡ next_after place (etc_length (Some E.ConstantScalar)) }
     ensures { CarriesOutIn seg.old result seg.new Any (decoding.constant_scalar_at code.now (past place)) }
 {
     let at = place.number() as usize + 1;
@@ -247,7 +241,7 @@ fn jump_to(
     place: CodeAddress,
     next: CodeAddress,
 ) -> bool
-    requires { next.0 ≡ next_after place (etc_length (E.Jump kind)) }
+    requires { next.0 ≡ next_after place (etc_length (Some (E.Jump kind))) }
     ensures { CarriesOutIn seg.old result seg.new (WithHeader h) (decoding.jump_at code.now (past place) kind) }
 {
     let at = place.number() as usize + 1;

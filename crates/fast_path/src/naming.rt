@@ -9,7 +9,6 @@ ghost use Rattle.fast_path.specs.Naming.{local_of, Stands, Names};
 
 use descriptor::address::StackAddress;
 use instruction::family::Family;
-use segment::minus;
 use segment::state::{blockptr, lbase, sbase};
 
 // The variable whose address begins with `first`, of that family, and has its second byte, if any, at `at`; 0 where it names none.
@@ -39,13 +38,7 @@ pub fn long(seg: &[u32], variables: u32, code: &[u8], first: u8, family: Family,
     match family {
         Family::LongLocal => local(seg, variables, 4096 - half(first, code[at]) as u32 % 0x1000),
         Family::LongGlobal => global(seg, half(first, code[at]) as u32 % 0x1000),
-        Family::ShortLocal => 0,
-        Family::ShortConst => 0,
-        Family::GenScalar => 0,
-        Family::MemRef => 0,
-        Family::Etc => 0,
-        Family::Index => 0,
-        Family::Unassigned => 0,
+        _ => 0,
     }
 }
 
@@ -57,7 +50,7 @@ pub fn local(seg: &[u32], variables: u32, v: u32) -> usize
     if variables < v {
         return 0;
     }
-    StackAddress::of(minus(lbase(seg).number(), v)).index(sbase(seg))
+    StackAddress::of(lbase(seg).number().saturating_sub(v)).index(sbase(seg))
 }
 
 fn global(seg: &[u32], g: u32) -> usize

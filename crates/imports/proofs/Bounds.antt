@@ -10,10 +10,9 @@ use borrow.Author.Tests.{ltb-false}
 use Rattle.descriptor.specs.Fields.{integer_limit}
 use Rattle.segment.specs.Blocks.{product}
 use Rattle.segment.specs.Lent.{Words}
-use Rattle.imports.specs.declared.number.FoundNumber.{FoundNumber}
-use Rattle.imports.specs.declared.number.FoundNumber.TheVariants.{Number, Bad}
+use Rattle.std.proofs.Common.{Some, None}
 use Rattle.imports.specs.Numbers as several
-use Rattle.imports.specs.Numbers.{Numbers, numbers, number_at, if_number, and_more, several_at, if_numbers}
+use Rattle.imports.specs.Numbers.{FoundNumber, Numbers, numbers, number_at, if_number, and_more, several_at, if_numbers}
 use Rattle.imports.specs.Records.{Record, load, run, FoundRecord, found, bad, Records, ends, malformed, entry, element_limit, number_limit, imported_elements, imported_lengths, imported_load, imported_run, record_at, continued, records_up_to, records_from, records_of}
 use Rattle.imports.specs.Encoding.{AtMost}
 
@@ -23,8 +22,8 @@ by-test P true one other h k = h refl
 by-test P false one other h k = k refl
 
 by_number : {A : Type 0} (P : A → Type 0) (n : FoundNumber) (none : A) (f : ℕ → ℕ → A) → P none → ((n next : ℕ) → P (f n next)) → P (if_number n none f)
-by_number P (Number n next) none f h k = k n next
-by_number P Bad none f h k = h
+by_number P (Some (n, next)) none f h k = k n next
+by_number P None none f h k = h
 
 -- ---- numbers
 

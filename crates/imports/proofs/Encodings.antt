@@ -6,12 +6,11 @@ use mathlib.Core.List.{List, [], ◌∷◌}
 use lib.ListN.{length, get_or}
 use borrow.Author.Tests.{lt-ltb, le-ltb}
 use Rattle.segment.specs.Lent.{Bytes}
-use Rattle.imports.specs.declared.number.FoundNumber.{FoundNumber}
-use Rattle.imports.specs.declared.number.FoundNumber.TheVariants.{Number, Bad}
-use Rattle.imports.specs.Numbers.{above, groups_at, number_at}
+use Rattle.std.proofs.Common.{Some, None}
+use Rattle.imports.specs.Numbers.{FoundNumber, above, groups_at, number_at}
 use Rattle.imports.specs.Encoding.{encode_groups, encode_number}
 use Rattle.descriptor.proofs.Truth.{by_le, by-eq}
-use Rattle.imports.proofs.Numbers.{cut, last, more, needless, weighed}
+use Rattle.imports.proofs.Numbers.{same_value, same_next, cut, last, more, needless, weighed}
 use Rattle.imports.proofs.Standing.{Fills, fills-none, fills_one, first-inside, first_byte, next-bytes}
 
 -- so many groups write the numbers below it
@@ -35,16 +34,16 @@ large groups n high = simp (le-ltb n (2 ^ 7) high)
 
 -- ---- what was written is read back
 
-same_number : {m n next : ℕ} → m ≡ n → Number m next ≡ Number n next
-same_number e = cc
+same_number : {m n next : ℕ} → m ≡ n → ◌≡◌ {A = FoundNumber} (Some (m, next)) (Some (n, next))
+same_number {next = next} e = ap (λ (v : ℕ). let found : FoundNumber = Some (v, next) in found) e
 
 module _ (file : List ℕ) where
-  small-back : (groups place n next : ℕ) → n < 2 ^ 7 → Fills file place next (n ∷ []) → groups_at (suc groups) file place ≡ Number n next
+  small-back : (groups place n next : ℕ) → n < 2 ^ 7 → Fills file place next (n ∷ []) → groups_at (suc groups) file place ≡ Some (n, next)
   small-back groups place n next low fills =
       rw fills.end (last groups file place (first-inside fills) n (first_byte fills) low)
 
   large-back : (groups place n next : ℕ) (rest : List ℕ) → 2 ^ 7 ≤ n → Fills file place next ((2 ^ 7 + n % 2 ^ 7) ∷ rest)
-      → groups_at groups file (place + 1) ≡ Number (n / 2 ^ 7) next → groups_at (suc groups) file place ≡ Number n next
+      → groups_at groups file (place + 1) ≡ Some (n / 2 ^ 7, next) → groups_at (suc groups) file place ≡ Some (n, next)
   large-back groups place n next rest high fills ih =
       more groups file place (first-inside fills) (2 ^ 7 + n % 2 ^ 7) (first_byte fills) (omega arith)
       ∙ ap (above (2 ^ 7 + n % 2 ^ 7 - 2 ^ 7)) ih
@@ -52,7 +51,7 @@ module _ (file : List ℕ) where
       ∙ same_number (omega arith)
 
   groups-back : (groups place n next : ℕ) → n < limit_of (suc groups) → Fills file place next (encode_groups (suc groups) n)
-      → groups_at (suc groups) file place ≡ Number n next
+      → groups_at (suc groups) file place ≡ Some (n, next)
   groups-back zero place n next bound fills = small-back zero place n next (omega arith) (rw (small zero n (omega arith)) at fills)
   groups-back (suc groups) place n next bound fills =
       by_le (2 ^ 7) n
@@ -61,38 +60,39 @@ module _ (file : List ℕ) where
       (groups-back groups (place + 1) (n / 2 ^ 7) next (omega arith) (next-bytes written)))
       (λ low. small-back (suc groups) place n next low (rw (small (suc groups) n low) at fills))
 
-  pub number-back : (place n next : ℕ) → n < 2 ^ 28 → Fills file place next (encode_number n) → number_at file place ≡ Number n next
+  pub number-back : (place n next : ℕ) → n < 2 ^ 28 → Fills file place next (encode_number n) → number_at file place ≡ Some (n, next)
   unfolding number_at encode_number
   number-back place n next bound fills = groups-back 3 place n next bound fills
 
 -- ---- what is read was written so
 
-never : {C : Type 0} {n next : ℕ} → Bad ≡ Number n next → C
+never : {C : Type 0} {n next : ℕ} → ◌≡◌ {A = FoundNumber} None (Some (n, next)) → C
 never e = let z : ◌≡◌ {A = ℕ} 0 1 = cc in absurd (omega arith)
 
-above-number : (low : ℕ) (rest : FoundNumber) (n next : ℕ) → above low rest ≡ Number n next
-    → (high : ℕ) × (rest ≡ Number high next) × (high ≡ 0 → ⊥) × (n ≡ low + 2 ^ 7 * high)
-above-number low (Number high after) n next e =
+above-number : (low : ℕ) (rest : FoundNumber) (n next : ℕ) → above low rest ≡ Some (n, next)
+    → (high : ℕ) × (rest ≡ Some (high, next)) × (high ≡ 0 → ⊥) × (n ≡ low + 2 ^ 7 * high)
+above-number low (Some (high, after)) n next e =
     by-eq high 0
     (λ none. never (sym (needless low high after none) ∙ e))
-    (λ some. let told = weighed low high after some in (high, cc, some, cc))
-above-number low Bad n next e = never e
+    (λ some. let told = sym (weighed low high after some) ∙ e in
+    (high, ap (λ (k : ℕ). let found : FoundNumber = Some (high, k) in found) (same_next told), some, sym (same_value told)))
+above-number low None n next e = never e
 
 module _ (file : List ℕ) (bytes : Bytes file) where
-  module _ (groups place n next : ℕ) (read : groups_at (suc groups) file place ≡ Number n next) (inside : place < length file) where
+  module _ (groups place n next : ℕ) (read : groups_at (suc groups) file place ≡ Some (n, next)) (inside : place < length file) where
     one_byte : get_or file place 0 < 2 ^ 7 → (n < limit_of (suc groups)) × Fills file place next (encode_groups (suc groups) n)
     one_byte low =
-        let told = last groups file place inside (get_or file place 0) refl low in
-        let same : get_or file place 0 ≡ n = cc in
-        let ended : place + 1 ≡ next = cc in
+        let told = sym (last groups file place inside (get_or file place 0) refl low) ∙ read in
+        let same : get_or file place 0 ≡ n = same_value told in
+        let ended : place + 1 ≡ next = same_next told in
         rw (small groups n (omega arith), ← ended) (omega (arith, some groups), fills_one inside same (fills-none (omega arith)))
 
     more_bytes : 2 ^ 7 ≤ get_or file place 0
-        → ((high : ℕ) → groups_at groups file (place + 1) ≡ Number high next → (high < limit_of groups) × Fills file (place + 1) next (encode_groups groups high))
+        → ((high : ℕ) → groups_at groups file (place + 1) ≡ Some (high, next) → (high < limit_of groups) × Fills file (place + 1) next (encode_groups groups high))
         → (n < limit_of (suc groups)) × Fills file place next (encode_groups (suc groups) n)
     more_bytes high rest = go (above-number _ _ n next (sym (more groups file place inside (get_or file place 0) refl high) ∙ read))
       where
-        go : (v : ℕ) × (groups_at groups file (place + 1) ≡ Number v next) × (v ≡ 0 → ⊥) × (n ≡ get_or file place 0 - 2 ^ 7 + 2 ^ 7 * v)
+        go : (v : ℕ) × (groups_at groups file (place + 1) ≡ Some (v, next)) × (v ≡ 0 → ⊥) × (n ≡ get_or file place 0 - 2 ^ 7 + 2 ^ 7 * v)
             → (n < limit_of (suc groups)) × Fills file place next (encode_groups (suc groups) n)
         go (v, found, some, value) =
             let byte = bytes place in
@@ -101,7 +101,7 @@ module _ (file : List ℕ) (bytes : Bytes file) where
             let large-n : 2 ^ 7 ≤ n = omega arith in
             rw (large groups n large-n, above) (omega (arith, (rest v found).0), fills_one inside low (rest v found).1)
 
-  groups-one : (groups place n next : ℕ) → groups_at groups file place ≡ Number n next → (n < limit_of groups) × Fills file place next (encode_groups groups n)
+  groups-one : (groups place n next : ℕ) → groups_at groups file place ≡ Some (n, next) → (n < limit_of groups) × Fills file place next (encode_groups groups n)
   unfolding groups_at
   groups-one zero place n next read = never read
   groups-one (suc groups) place n next read =
@@ -111,6 +111,6 @@ module _ (file : List ℕ) (bytes : Bytes file) where
       (λ high. more_bytes groups place n next read inside high (λ v found. groups-one groups (place + 1) v next found))
       (λ low. one_byte groups place n next read inside low))
 
-  pub number-one : (place n next : ℕ) → number_at file place ≡ Number n next → (n < 2 ^ 28) × Fills file place next (encode_number n)
+  pub number-one : (place n next : ℕ) → number_at file place ≡ Some (n, next) → (n < 2 ^ 28) × Fills file place next (encode_number n)
   unfolding number_at encode_number
   number-one place n next read = groups-one 4 place n next read

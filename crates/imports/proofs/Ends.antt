@@ -9,16 +9,15 @@ use lib.Dec.{ltb, eqb}
 use lib.ListN.{get_or, length}
 use Rattle.descriptor.specs.Fields.{integer_limit}
 use Rattle.segment.specs.Blocks.{product}
-use Rattle.imports.specs.declared.number.FoundNumber.{FoundNumber}
-use Rattle.imports.specs.declared.number.FoundNumber.TheVariants.{Number, Bad}
+use Rattle.std.proofs.Common.{Some, None}
 use Rattle.imports.specs.Numbers as several
-use Rattle.imports.specs.Numbers.{Numbers, numbers, above, groups_at, number_at, if_number, several_at, if_numbers, and_more}
+use Rattle.imports.specs.Numbers.{FoundNumber, Numbers, numbers, above, groups_at, number_at, if_number, several_at, if_numbers, and_more}
 use Rattle.imports.specs.Records.{Record, load, run, FoundRecord, found, bad, number_limit, element_limit, imported_elements, imported_lengths, imported_load, imported_run, record_at}
 
 -- what is found, if anything, ends at `least` or later
 abbrev NumberFrom : ℕ → FoundNumber → Type 0
-NumberFrom least (Number n next) = least ≤ next
-NumberFrom least Bad = Unit {0}
+NumberFrom least (Some (n, next)) = least ≤ next
+NumberFrom least None = Unit {0}
 
 abbrev NumbersFrom : ℕ → Numbers → Type 0
 NumbersFrom least (numbers ns next) = least ≤ next
@@ -35,8 +34,8 @@ either P false p q = q
 
 with_number : {A : Type 0} (P : A → Type 0) (least : ℕ) (n : FoundNumber) (none : A) (f : ℕ → ℕ → A)
     → NumberFrom least n → P none → ((v next : ℕ) → least ≤ next → P (f v next)) → P (if_number n none f)
-with_number P least (Number v next) none f past p q = q v next past
-with_number P least Bad none f past p q = p
+with_number P least (Some (v, next)) none f past p q = q v next past
+with_number P least None none f past p q = p
 
 with-numbers : {A : Type 0} (P : A → Type 0) (least : ℕ) (ns : Numbers) (none : A) (f : List ℕ → ℕ → A)
     → NumbersFrom least ns → P none → ((vs : List ℕ) (next : ℕ) → least ≤ next → P (f vs next)) → P (if_numbers ns none f)
@@ -46,8 +45,8 @@ with-numbers P least several.bad none f past p q = p
 -- ---- numbers
 
 above_from : (least low : ℕ) (high : FoundNumber) → NumberFrom least high → NumberFrom least (above low high)
-above_from least low (Number n next) past = either (NumberFrom least) (eqb n 0) tt past
-above_from least low Bad past = tt
+above_from least low (Some (n, next)) past = either (NumberFrom least) (eqb n 0) tt past
+above_from least low None past = tt
 
 groups-from : (groups : ℕ) (file : List ℕ) (place least : ℕ) → least ≤ place + 1 → NumberFrom least (groups_at groups file place)
 unfolding groups_at

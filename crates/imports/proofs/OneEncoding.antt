@@ -10,10 +10,9 @@ use borrow.Author.Tests.{ltb-false}
 use Rattle.descriptor.specs.Fields.{integer_limit}
 use Rattle.segment.specs.Blocks.{product}
 use Rattle.segment.specs.Lent.{Bytes}
-use Rattle.imports.specs.declared.number.FoundNumber.{FoundNumber}
-use Rattle.imports.specs.declared.number.FoundNumber.TheVariants.{Number, Bad}
+use Rattle.std.proofs.Common.{Some, None}
 use Rattle.imports.specs.Numbers as several
-use Rattle.imports.specs.Numbers.{Numbers, numbers, number_at, if_number, several_at, if_numbers, and_more}
+use Rattle.imports.specs.Numbers.{FoundNumber, Numbers, numbers, number_at, if_number, several_at, if_numbers, and_more}
 use Rattle.imports.specs.Records.{Record, load, run, FoundRecord, found, bad, number_limit, element_limit, imported_elements, imported_lengths, imported_load, imported_run, kind_at, record_at}
 use Rattle.imports.specs.Encoding.{encode_number, encode_numbers, encode_record, AtMost, Loadable, Writable}
 use Rattle.descriptor.proofs.Truth.{by-eq}
@@ -35,9 +34,9 @@ refused-not true rest r next e = never e
 refused-not false rest r next e = (refl, e)
 
 number-then : (what : FoundNumber) (f : ℕ → ℕ → FoundRecord) (r : Record) (next : ℕ) → if_number what bad f ≡ found r next
-    → (n : ℕ) × (after : ℕ) × (what ≡ Number n after) × (f n after ≡ found r next)
-number-then (Number n after) f r next e = (n, after, refl, e)
-number-then Bad f r next e = never e
+    → (n : ℕ) × (after : ℕ) × (what ≡ Some (n, after)) × (f n after ≡ found r next)
+number-then (Some (n, after)) f r next e = (n, after, refl, e)
+number-then None f r next e = never e
 
 numbers-then : (what : Numbers) (f : List ℕ → ℕ → FoundRecord) (r : Record) (next : ℕ) → if_numbers what bad f ≡ found r next
     → (ns : List ℕ) × (after : ℕ) × (what ≡ numbers ns after) × (f ns after ≡ found r next)
@@ -45,9 +44,9 @@ numbers-then (numbers ns after) f r next e = (ns, after, refl, e)
 numbers-then several.bad f r next e = never e
 
 several-then : (what : FoundNumber) (f : ℕ → ℕ → Numbers) (ns : List ℕ) (next : ℕ) → if_number what several.bad f ≡ numbers ns next
-    → (n : ℕ) × (after : ℕ) × (what ≡ Number n after) × (f n after ≡ numbers ns next)
-several-then (Number n after) f ns next e = (n, after, refl, e)
-several-then Bad f ns next e = never-several e
+    → (n : ℕ) × (after : ℕ) × (what ≡ Some (n, after)) × (f n after ≡ numbers ns next)
+several-then (Some (n, after)) f ns next e = (n, after, refl, e)
+several-then None f ns next e = never-several e
 
 within-limit : (b : Bool) (n : ℕ) (rest : Numbers) (ns : List ℕ) (next : ℕ) → cond b several.bad (and_more n rest) ≡ numbers ns next
     → (b ≡ false) × (others : List ℕ) × (ns ≡ n ∷ others) × (rest ≡ numbers others next)
@@ -67,7 +66,7 @@ module _ (file : List ℕ) (bytes : Bytes file) where
   at_most limit n ns first rest zero = first
   at_most limit n ns first rest (suc i) = rest i
 
-  one-of-several : (limit count place n after : ℕ) (others : List ℕ) (next : ℕ) → number_at file place ≡ Number n after → n ≤ limit
+  one-of-several : (limit count place n after : ℕ) (others : List ℕ) (next : ℕ) → number_at file place ≡ Some (n, after) → n ≤ limit
       → NumbersOf limit count after others next → NumbersOf limit (suc count) place (n ∷ others) next
   one-of-several limit count place n after others next one within rest =
       record {
@@ -145,11 +144,11 @@ module _ (file : List ℕ) (bytes : Bytes file) where
 
   -- ---- a record, by its kind
 
-  number-fills : (place n m next : ℕ) → number_at file place ≡ Number n next → n ≡ m → Fills file place next (encode_number m)
+  number-fills : (place n m next : ℕ) → number_at file place ≡ Some (n, next) → n ≡ m → Fills file place next (encode_number m)
   number-fills place n m next read same = rw same at (number-one file bytes place n next read).1
 
-  load_of : (start place global second rank third next : ℕ) (r : Record) → Fills file start place (encode_number 0) → number_at file place ≡ Number global second
-      → number_at file second ≡ Number rank third → LoadOf third global rank r next → Writable r × Fills file start next (encode_record r)
+  load_of : (start place global second rank third next : ℕ) (r : Record) → Fills file start place (encode_number 0) → number_at file place ≡ Some (global, second)
+      → number_at file second ≡ Some (rank, third) → LoadOf third global rank r next → Writable r × Fills file start next (encode_record r)
   unfolding encode_record
   load_of start place global second rank third next r loading address ranked rest =
       let number = number-one file bytes place global second address in
@@ -167,7 +166,7 @@ module _ (file : List ℕ) (bytes : Bytes file) where
       let inside = fills-inside file (number-one file bytes global.1 rank.0 rank.1 rank.2).1 in
       load_of start place global.0 global.1 rank.0 rank.1 next r loading global.2 rank.2 (lengths-one rank.1 global.0 rank.0 inside r next rank.3)
 
-  run_of : (start place budget next : ℕ) → number_at file place ≡ Number budget next → Fills file start place (encode_number 1)
+  run_of : (start place budget next : ℕ) → number_at file place ≡ Some (budget, next) → Fills file start place (encode_number 1)
       → Writable (run budget) × Fills file start next (encode_record (run budget))
   unfolding encode_record
   run_of start place budget next read running =

@@ -7,17 +7,17 @@ use mathlib.Core.List.{List, [], ◌∷◌, ◌++◌, append_assoc, append-nil}
 use lib.ListN.{length, take, set}
 use lib.Seq.{take-suc-set}
 use borrow.Author.Tests.{lt-ltb, le-ltb}
-use Rattle.imports.specs.declared.number.FoundNumber.TheVariants.{Number, Bad}
+use Rattle.std.proofs.Common.{Some, None}
 use Rattle.imports.specs.Numbers.{Numbers, numbers, bad, number_at, several_at, and_more}
 
 -- ---- one number of several
 
 module _ (limit count : ℕ) (file : List ℕ) (place : ℕ) where
-  pub no_number : number_at file place ≡ Bad → several_at limit (suc count) file place ≡ bad
+  pub no_number : number_at file place ≡ None → several_at limit (suc count) file place ≡ bad
   unfolding several_at
   no_number none = simp none
 
-  module _ (n next : ℕ) (found : number_at file place ≡ Number n next) where
+  module _ (n next : ℕ) (found : number_at file place ≡ Some (n, next)) where
     pub too-great : limit < n → several_at limit (suc count) file place ≡ bad
     unfolding several_at
     too-great above = simp (found, lt-ltb limit n above)
@@ -63,10 +63,10 @@ module _ {limit count : ℕ} {file : List ℕ} {place : ℕ} {out : List ℕ} {a
     ahead : several_at limit count file place ≡ after (take i out) (several_at limit (suc (count - (i + 1))) file at)
     ahead = rw here at reading.so_far
 
-    pub reading-none : number_at file at ≡ Bad → bad ≡ several_at limit count file place
+    pub reading-none : number_at file at ≡ None → bad ≡ several_at limit count file place
     reading-none none = sym (ahead ∙ ap (after (take i out)) (no_number limit (count - (i + 1)) file at none))
 
-    module _ (n next : ℕ) (found : number_at file at ≡ Number n next) where
+    module _ (n next : ℕ) (found : number_at file at ≡ Some (n, next)) where
       pub reading-above : limit < n → bad ≡ several_at limit count file place
       reading-above above = sym (ahead ∙ ap (after (take i out)) (too-great limit (count - (i + 1)) file at n next found above))
 

@@ -1,30 +1,32 @@
 -- The numbers of a file of imports. Document 02, paper 1: "numbers in groups of seven bits, low group first, the top bit meaning
 -- more, at most four groups, no needless zero group"; decision 82. A reader must believe: a file is its bytes, and places count
 -- from 0. Assumes nothing.
-use Rattle.std.specs.Prelude.{ℕ, zero, suc, ◌+◌, ◌*◌, ◌-◌, ◌^◌, cond, List, [], ◌∷◌, ltb, eqb, get_or, length}
-use Rattle.imports.specs.declared.number.FoundNumber.{FoundNumber}
-use Rattle.imports.specs.declared.number.FoundNumber.TheVariants.{Number, Bad}
+use Rattle.std.specs.Prelude.{ℕ, zero, suc, ◌+◌, ◌*◌, ◌-◌, ◌^◌, cond, List, [], ◌∷◌, Option, Some, None, ltb, eqb, get_or, length}
+
+-- A number and the place after it, if there is one.
+abbrev pub FoundNumber : Type 0
+FoundNumber = Option (ℕ × ℕ)
 
 -- A low group, and the number that the groups after it are: where that is 0, they are needless.
 abbrev pub above : ℕ → FoundNumber → FoundNumber
-above low (Number high next) = cond (eqb high 0) Bad (Number (low + 2 ^ 7 * high) next)
-above low Bad = Bad
+above low (Some (high, next)) = cond (eqb high 0) None (Some (low + 2 ^ 7 * high, next))
+above low None = None
 
 -- A number of at most so many groups: its value and the place after it.
 unfoldable pub groups_at : ℕ → List ℕ → ℕ → FoundNumber
-groups_at zero file place = Bad
+groups_at zero file place = None
 groups_at (suc groups) file place =
     let b = get_or file place 0 in
     let rest = groups_at groups file (place + 1) in
-    cond (ltb place (length file)) (cond (ltb b (2 ^ 7)) (Number b (place + 1)) (above (b - 2 ^ 7) rest)) Bad
+    cond (ltb place (length file)) (cond (ltb b (2 ^ 7)) (Some (b, place + 1)) (above (b - 2 ^ 7) rest)) None
 
 unfoldable pub number_at : List ℕ → ℕ → FoundNumber
 number_at file place = groups_at 4 file place
 
 -- What is done with a number and the place after it, and the answer where there is none.
 abbrev pub if_number : {A : Type 0} → FoundNumber → A → (ℕ → ℕ → A) → A
-if_number (Number n next) none f = f n next
-if_number Bad none f = none
+if_number (Some (n, next)) none f = f n next
+if_number None none f = none
 
 -- ---- several
 

@@ -3,7 +3,7 @@ ghost use Rattle.std.specs.Prelude.{◌≡◌, ℕ, ◌≤◌, List, length, tak
 ghost use Rattle.imports.specs.Parsing.{parsed, Few, Usable};
 ghost use Rattle.imports.specs.Records as meaning;
 
-use crate::number::{FoundNumber, FoundNumbers, number_at, numbers_at};
+use crate::number::{number_at, numbers_at};
 use descriptor::Descriptor;
 use elements::shapes::product;
 
@@ -15,7 +15,7 @@ const ELEMENT_LIMIT: usize = 16384;
 
 // A record and the place after it: of a load the lengths and the elements lie in two lent slices.
 #[derive(Clone, Copy)]
-pub enum Parsed {
+pub enum Record {
     Load {
         global: u32,
         rank: usize,
@@ -26,37 +26,33 @@ pub enum Parsed {
         budget: u32,
         next: usize,
     },
-    Malformed,
 }
 
-pub fn record_at(file: &[u8], place: usize, lengths: &mut [u32], ravel: &mut [u32]) -> Parsed
+pub fn record_at(
+    file: &[u8],
+    place: usize,
+    lengths: &mut [u32],
+    ravel: &mut [u32],
+) -> Option<Record>
     requires { (length lengths.old ≡ 15) × (length ravel.old ≡ 16384) }
     ensures ravel_after { parsed result lengths.new ravel.new ≡ meaning.record_at file.now place }
     ensures usable { Usable place result }
 {
-    let FoundNumber::Number(kind, next) = number_at(file, place) else {
-        return Parsed::Malformed;
-    };
-    if kind == 0 {
-        return load_at(file, next, lengths, ravel);
+    let (kind, next) = number_at(file, place)?;
+    match kind {
+        0 => load_at(file, next, lengths, ravel),
+        1 => run_at(file, next),
+        _ => None,
     }
-    if kind == 1 {
-        return run_at(file, next);
-    }
-    Parsed::Malformed
 }
 
-fn load_at(file: &[u8], place: usize, lengths: &mut [u32], ravel: &mut [u32]) -> Parsed
+fn load_at(file: &[u8], place: usize, lengths: &mut [u32], ravel: &mut [u32]) -> Option<Record>
     requires { (length lengths.old ≡ 15) × (length ravel.old ≡ 16384) }
     ensures ravel_after { parsed result lengths.new ravel.new ≡ meaning.imported_load file.now place }
     ensures few { Few result }
 {
-    let FoundNumber::Number(global, next) = number_at(file, place) else {
-        return Parsed::Malformed;
-    };
-    let FoundNumber::Number(rank, after) = number_at(file, next) else {
-        return Parsed::Malformed;
-    };
+    let (global, next) = number_at(file, place)?;
+    let (rank, after) = number_at(file, next)?;
     lengths_at(file, after, global, rank, lengths, ravel)
 }
 
@@ -67,18 +63,16 @@ fn lengths_at(
     rank: u32,
     lengths: &mut [u32],
     ravel: &mut [u32],
-) -> Parsed
+) -> Option<Record>
     requires { (length lengths.old ≡ 15) × (length ravel.old ≡ 16384) }
     ensures ravel_after { parsed result lengths.new ravel.new ≡ meaning.imported_lengths file.now place global rank }
     ensures few { Few result }
 {
     if 15 < rank {
-        return Parsed::Malformed;
+        return None;
     }
     let rank = rank as usize;
-    let FoundNumbers::To(next) = numbers_at(file, place, NUMBER_LIMIT, rank, lengths) else {
-        return Parsed::Malformed;
-    };
+    let next = numbers_at(file, place, NUMBER_LIMIT, &mut lengths[..rank])?;
     elements_at(file, next, global, rank, lengths, ravel)
 }
 
@@ -89,7 +83,7 @@ fn elements_at(
     rank: usize,
     lengths: &[u32],
     ravel: &mut [u32],
-) -> Parsed
+) -> Option<Record>
     requires { (rank ≤ 15) × (length lengths.now ≡ 15) × (length ravel.old ≡ 16384) }
     ensures ravel_after { parsed result lengths.now ravel.new
         ≡ meaning.imported_elements file.now place global (take rank lengths.now) }
@@ -97,26 +91,21 @@ fn elements_at(
 {
     let count = product(&lengths[..rank]) as usize;
     if ELEMENT_LIMIT < count {
-        return Parsed::Malformed;
+        return None;
     }
-    let FoundNumbers::To(next) = numbers_at(file, place, Descriptor::INTEGER_LIMIT, count, ravel)
-    else {
-        return Parsed::Malformed;
-    };
-    Parsed::Load {
+    let next = numbers_at(file, place, Descriptor::INTEGER_LIMIT, &mut ravel[..count])?;
+    Some(Record::Load {
         global,
         rank,
         count,
         next,
-    }
+    })
 }
 
-fn run_at(file: &[u8], place: usize) -> Parsed
+fn run_at(file: &[u8], place: usize) -> Option<Record>
     ensures by_index { (lengths ravel : List ℕ) → parsed result lengths ravel ≡ meaning.imported_run file.now place }
     ensures few { Few result }
 {
-    let FoundNumber::Number(budget, next) = number_at(file, place) else {
-        return Parsed::Malformed;
-    };
-    Parsed::Run { budget, next }
+    let (budget, next) = number_at(file, place)?;
+    Some(Record::Run { budget, next })
 }

@@ -11,16 +11,14 @@ pub fn write_number(n: u32, out: &mut [u8], at: usize) -> usize
 {
     let mut rest = n;
     let mut to = at;
-    let mut groups: usize = 4;
-    while 0 < groups {
+    for _ in 0..4usize {
         if rest < 0x80 {
             out[to] = rest as u8;
             return to + 1;
         }
         out[to] = 0x80 + (rest % 0x80) as u8;
-        rest = rest / 0x80;
+        rest /= 0x80;
         to += 1;
-        groups -= 1;
     }
     to
 }

@@ -4,20 +4,20 @@
 // tools/imports_model.py gives.
 #![tactic(auto)]
 
-ghost use Rattle.std.specs.Prelude.{◌≡◌, ℕ, ◌<◌, length, ◌≢◌};
+ghost use Rattle.std.specs.Prelude.{◌≡◌, ℕ, ◌<◌, length, Some};
 ghost use Rattle.imports.specs.Parsing.{Advances};
 
-use imports::parse::{Parsed, record_at};
+use imports::parse::{Record, record_at};
 
 const STDIN: i32 = 0;
 
 const STDOUT: i32 = 1;
 
-// How many records were read; of what is no record the place.
+// How many records were read, and the place of what is no record, if there is such.
 #[derive(Clone, Copy)]
-enum Ending {
-    Ends(usize),
-    Malformed(usize, usize),
+struct Reading {
+    records: usize,
+    malformed: Option<usize>,
 }
 
 fn main() {
@@ -28,19 +28,17 @@ fn main() {
 }
 
 fn cut(file: &[u8]) {
-    let mut n = 0;
-    while n <= file.len() {
+    for n in 0..file.len() {
         write_number(b"cut ", n);
-        write_ending(read(&file[..n]));
-        n += 1;
+        write_reading(read(&file[..n]));
     }
+    write_number(b"cut ", file.len());
+    write_reading(read(file));
 }
 
 fn change(file: &mut [u8]) {
-    let mut place = 0;
-    while place < file.len() {
+    for place in 0..file.len() {
         change_byte(file, place);
-        place += 1;
     }
 }
 
@@ -48,10 +46,9 @@ fn change_byte(file: &mut [u8], place: usize)
     requires { place < length file.old }
 {
     let byte = file[place];
-    read_with(file, place, std::num::wrapping_add_u8(byte, 0x80));
-    read_with(file, place, 0x00);
-    read_with(file, place, 0xFF);
-    read_with(file, place, std::num::wrapping_add_u8(byte, 1));
+    for changed in [byte.wrapping_add(0x80), 0x00, 0xFF, byte.wrapping_add(1)] {
+        read_with(file, place, changed);
+    }
 }
 
 // The byte is put back afterwards.
@@ -63,60 +60,56 @@ fn read_with(file: &mut [u8], place: usize, byte: u8)
     write_number(b"byte ", place);
     io::write_all(STDOUT, b" as ");
     io::print_hex(STDOUT, byte as u64, 2);
-    write_ending(read(file));
+    write_reading(read(file));
     file[place] = before;
 }
 
-fn read(file: &[u8]) -> Ending {
+fn read(file: &[u8]) -> Reading {
     let mut lengths = [0u32; 15];
     let mut ravel = [0u32; 16384];
     read_all(file, &mut lengths, &mut ravel)
 }
 
-fn read_all(file: &[u8], lengths: &mut [u32], ravel: &mut [u32]) -> Ending
+fn read_all(file: &[u8], lengths: &mut [u32], ravel: &mut [u32]) -> Reading
     requires { (length lengths.old ≡ 15) × (length ravel.old ≡ 16384) }
 {
     let mut place = 0;
     let mut records = 0;
     while place < file.len() {
-        let next = after(record_at(file, place, lengths, ravel));
-        if next == 0 {
-            return Ending::Malformed(records, place);
-        }
-        place = next;
+        let Some(record) = record_at(file, place, lengths, ravel) else {
+            return Reading {
+                records,
+                malformed: Some(place),
+            };
+        };
+        place = after(record);
         records += 1;
     }
-    Ending::Ends(records)
+    Reading {
+        records,
+        malformed: None,
+    }
 }
 
-// The place after a record; 0 where there is none.
-fn after(found: Parsed) -> usize
-    ensures { (place : ℕ) → Advances place found → (result ≢ 0) → place < result }
+// The place after a record.
+fn after(found: Record) -> usize
+    ensures { (place : ℕ) → Advances place (Some found) → place < result }
 {
     match found {
-        Parsed::Load {
-            global: _,
-            rank: _,
-            count: _,
-            next,
-        } => next,
-        Parsed::Run { budget: _, next } => next,
-        Parsed::Malformed => 0,
+        Record::Load { next, .. } => next,
+        Record::Run { next, .. } => next,
     }
 }
 
-fn write_ending(ending: Ending) {
-    match ending {
-        Ending::Ends(records) => {
-            write_number(b" records ", records);
-            io::write_all(STDOUT, b" ends\n");
-        }
-        Ending::Malformed(records, place) => {
-            write_number(b" records ", records);
+fn write_reading(reading: Reading) {
+    write_number(b" records ", reading.records);
+    match reading.malformed {
+        None => io::write_all(STDOUT, b" ends\n"),
+        Some(place) => {
             write_number(b" malformed ", place);
-            io::write_all(STDOUT, b"\n");
+            io::write_all(STDOUT, b"\n")
         }
-    }
+    };
 }
 
 fn write_number(name: &[u8], n: usize) {

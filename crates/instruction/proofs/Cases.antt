@@ -7,62 +7,55 @@ use native.Mathlib.Omega.{arith}
 use lib.ListN.{length, get_or}
 use lib.Dec.{ltb}
 use borrow.Author.Tests.{ltb-true, ltb-false}
+use Rattle.std.proofs.Common.{Option, Some, None}
 use Rattle.instruction.specs.declared.cursor.Cursor.{Cursor}
-use Rattle.instruction.specs.declared.cursor.FetchedByte.{FetchedByte}
-use Rattle.instruction.specs.declared.cursor.FetchedByte.TheVariants.{Byte, Outside}
-use Rattle.instruction.specs.declared.cursor.FetchedHalf.{FetchedHalf}
-use Rattle.instruction.specs.declared.cursor.FetchedHalf.TheVariants.{Half, Outside as NoHalf}
-use Rattle.instruction.specs.declared.cursor.FetchedWord.{FetchedWord}
-use Rattle.instruction.specs.declared.cursor.FetchedWord.TheVariants.{Word, Outside as NoWord}
-use Rattle.instruction.specs.declared.cursor.FetchedWords.{FetchedWords}
-use Rattle.instruction.specs.declared.cursor.FetchedWords.TheVariants.{Words, Outside as NoWords}
-use Rattle.instruction.specs.Reading.{boundary, cursor_at, fetch_byte, fetch_half, fetch_word, fetch_words, with_byte, with_half}
+use Rattle.instruction.specs.Reading.{boundary, cursor_at, fetch_byte, fetch_half, fetch_word, fetch_words, with_read}
 
 module _ (code : List ℕ) (c : Cursor) where
-  pub byte-cases : (P : FetchedByte → Type 0) → (length code ≤ c.at → P Outside)
-      → (c.at < length code → P (Byte (get_or code c.at 0) (cursor_at (c.at + 1)))) → P (fetch_byte code c)
+  pub byte-cases : (P : Option (ℕ × Cursor) → Type 0) → (length code ≤ c.at → P None)
+      → (c.at < length code → P (Some (get_or code c.at 0, cursor_at (c.at + 1)))) → P (fetch_byte code c)
   unfolding fetch_byte
   byte-cases P outside inside = on (ltb c.at (length code)) refl
     where
       on : (t : Bool) → ltb c.at (length code) ≡ t
-          → P (cond t (Byte (get_or code c.at 0) (cursor_at (c.at + 1))) Outside)
+          → P (cond t (Some (get_or code c.at 0, cursor_at (c.at + 1))) None)
       on true e = inside (ltb-true _ _ e)
       on false e = outside (ltb-false _ _ e)
 
-  pub words-cases : (count : ℕ) (P : FetchedWords → Type 0) → P NoWords
+  pub words-cases : (count : ℕ) (P : Option (Cursor × Cursor) → Type 0) → P None
       → (boundary c.at + 4 * count ≤ length code
-      → P (Words (cursor_at (boundary c.at)) (cursor_at (boundary c.at + 4 * count))))
+      → P (Some (cursor_at (boundary c.at), cursor_at (boundary c.at + 4 * count))))
       → P (fetch_words code c count)
   unfolding fetch_words
   words-cases count P outside inside = on (ltb (length code) (boundary c.at + 4 * count)) refl
     where
       on : (t : Bool) → ltb (length code) (boundary c.at + 4 * count) ≡ t
-          → P (cond t NoWords (Words (cursor_at (boundary c.at)) (cursor_at (boundary c.at + 4 * count))))
+          → P (cond t None (Some (cursor_at (boundary c.at), cursor_at (boundary c.at + 4 * count))))
       on true e = outside
       on false e = inside (ltb-false _ _ e)
 
-pub half-cases : (code : List ℕ) (c : Cursor) (P : FetchedHalf → Type 0) → (length code ≤ c.at + 1 → P NoHalf)
-    → ((v : ℕ) → c.at + 1 < length code → P (Half v (cursor_at (c.at + 1 + 1)))) → P (fetch_half code c)
+pub half-cases : (code : List ℕ) (c : Cursor) (P : Option (ℕ × Cursor) → Type 0) → (length code ≤ c.at + 1 → P None)
+    → ((v : ℕ) → c.at + 1 < length code → P (Some (v, cursor_at (c.at + 1 + 1)))) → P (fetch_half code c)
 unfolding fetch_half
 half-cases code c P outside inside =
     byte-cases code c
-    (λ (x : FetchedByte). P (with_byte x NoHalf (λ high next. with_byte (fetch_byte code next) NoHalf (λ low after. Half (high * 2 ^ 8 + low) after))))
+    (λ (x : Option (ℕ × Cursor)). P (with_read x None (λ high next. with_read (fetch_byte code next) None (λ low after. Some (high * 2 ^ 8 + low, after)))))
     (λ h. outside (omega arith))
     (λ h.
     byte-cases code (cursor_at (c.at + 1))
-    (λ (x : FetchedByte). P (with_byte x NoHalf (λ low after. Half (get_or code c.at 0 * 2 ^ 8 + low) after)))
+    (λ (x : Option (ℕ × Cursor)). P (with_read x None (λ low after. Some (get_or code c.at 0 * 2 ^ 8 + low, after))))
     outside
     (λ h₂. inside (get_or code c.at 0 * 2 ^ 8 + get_or code (c.at + 1) 0) h₂))
 
-pub word-cases : (code : List ℕ) (c : Cursor) (P : FetchedWord → Type 0) → (length code ≤ c.at + 1 + 1 + 1 → P NoWord)
-    → ((w : ℕ) → c.at + 1 + 1 + 1 < length code → P (Word w (cursor_at (c.at + 1 + 1 + 1 + 1)))) → P (fetch_word code c)
+pub word-cases : (code : List ℕ) (c : Cursor) (P : Option (ℕ × Cursor) → Type 0) → (length code ≤ c.at + 1 + 1 + 1 → P None)
+    → ((w : ℕ) → c.at + 1 + 1 + 1 < length code → P (Some (w, cursor_at (c.at + 1 + 1 + 1 + 1)))) → P (fetch_word code c)
 unfolding fetch_word
 word-cases code c P outside inside =
     half-cases code c
-    (λ (x : FetchedHalf). P (with_half x NoWord (λ high next. with_half (fetch_half code next) NoWord (λ low after. Word (high * 2 ^ 16 + low) after))))
+    (λ (x : Option (ℕ × Cursor)). P (with_read x None (λ high next. with_read (fetch_half code next) None (λ low after. Some (high * 2 ^ 16 + low, after)))))
     (λ h. outside (omega arith))
     (λ high h.
     half-cases code (cursor_at (c.at + 1 + 1))
-    (λ (x : FetchedHalf). P (with_half x NoWord (λ low after. Word (high * 2 ^ 16 + low) after)))
+    (λ (x : Option (ℕ × Cursor)). P (with_read x None (λ low after. Some (high * 2 ^ 16 + low, after))))
     outside
     (λ low h₂. inside (high * 2 ^ 16 + low) h₂))

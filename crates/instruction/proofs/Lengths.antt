@@ -6,16 +6,16 @@ use native.Mathlib.Omega.{arith}
 use lib.ListN.{length}
 use Rattle.instruction.specs.declared.Address.{Address}
 use Rattle.instruction.specs.declared.cursor.Cursor.{Cursor}
-use Rattle.instruction.specs.declared.cursor.FetchedByte.{FetchedByte}
 use Rattle.instruction.specs.declared.family.Family.{Family}
 use Rattle.instruction.specs.declared.family.Family.TheVariants.{ShortLocal, ShortConst, GenScalar, MemRef, Etc, LongLocal, LongGlobal, Index, Unassigned}
 use Rattle.instruction.specs.declared.length.Length.{Length}
 use Rattle.instruction.specs.declared.length.Length.TheVariants.{Fixed, ByAddress, ByCount, NoInstruction}
-use Rattle.instruction.specs.declared.variable.FetchedAddress.{FetchedAddress}
-use Rattle.instruction.specs.declared.variable.FetchedAddress.TheVariants.{At, Trap}
-use Rattle.instruction.specs.Reading.{fetch_byte, with_byte}
+use Rattle.instruction.specs.Reading.{fetch_byte, with_read}
 use Rattle.instruction.specs.Variables.{long_local, long_global, address_in}
 use Rattle.instruction.specs.Lengths.{length_in, fixed_bytes}
+use Rattle.trap.specs.declared.Trap.{Trap}
+use Rattle.trap.specs.Trap.{trap_of}
+use Rattle.std.proofs.Common.{Option, Result, Ok, Err}
 use Rattle.descriptor.proofs.Computed.{Throughout, throughout}
 use Rattle.instruction.proofs.Cases.{byte-cases}
 
@@ -46,17 +46,17 @@ length_from = throughout number_of numbered undone
 -- ---- an address
 
 -- An address that is there ends at n, where its first byte is counted too, and within the code if what comes after that byte begins there.
-abbrev pub AddressEnds : List ℕ → ℕ → ℕ → FetchedAddress → Type 0
-AddressEnds code begin n (At a after) = (after.at + 1 ≡ n) × (begin ≤ length code → after.at ≤ length code)
-AddressEnds code begin n (Trap class number) = Unit {0}
+abbrev pub AddressEnds : List ℕ → ℕ → ℕ → Result (Address × Cursor) Trap → Type 0
+AddressEnds code begin n (Ok found) = (found.1.at + 1 ≡ n) × (begin ≤ length code → found.1.at ≤ length code)
+AddressEnds code begin n (Err t) = Unit {0}
 
 -- It has as many bytes as the load of its family, with whatever number that is asked.
 module _ (code : List ℕ) (c : Cursor) (first number : ℕ) where
   two_bytes : (address : ℕ → Address)
-      → AddressEnds code c.at (c.at + 2) (with_byte (fetch_byte code c) (Trap 3 1) (λ second after. At (address (first * 2 ^ 8 + second)) after))
+      → AddressEnds code c.at (c.at + 2) (with_read (fetch_byte code c) (Err (trap_of 3 1)) (λ second after. Ok (address (first * 2 ^ 8 + second), after)))
   two_bytes address =
       byte-cases code c
-      (λ (x : FetchedByte). AddressEnds code c.at (c.at + 2) (with_byte x (Trap 3 1) (λ second after. At (address (first * 2 ^ 8 + second)) after)))
+      (λ (x : Option (ℕ × Cursor)). AddressEnds code c.at (c.at + 2) (with_read x (Err (trap_of 3 1)) (λ second after. Ok (address (first * 2 ^ 8 + second), after))))
       (λ h. tt)
       (λ h. (omega arith, λ begins. omega arith))
 

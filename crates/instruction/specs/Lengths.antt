@@ -2,12 +2,10 @@
 -- CALL two", and the manual's word of CONSTANT_SCALAR. Families and suboperations are those of Families and of the tables, so that no
 -- range and no number stands here again. A reader must believe nothing here: instruction_theorems/specs/FirstBytes says that each
 -- length is that of whatever decoding gives. Assumes nothing.
-use Rattle.std.specs.Prelude.{ℕ, ◌%◌, ◌^◌}
-use Rattle.operator.specs.declared.Suboperation.{Suboperation}
-use Rattle.operator.specs.declared.Suboperation.TheVariants as O
+use Rattle.std.specs.Prelude.{ℕ, ◌%◌, ◌^◌, Option, Some, None}
+use Rattle.operator.specs.declared.Operator.{Operator}
 use Rattle.operator.specs.Table.{operator_of}
-use Rattle.instruction.specs.declared.table.MemorySuboperation.{MemorySuboperation}
-use Rattle.instruction.specs.declared.table.MemorySuboperation.TheVariants as M
+use Rattle.instruction.specs.declared.MemoryOperation.{MemoryOperation}
 use Rattle.instruction.specs.declared.table.EtcSuboperation.{EtcSuboperation}
 use Rattle.instruction.specs.declared.table.EtcSuboperation.TheVariants as E
 use Rattle.instruction.specs.declared.family.Family.{Family}
@@ -18,25 +16,25 @@ use Rattle.instruction.specs.Families.{family_of}
 use Rattle.instruction.specs.Tables.{memory_of, etc_of}
 
 -- GENSCALAR: the first byte is all.
-abbrev pub scalar_length : Suboperation → Length
-scalar_length (O.Defined o) = Fixed 1
-scalar_length O.Undefined = NoInstruction
+abbrev pub scalar_length : Option Operator → Length
+scalar_length (Some o) = Fixed 1
+scalar_length None = NoInstruction
 
 -- MEMREF: an address of one or two bytes follows.
-abbrev pub memory_length : MemorySuboperation → Length
-memory_length (M.Defined o) = ByAddress
-memory_length M.Undefined = NoInstruction
+abbrev pub memory_length : Option MemoryOperation → Length
+memory_length (Some o) = ByAddress
+memory_length None = NoInstruction
 
 -- ETC: two bytes follow a jump and CALL, a word CONSTANT_SCALAR, a count CONSTANT_VECTOR.
-abbrev pub etc_length : EtcSuboperation → Length
-etc_length (E.Stack o) = Fixed 1
-etc_length (E.Array o) = Fixed 1
-etc_length (E.Control o) = Fixed 1
-etc_length (E.Jump jump) = Fixed 3
-etc_length E.ConstantScalar = Fixed 5
-etc_length E.ConstantVector = ByCount
-etc_length E.Call = Fixed 3
-etc_length E.Undefined = NoInstruction
+abbrev pub etc_length : Option EtcSuboperation → Length
+etc_length (Some (E.Stack o)) = Fixed 1
+etc_length (Some (E.Array o)) = Fixed 1
+etc_length (Some (E.Control o)) = Fixed 1
+etc_length (Some (E.Jump jump)) = Fixed 3
+etc_length (Some E.ConstantScalar) = Fixed 5
+etc_length (Some E.ConstantVector) = ByCount
+etc_length (Some E.Call) = Fixed 3
+etc_length None = NoInstruction
 
 -- By the family, and by the suboperation's number where the family has suboperations.
 abbrev pub length_in : Family → ℕ → Length

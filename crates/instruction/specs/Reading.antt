@@ -1,18 +1,10 @@
 -- Reading a function's code: document 01's "Reading a code byte yields the byte and the place after it". Code is the function's
 -- block up to the end of its code, as `code_of` of procedure/specs/Headers has it, so that a code address is an index.
 -- A reader must believe: the high byte stands first, and a byte past the end is outside. Assumes nothing.
-use Rattle.std.specs.Prelude.{ℕ, ◌+◌, ◌*◌, ◌/◌, ◌%◌, ◌^◌, cond, List, length, ltb}
+use Rattle.std.specs.Prelude.{ℕ, ◌+◌, ◌*◌, ◌/◌, ◌%◌, ◌^◌, cond, List, length, ltb, Option, Some, None}
 use Rattle.descriptor.specs.declared.address.CodeAddress.{CodeAddress}
 use Rattle.procedure.specs.Bytes.{byte_at}
 use Rattle.instruction.specs.declared.cursor.Cursor.{Cursor}
-use Rattle.instruction.specs.declared.cursor.FetchedByte.{FetchedByte}
-use Rattle.instruction.specs.declared.cursor.FetchedByte.TheVariants.{Byte, Outside}
-use Rattle.instruction.specs.declared.cursor.FetchedHalf.{FetchedHalf}
-use Rattle.instruction.specs.declared.cursor.FetchedHalf.TheVariants.{Half, Outside as NoHalf}
-use Rattle.instruction.specs.declared.cursor.FetchedWord.{FetchedWord}
-use Rattle.instruction.specs.declared.cursor.FetchedWord.TheVariants.{Word, Outside as NoWord}
-use Rattle.instruction.specs.declared.cursor.FetchedWords.{FetchedWords}
-use Rattle.instruction.specs.declared.cursor.FetchedWords.TheVariants.{Words, Outside as NoWords}
 
 abbrev pub code_address : ℕ → CodeAddress
 code_address n = record { 0 = n }
@@ -24,42 +16,30 @@ cursor_at n = record { at = n }
 abbrev pub place_of : Cursor → CodeAddress
 place_of c = code_address (c.at % 2 ^ 32)
 
-unfoldable pub fetch_byte : List ℕ → Cursor → FetchedByte
-fetch_byte code c = cond (ltb c.at (length code)) (Byte (byte_at code c.at) (cursor_at (c.at + 1))) Outside
+unfoldable pub fetch_byte : List ℕ → Cursor → Option (ℕ × Cursor)
+fetch_byte code c = cond (ltb c.at (length code)) (Some (byte_at code c.at, cursor_at (c.at + 1))) None
 
 -- The next word boundary of the function.
 abbrev pub boundary : ℕ → ℕ
 boundary at = (at + 3) / 4 * 4
 
--- That many words from the next boundary on, all of them in the code.
-unfoldable pub fetch_words : List ℕ → Cursor → ℕ → FetchedWords
+-- The cursors at the first of that many words from the next boundary on, all of them in the code, and past the last.
+unfoldable pub fetch_words : List ℕ → Cursor → ℕ → Option (Cursor × Cursor)
 fetch_words code c count =
-    cond (ltb (length code) (boundary c.at + 4 * count)) NoWords
-    (Words (cursor_at (boundary c.at)) (cursor_at (boundary c.at + 4 * count)))
+    cond (ltb (length code) (boundary c.at + 4 * count)) None
+    (Some (cursor_at (boundary c.at), cursor_at (boundary c.at + 4 * count)))
 
 -- What is done with what was read, and the answer outside the code.
-abbrev pub with_byte : {A : Type 0} → FetchedByte → A → (ℕ → Cursor → A) → A
-with_byte (Byte b next) outside f = f b next
-with_byte Outside outside f = outside
+abbrev pub with_read : {V A : Type 0} → Option (V × Cursor) → A → (V → Cursor → A) → A
+with_read (Some read) outside f = f read.0 read.1
+with_read None outside f = outside
 
-abbrev pub with_half : {A : Type 0} → FetchedHalf → A → (ℕ → Cursor → A) → A
-with_half (Half v next) outside f = f v next
-with_half NoHalf outside f = outside
-
-abbrev pub with_word : {A : Type 0} → FetchedWord → A → (ℕ → Cursor → A) → A
-with_word (Word v next) outside f = f v next
-with_word NoWord outside f = outside
-
-abbrev pub with_words : {A : Type 0} → FetchedWords → A → (Cursor → Cursor → A) → A
-with_words (Words first next) outside f = f first next
-with_words NoWords outside f = outside
-
-unfoldable pub fetch_half : List ℕ → Cursor → FetchedHalf
+unfoldable pub fetch_half : List ℕ → Cursor → Option (ℕ × Cursor)
 fetch_half code c =
-    with_byte (fetch_byte code c) NoHalf
-    (λ high next. with_byte (fetch_byte code next) NoHalf (λ low after. Half (high * 2 ^ 8 + low) after))
+    with_read (fetch_byte code c) None
+    (λ high next. with_read (fetch_byte code next) None (λ low after. Some (high * 2 ^ 8 + low, after)))
 
-unfoldable pub fetch_word : List ℕ → Cursor → FetchedWord
+unfoldable pub fetch_word : List ℕ → Cursor → Option (ℕ × Cursor)
 fetch_word code c =
-    with_half (fetch_half code c) NoWord
-    (λ high next. with_half (fetch_half code next) NoWord (λ low after. Word (high * 2 ^ 16 + low) after))
+    with_read (fetch_half code c) None
+    (λ high next. with_read (fetch_half code next) None (λ low after. Some (high * 2 ^ 16 + low, after)))

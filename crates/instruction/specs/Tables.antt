@@ -1,53 +1,52 @@
 -- The manual's tables of the MEMREF and the ETC suboperations. GENSCALAR's stands in operator/specs/Table.
 -- A reader must believe: the tables are the manual's. Assumes nothing.
-use Rattle.std.specs.Prelude.{ℕ, cond, [], ◌∷◌, leb, eqb}
+use Rattle.std.specs.Prelude.{ℕ, cond, [], ◌∷◌, leb, eqb, Option, Some, None}
 use Rattle.operator.specs.Table.{lookup}
+use Rattle.instruction.specs.declared.MemoryOperation.{MemoryOperation}
 use Rattle.instruction.specs.declared.MemoryOperation.TheVariants.{AssignIndexed, Assign, AssignNoResult, Reference, TestDefined}
 use Rattle.instruction.specs.declared.StackOperation.TheVariants as S
 use Rattle.instruction.specs.declared.ArrayOperation.TheVariants as A
 use Rattle.instruction.specs.declared.ControlOperation.TheVariants as C
 use Rattle.instruction.specs.declared.Jump.TheVariants as J
-use Rattle.instruction.specs.declared.table.MemorySuboperation.{MemorySuboperation}
-use Rattle.instruction.specs.declared.table.MemorySuboperation.TheVariants as M
 use Rattle.instruction.specs.declared.table.EtcSuboperation.{EtcSuboperation}
-use Rattle.instruction.specs.declared.table.EtcSuboperation.TheVariants.{Stack, Array, Control, Jump as Go, ConstantScalar, ConstantVector, Call, Undefined}
+use Rattle.instruction.specs.declared.table.EtcSuboperation.TheVariants.{Stack, Array, Control, Jump as Go, ConstantScalar, ConstantVector, Call}
 
 -- MEMREF: 1 to 15 are ASSIGN_INDEXED of that rank; 0 is undefined too.
-unfoldable pub memory_of : ℕ → MemorySuboperation
+unfoldable pub memory_of : ℕ → Option MemoryOperation
 memory_of s =
-    cond (eqb s 0) M.Undefined
-    (cond (leb s 15) (M.Defined (AssignIndexed s))
+    cond (eqb s 0) None
+    (cond (leb s 15) (Some (AssignIndexed s))
     (lookup s
-    ((16, M.Defined Assign)
-    ∷ (17, M.Defined AssignNoResult)
-    ∷ (18, M.Defined Reference)
-    ∷ (19, M.Defined TestDefined)
+    ((16, Some Assign)
+    ∷ (17, Some AssignNoResult)
+    ∷ (18, Some Reference)
+    ∷ (19, Some TestDefined)
     ∷ [])
-    M.Undefined))
+    None))
 
-unfoldable pub etc_of : ℕ → EtcSuboperation
+unfoldable pub etc_of : ℕ → Option EtcSuboperation
 etc_of s =
     lookup s
-    ((0, Stack S.Undefined)
-    ∷ (1, Stack S.Eat1)
-    ∷ (2, Stack S.Interchange)
-    ∷ (3, Stack S.SetOrigin)
-    ∷ (4, Stack S.GetOrigin)
-    ∷ (5, Array A.Shape)
-    ∷ (6, Array A.Reshape)
-    ∷ (7, Array A.Ravel)
-    ∷ (8, Array A.Catenate)
-    ∷ (9, Array A.IndexGenerator)
-    ∷ (10, ConstantScalar)
-    ∷ (11, ConstantVector)
-    ∷ (12, Control C.Branch)
-    ∷ (13, Go J.Go)
-    ∷ (14, Go J.GoTrue)
-    ∷ (15, Go J.GoFalse)
-    ∷ (16, Control C.Return)
-    ∷ (17, Call)
-    ∷ (18, Control C.NoOperation)
-    ∷ (19, Control C.Breakpoint)
-    ∷ (20, Control C.Attention)
+    ((0, Some (Stack S.Undefined))
+    ∷ (1, Some (Stack S.Eat1))
+    ∷ (2, Some (Stack S.Interchange))
+    ∷ (3, Some (Stack S.SetOrigin))
+    ∷ (4, Some (Stack S.GetOrigin))
+    ∷ (5, Some (Array A.Shape))
+    ∷ (6, Some (Array A.Reshape))
+    ∷ (7, Some (Array A.Ravel))
+    ∷ (8, Some (Array A.Catenate))
+    ∷ (9, Some (Array A.IndexGenerator))
+    ∷ (10, Some ConstantScalar)
+    ∷ (11, Some ConstantVector)
+    ∷ (12, Some (Control C.Branch))
+    ∷ (13, Some (Go J.Go))
+    ∷ (14, Some (Go J.GoTrue))
+    ∷ (15, Some (Go J.GoFalse))
+    ∷ (16, Some (Control C.Return))
+    ∷ (17, Some Call)
+    ∷ (18, Some (Control C.NoOperation))
+    ∷ (19, Some (Control C.Breakpoint))
+    ∷ (20, Some (Control C.Attention))
     ∷ [])
-    Undefined
+    None

@@ -2,7 +2,7 @@
 ghost use Rattle.std.specs.Prelude.{◌≡◌};
 ghost use Rattle.instruction.specs.Families.{family_of, order_of};
 
-#[derive(Clone, Copy)]
+#[derive(Clone, Copy, Debug, PartialEq, Eq)]
 pub enum Family {
     ShortLocal,
     ShortConst,
@@ -37,16 +37,6 @@ impl Family {
     pub fn order(self) -> usize
         ensures { result ≡ order_of self }
     {
-        match self {
-            Family::ShortLocal => 0,
-            Family::ShortConst => 1,
-            Family::GenScalar => 2,
-            Family::MemRef => 3,
-            Family::Etc => 4,
-            Family::LongLocal => 5,
-            Family::LongGlobal => 6,
-            Family::Index => 7,
-            Family::Unassigned => 8,
-        }
+        self as usize
     }
 }

@@ -7,7 +7,7 @@ ghost use Rattle.instruction.specs.Tables.{memory_of, etc_of};
 
 use crate::family::Family;
 
-#[derive(Clone, Copy)]
+#[derive(Clone, Copy, Debug, PartialEq, Eq)]
 pub enum Length {
     // That many bytes, the first one among them.
     Fixed(u8),
@@ -26,9 +26,7 @@ impl Length {
     {
         match self {
             Length::Fixed(bytes) => bytes,
-            Length::ByAddress => 0,
-            Length::ByCount => 0,
-            Length::NoInstruction => 0,
+            Length::ByAddress | Length::ByCount | Length::NoInstruction => 0,
         }
     }
 }

@@ -12,14 +12,14 @@ use descriptor::address::{CodeAddress, SegmentAddress};
 use operator::Operator;
 
 // A variable: a local so many words below LBASE, or a global.
-#[derive(Clone, Copy)]
+#[derive(Clone, Copy, Debug, PartialEq, Eq)]
 pub enum Address {
     Local(u32),
     Global(SegmentAddress),
 }
 
 // What a MEMREF instruction does to its variable.
-#[derive(Clone, Copy)]
+#[derive(Clone, Copy, Debug, PartialEq, Eq)]
 pub enum MemoryOperation {
     AssignIndexed(u8),
     Assign,
@@ -29,7 +29,7 @@ pub enum MemoryOperation {
 }
 
 // The ETC instructions on cells and on the index origin.
-#[derive(Clone, Copy)]
+#[derive(Clone, Copy, Debug, PartialEq, Eq)]
 pub enum StackOperation {
     Undefined,
     Eat1,
@@ -39,7 +39,7 @@ pub enum StackOperation {
 }
 
 // The ETC instructions that make arrays.
-#[derive(Clone, Copy)]
+#[derive(Clone, Copy, Debug, PartialEq, Eq)]
 pub enum ArrayOperation {
     Shape,
     Reshape,
@@ -49,7 +49,7 @@ pub enum ArrayOperation {
 }
 
 // The ETC instructions of no operand byte that go elsewhere or nowhere.
-#[derive(Clone, Copy)]
+#[derive(Clone, Copy, Debug, PartialEq, Eq)]
 pub enum ControlOperation {
     Branch,
     Return,
@@ -59,14 +59,14 @@ pub enum ControlOperation {
 }
 
 // The ETC instructions that hold a place to go to.
-#[derive(Clone, Copy)]
+#[derive(Clone, Copy, Debug, PartialEq, Eq)]
 pub enum Jump {
     Go,
     GoTrue,
     GoFalse,
 }
 
-#[derive(Clone, Copy)]
+#[derive(Clone, Copy, Debug, PartialEq, Eq)]
 pub enum Instruction {
     Load(Address),
     ShortConstant {
@@ -93,9 +93,9 @@ pub enum Instruction {
     Index(u8),
 }
 
-// An instruction and the place after it, or the trap's class and number.
-#[derive(Clone, Copy)]
-pub enum Decoded {
-    Instruction(Instruction, CodeAddress),
-    Trap(u8, u8),
+// An instruction and the place after it.
+#[derive(Clone, Copy, Debug, PartialEq, Eq)]
+pub struct Decoded {
+    pub instruction: Instruction,
+    pub next: CodeAddress,
 }

@@ -4,14 +4,8 @@ ghost use Rattle.instruction.specs.Tables.{memory_of, etc_of};
 
 use crate::{ArrayOperation, ControlOperation, Jump, MemoryOperation, StackOperation};
 
-#[derive(Clone, Copy)]
-pub enum MemorySuboperation {
-    Defined(MemoryOperation),
-    Undefined,
-}
-
 // An ETC suboperation; what follows it in the code is the decoder's matter.
-#[derive(Clone, Copy)]
+#[derive(Clone, Copy, Debug, PartialEq, Eq)]
 pub enum EtcSuboperation {
     Stack(StackOperation),
     Array(ArrayOperation),
@@ -20,52 +14,48 @@ pub enum EtcSuboperation {
     ConstantScalar,
     ConstantVector,
     Call,
-    Undefined,
 }
 
-pub fn memory_of(number: u8) -> MemorySuboperation
+#[tactic(auto, unfolding(crate::specs::Tables::memory_of))]
+pub fn memory_of(number: u8) -> Option<MemoryOperation>
     ensures { result ≡ memory_of number }
 {
-    if number == 0 {
-        return MemorySuboperation::Undefined;
-    }
-    if number <= 15 {
-        return MemorySuboperation::Defined(MemoryOperation::AssignIndexed(number));
-    }
     match number {
-        16 => MemorySuboperation::Defined(MemoryOperation::Assign),
-        17 => MemorySuboperation::Defined(MemoryOperation::AssignNoResult),
-        18 => MemorySuboperation::Defined(MemoryOperation::Reference),
-        19 => MemorySuboperation::Defined(MemoryOperation::TestDefined),
-        _ => MemorySuboperation::Undefined,
+        1..=15 => Some(MemoryOperation::AssignIndexed(number)),
+        16 => Some(MemoryOperation::Assign),
+        17 => Some(MemoryOperation::AssignNoResult),
+        18 => Some(MemoryOperation::Reference),
+        19 => Some(MemoryOperation::TestDefined),
+        _ => None,
     }
 }
 
-pub fn etc_of(number: u8) -> EtcSuboperation
+#[tactic(auto, unfolding(crate::specs::Tables::etc_of))]
+pub fn etc_of(number: u8) -> Option<EtcSuboperation>
     ensures { result ≡ etc_of number }
 {
     match number {
-        0 => EtcSuboperation::Stack(StackOperation::Undefined),
-        1 => EtcSuboperation::Stack(StackOperation::Eat1),
-        2 => EtcSuboperation::Stack(StackOperation::Interchange),
-        3 => EtcSuboperation::Stack(StackOperation::SetOrigin),
-        4 => EtcSuboperation::Stack(StackOperation::GetOrigin),
-        5 => EtcSuboperation::Array(ArrayOperation::Shape),
-        6 => EtcSuboperation::Array(ArrayOperation::Reshape),
-        7 => EtcSuboperation::Array(ArrayOperation::Ravel),
-        8 => EtcSuboperation::Array(ArrayOperation::Catenate),
-        9 => EtcSuboperation::Array(ArrayOperation::IndexGenerator),
-        10 => EtcSuboperation::ConstantScalar,
-        11 => EtcSuboperation::ConstantVector,
-        12 => EtcSuboperation::Control(ControlOperation::Branch),
-        13 => EtcSuboperation::Jump(Jump::Go),
-        14 => EtcSuboperation::Jump(Jump::GoTrue),
-        15 => EtcSuboperation::Jump(Jump::GoFalse),
-        16 => EtcSuboperation::Control(ControlOperation::Return),
-        17 => EtcSuboperation::Call,
-        18 => EtcSuboperation::Control(ControlOperation::NoOperation),
-        19 => EtcSuboperation::Control(ControlOperation::Breakpoint),
-        20 => EtcSuboperation::Control(ControlOperation::Attention),
-        _ => EtcSuboperation::Undefined,
+        0 => Some(EtcSuboperation::Stack(StackOperation::Undefined)),
+        1 => Some(EtcSuboperation::Stack(StackOperation::Eat1)),
+        2 => Some(EtcSuboperation::Stack(StackOperation::Interchange)),
+        3 => Some(EtcSuboperation::Stack(StackOperation::SetOrigin)),
+        4 => Some(EtcSuboperation::Stack(StackOperation::GetOrigin)),
+        5 => Some(EtcSuboperation::Array(ArrayOperation::Shape)),
+        6 => Some(EtcSuboperation::Array(ArrayOperation::Reshape)),
+        7 => Some(EtcSuboperation::Array(ArrayOperation::Ravel)),
+        8 => Some(EtcSuboperation::Array(ArrayOperation::Catenate)),
+        9 => Some(EtcSuboperation::Array(ArrayOperation::IndexGenerator)),
+        10 => Some(EtcSuboperation::ConstantScalar),
+        11 => Some(EtcSuboperation::ConstantVector),
+        12 => Some(EtcSuboperation::Control(ControlOperation::Branch)),
+        13 => Some(EtcSuboperation::Jump(Jump::Go)),
+        14 => Some(EtcSuboperation::Jump(Jump::GoTrue)),
+        15 => Some(EtcSuboperation::Jump(Jump::GoFalse)),
+        16 => Some(EtcSuboperation::Control(ControlOperation::Return)),
+        17 => Some(EtcSuboperation::Call),
+        18 => Some(EtcSuboperation::Control(ControlOperation::NoOperation)),
+        19 => Some(EtcSuboperation::Control(ControlOperation::Breakpoint)),
+        20 => Some(EtcSuboperation::Control(ControlOperation::Attention)),
+        _ => None,
     }
 }

@@ -3,46 +3,41 @@ ghost use Rattle.std.specs.Prelude.{◌≡◌, ◌+◌, ◌*◌, ◌^◌};
 ghost use Rattle.instruction.specs.Variables.{address_in, address_at, short_local, long_local, long_global};
 
 use crate::Address;
-use crate::cursor::{Cursor, FetchedByte};
+use crate::cursor::Cursor;
 use crate::family::{Family, family_of};
 use descriptor::address::SegmentAddress;
-
-#[derive(Clone, Copy)]
-pub enum FetchedAddress {
-    At(Address, Cursor),
-    Trap(u8, u8),
-}
+use trap::Trap;
 
 // A MEMREF's address.
-pub fn read_address(code: &[u8], c: Cursor) -> FetchedAddress
+#[tactic(auto, unfolding(crate::specs::Variables::address_at))]
+pub fn read_address(code: &[u8], c: Cursor) -> Result<(Address, Cursor), Trap>
     ensures { result ≡ address_at code.now c }
 {
-    let FetchedByte::Byte(first, next) = c.byte(code) else {
-        return FetchedAddress::Trap(3, 1);
-    };
+    let (first, next) = c.byte(code).ok_or(Trap::PROCEDURE_ADDRESS)?;
     address_in(code, next, first, family_of(first))
 }
 
 // The address whose first byte, of that family, stands before the cursor.
-pub fn address_in(code: &[u8], c: Cursor, first: u8, family: Family) -> FetchedAddress
+#[tactic(auto, unfolding(crate::specs::Variables::address_in))]
+pub fn address_in(
+    code: &[u8],
+    c: Cursor,
+    first: u8,
+    family: Family,
+) -> Result<(Address, Cursor), Trap>
     ensures { result ≡ address_in code.now c first family }
 {
     match family {
-        Family::ShortLocal => FetchedAddress::At(Address::Local(64 - first as u32 % 64), c),
-        Family::LongLocal => match c.byte(code) {
-            FetchedByte::Byte(second, next) => FetchedAddress::At(long_local(first, second), next),
-            FetchedByte::Outside => FetchedAddress::Trap(3, 1),
-        },
-        Family::LongGlobal => match c.byte(code) {
-            FetchedByte::Byte(second, next) => FetchedAddress::At(long_global(first, second), next),
-            FetchedByte::Outside => FetchedAddress::Trap(3, 1),
-        },
-        Family::ShortConst => FetchedAddress::Trap(3, 7),
-        Family::GenScalar => FetchedAddress::Trap(3, 7),
-        Family::MemRef => FetchedAddress::Trap(3, 7),
-        Family::Etc => FetchedAddress::Trap(3, 7),
-        Family::Index => FetchedAddress::Trap(3, 7),
-        Family::Unassigned => FetchedAddress::Trap(3, 7),
+        Family::ShortLocal => Ok((Address::Local(64 - first as u32 % 64), c)),
+        Family::LongLocal => {
+            let (second, next) = c.byte(code).ok_or(Trap::PROCEDURE_ADDRESS)?;
+            Ok((long_local(first, second), next))
+        }
+        Family::LongGlobal => {
+            let (second, next) = c.byte(code).ok_or(Trap::PROCEDURE_ADDRESS)?;
+            Ok((long_global(first, second), next))
+        }
+        _ => Err(Trap::MALFORMED_MEMREF),
     }
 }
 

@@ -8,21 +8,18 @@ use lib.ListN.{length, get_or, drop, length-drop}
 use lib.Seq.{length-take-le, get_or-take, get_or-drop}
 use lib.Dec.{ltb}
 use borrow.Author.Tests.{ltb-true, ltb-false}
+use Rattle.std.proofs.Common.{Option, Some, None, Err}
+use Rattle.trap.specs.Trap.{trap_of}
 use Rattle.procedure.specs.declared.header.Block.{Block}
 use Rattle.procedure.specs.Headers.{code_end, code_of}
-use Rattle.instruction.specs.declared.Decoded.TheVariants.{Trap}
-use Rattle.instruction.specs.declared.table.MemorySuboperation.{MemorySuboperation}
-use Rattle.instruction.specs.declared.table.MemorySuboperation.TheVariants as M
+use Rattle.instruction.specs.declared.MemoryOperation.{MemoryOperation}
 use Rattle.instruction.specs.declared.table.EtcSuboperation.{EtcSuboperation}
 use Rattle.instruction.specs.declared.table.EtcSuboperation.TheVariants as E
 use Rattle.instruction.specs.declared.family.Family.{Family}
 use Rattle.instruction.specs.declared.family.Family.TheVariants.{ShortLocal, ShortConst, GenScalar, MemRef, Etc, LongLocal, LongGlobal, Index, Unassigned}
 use Rattle.instruction.specs.declared.cursor.Cursor.{Cursor}
-use Rattle.instruction.specs.declared.cursor.FetchedByte.{FetchedByte}
-use Rattle.instruction.specs.declared.cursor.FetchedByte.TheVariants.{Byte, Outside}
-use Rattle.instruction.specs.declared.cursor.FetchedHalf.{FetchedHalf}
 use Rattle.instruction.specs.Families.{family_of}
-use Rattle.instruction.specs.Reading.{cursor_at, fetch_byte, fetch_half, fetch_word, fetch_words, with_byte, with_half}
+use Rattle.instruction.specs.Reading.{cursor_at, fetch_byte, fetch_half, fetch_word, fetch_words, with_read}
 use Rattle.instruction.specs.Variables.{address_in, address_at}
 use Rattle.instruction.specs.Decoding.{load_at, short_constant_at, memory_at, constant_scalar_at, constant_vector_at, jump_at, call_at, etc_at, family_at, instruction_at}
 use Rattle.instruction_theorems.specs.Theorems.{SameCode}
@@ -39,17 +36,17 @@ module _ (a b : List ℕ) (same : Alike a b) where
   byte-alike c h = rw (sym same.long) (on (ltb c.at (length a)) refl)
     where
       on : (t : Bool) → ltb c.at (length a) ≡ t
-          → cond t (Byte (get_or a c.at 0) (cursor_at (c.at + 1))) Outside ≡ cond t (Byte (get_or b c.at 0) (cursor_at (c.at + 1))) Outside
+          → cond {A = Option (ℕ × Cursor)} t (Some (get_or a c.at 0, cursor_at (c.at + 1))) None ≡ cond {A = Option (ℕ × Cursor)} t (Some (get_or b c.at 0, cursor_at (c.at + 1))) None
       on true e = rw (same.bytes c.at h (ltb-true _ _ e))
       on false e = refl
 
   -- What follows a byte may read on.
   after-byte : {A : Type 0} (c : Cursor) → 8 ≤ c.at → (outside : A) (f g : ℕ → Cursor → A)
       → ((v : ℕ) → f v (cursor_at (c.at + 1)) ≡ g v (cursor_at (c.at + 1)))
-      → with_byte (fetch_byte a c) outside f ≡ with_byte (fetch_byte b c) outside g
+      → with_read (fetch_byte a c) outside f ≡ with_read (fetch_byte b c) outside g
   after-byte c h outside f g each =
       rw (byte-alike c h)
-      (byte-cases b c (λ (x : FetchedByte). with_byte x outside f ≡ with_byte x outside g) (λ i. refl) (λ i. each (get_or b c.at 0)))
+      (byte-cases b c (λ (x : Option (ℕ × Cursor)). with_read x outside f ≡ with_read x outside g) (λ i. refl) (λ i. each (get_or b c.at 0)))
 
   half-alike : (c : Cursor) → 8 ≤ c.at → fetch_half a c ≡ fetch_half b c
   unfolding fetch_half
@@ -57,10 +54,10 @@ module _ (a b : List ℕ) (same : Alike a b) where
 
   after-half : {A : Type 0} (c : Cursor) → 8 ≤ c.at → (outside : A) (f g : ℕ → Cursor → A)
       → ((v : ℕ) → f v (cursor_at (c.at + 1 + 1)) ≡ g v (cursor_at (c.at + 1 + 1)))
-      → with_half (fetch_half a c) outside f ≡ with_half (fetch_half b c) outside g
+      → with_read (fetch_half a c) outside f ≡ with_read (fetch_half b c) outside g
   after-half c h outside f g each =
       rw (half-alike c h)
-      (half-cases b c (λ (x : FetchedHalf). with_half x outside f ≡ with_half x outside g) (λ i. refl) (λ v i. each v))
+      (half-cases b c (λ (x : Option (ℕ × Cursor)). with_read x outside f ≡ with_read x outside g) (λ i. refl) (λ v i. each v))
 
   word-alike : (c : Cursor) → 8 ≤ c.at → fetch_word a c ≡ fetch_word b c
   unfolding fetch_word
@@ -88,25 +85,25 @@ module _ (a b : List ℕ) (same : Alike a b) where
   address-alike c h =
       after-byte c h _ _ _ (λ v. address-in-alike (cursor_at (c.at + 1)) (omega arith) v (family_of v))
 
-  memory-alike : (c : Cursor) → 8 ≤ c.at → (sub : MemorySuboperation) → memory_at a c sub ≡ memory_at b c sub
+  memory-alike : (c : Cursor) → 8 ≤ c.at → (sub : Option MemoryOperation) → memory_at a c sub ≡ memory_at b c sub
   unfolding memory_at
-  memory-alike c h (M.Defined o) = rw (address-alike c h)
-  memory-alike c h M.Undefined = refl
+  memory-alike c h (Some o) = rw (address-alike c h)
+  memory-alike c h None = refl
 
   vector-alike : (c : Cursor) → 8 ≤ c.at → constant_vector_at a c ≡ constant_vector_at b c
   unfolding constant_vector_at
   vector-alike c h = after-byte c h _ _ _ (λ v. rw (words-alike (cursor_at (c.at + 1)) v))
 
-  etc-alike : (c : Cursor) → 8 ≤ c.at → (sub : EtcSuboperation) → etc_at a c sub ≡ etc_at b c sub
+  etc-alike : (c : Cursor) → 8 ≤ c.at → (sub : Option EtcSuboperation) → etc_at a c sub ≡ etc_at b c sub
   unfolding etc_at jump_at constant_scalar_at call_at
-  etc-alike c h (E.Stack o) = refl
-  etc-alike c h (E.Array o) = refl
-  etc-alike c h (E.Control o) = refl
-  etc-alike c h (E.Jump jump) = rw (half-alike c h)
-  etc-alike c h E.ConstantScalar = rw (word-alike c h)
-  etc-alike c h E.ConstantVector = vector-alike c h
-  etc-alike c h E.Call = rw (half-alike c h)
-  etc-alike c h E.Undefined = refl
+  etc-alike c h (Some (E.Stack o)) = refl
+  etc-alike c h (Some (E.Array o)) = refl
+  etc-alike c h (Some (E.Control o)) = refl
+  etc-alike c h (Some (E.Jump jump)) = rw (half-alike c h)
+  etc-alike c h (Some E.ConstantScalar) = rw (word-alike c h)
+  etc-alike c h (Some E.ConstantVector) = vector-alike c h
+  etc-alike c h (Some E.Call) = rw (half-alike c h)
+  etc-alike c h None = refl
 
   family-alike : (c : Cursor) → 8 ≤ c.at → (first : ℕ) (family : Family)
       → family_at a c first family ≡ family_at b c first family
@@ -126,8 +123,8 @@ module _ (a b : List ℕ) (same : Alike a b) where
   instruction-alike place = on (ltb place 8) refl
     where
       on : (t : Bool) → ltb place 8 ≡ t
-          → cond t (Trap 3 1) (with_byte (fetch_byte a (cursor_at place)) (Trap 3 1) (λ first next. family_at a next first (family_of first)))
-          ≡ cond t (Trap 3 1) (with_byte (fetch_byte b (cursor_at place)) (Trap 3 1) (λ first next. family_at b next first (family_of first)))
+          → cond t (Err (trap_of 3 1)) (with_read (fetch_byte a (cursor_at place)) (Err (trap_of 3 1)) (λ first next. family_at a next first (family_of first)))
+          ≡ cond t (Err (trap_of 3 1)) (with_read (fetch_byte b (cursor_at place)) (Err (trap_of 3 1)) (λ first next. family_at b next first (family_of first)))
       on true e = refl
       on false e =
           after-byte (cursor_at place) (ltb-false _ _ e) _ _ _

@@ -7,6 +7,7 @@ use native.Mathlib.Omega.{arith}
 use lib.ListN.{length, length-append, length-replicate}
 use lib.Dec.{leb}
 use borrow.Author.Tests.{leb-true, le-ltb}
+use Rattle.std.proofs.Common.{Ok}
 use Rattle.descriptor.specs.declared.address.CodeAddress.{CodeAddress}
 use Rattle.descriptor.specs.Kinds.{bit}
 use Rattle.operator.specs.Table.{operator_number}
@@ -16,14 +17,12 @@ use Rattle.instruction.specs.declared.MemoryOperation.{MemoryOperation}
 use Rattle.instruction.specs.declared.Jump.{Jump}
 use Rattle.instruction.specs.declared.Instruction.{Instruction}
 use Rattle.instruction.specs.declared.Instruction.TheVariants as I
-use Rattle.instruction.specs.declared.Decoded.TheVariants.{Instruction as Done}
 use Rattle.instruction.specs.declared.family.Family.{Family}
 use Rattle.instruction.specs.declared.family.Family.TheVariants.{ShortLocal, LongLocal, LongGlobal}
-use Rattle.instruction.specs.declared.variable.FetchedAddress.TheVariants.{At}
 use Rattle.instruction.specs.Families.{family_of}
 use Rattle.instruction.specs.Reading.{boundary, code_address, cursor_at, fetch_words}
 use Rattle.instruction.specs.Variables.{address_in, address_at}
-use Rattle.instruction.specs.Decoding.{decoded_to, load_at, short_constant_at, memory_at, constant_scalar_at, constant_vector_at, jump_at, call_at, family_at, instruction_at}
+use Rattle.instruction.specs.Decoding.{done, decoded_to, load_at, short_constant_at, memory_at, constant_scalar_at, constant_vector_at, jump_at, call_at, family_at, instruction_at}
 use Rattle.instruction_theorems.specs.Encoder.{memory_number, stack_number, array_number, control_number, jump_number, half_bytes, word_bytes, words_bytes, local_bytes, address_bytes, padding, encode, AddressFits, MemoryFits, Encodable}
 use Rattle.instruction_theorems.specs.Theorems.{Stand}
 use Rattle.instruction_theorems.proofs.Stands.{stand-length, byte-here, first-here, half-here, word-here}
@@ -31,7 +30,7 @@ use Rattle.instruction.proofs.Ranges.{is-short-local, is-short-const, is-long-lo
 use Rattle.instruction_theorems.proofs.Forms.{scalar-form, stack-form, array-form, control-form, jump-form, word-form, vector-form, call-form, memory-form, index-form, joined, joined_word, bit-back}
 
 -- The place of an instruction's end, as a code address.
-ended : (i : Instruction) (m n : ℕ) → m ≡ n → n < 2 ^ 32 → decoded_to i (cursor_at m) ≡ Done i (code_address n)
+ended : (i : Instruction) (m n : ℕ) → m ≡ n → n < 2 ^ 32 → decoded_to i (cursor_at m) ≡ done i (code_address n)
 ended i m n e h = let f : m % 2 ^ 32 ≡ n = omega arith in rw f
 
 -- An address that stands in the code: its first byte, the family of that byte, and what is read.
@@ -42,7 +41,7 @@ record AddressRead (code : List ℕ) (at : ℕ) (a : Address) (size : ℕ) : Typ
   stands : Stand code at (first ∷ others)
   is : family_of first ≡ family
   loads : family_at code (cursor_at (at + 1)) first family ≡ load_at code (cursor_at (at + 1)) first family
-  reads : address_in code (cursor_at (at + 1)) first family ≡ At a (cursor_at (at + size))
+  reads : address_in code (cursor_at (at + 1)) first family ≡ Ok (a, cursor_at (at + size))
 
 module _ (code : List ℕ) (at : ℕ) where
   short-read : (below : ℕ) → 1 ≤ below → below ≤ 64 → Stand code at ((64 - below) ∷ []) → AddressRead code at (Local below) 1
@@ -101,14 +100,14 @@ module _ (code : List ℕ) (at : ℕ) where
   address_read (Global a) fits s = global-read (0xD000 + a.0) a.0 (omega arith) (omega (arith, fits)) (omega (arith, fits)) s
 
   module _ (a : Address) (size : ℕ) (r : AddressRead code at a size) where
-    load-back : 8 ≤ at → at + size < 2 ^ 32 → instruction_at code at ≡ Done (I.Load a) (code_address (at + size))
+    load-back : 8 ≤ at → at + size < 2 ^ 32 → instruction_at code at ≡ done (I.Load a) (code_address (at + size))
     unfolding load_at
     load-back low h =
         first-here code at low r.first r.others r.stands
         ∙ (ap (λ (f : Family). family_at code (cursor_at (at + 1)) r.first f) r.is
         ∙ (r.loads ∙ (rw r.reads (ended (I.Load a) (at + size) (at + size) refl h))))
 
-    address-back : address_at code (cursor_at at) ≡ At a (cursor_at (at + size))
+    address-back : address_at code (cursor_at at) ≡ Ok (a, cursor_at (at + size))
     unfolding address_at
     address-back = rw (byte-here code at r.first r.others r.stands, r.is, r.reads)
 
@@ -122,12 +121,12 @@ vector-length at words = rw (length-append (padding at) (words_bytes words), len
 
 module _ (code : List ℕ) (short : length code < 2 ^ 32) (at : ℕ) (low : 8 ≤ at) where
   one_byte : (i : Instruction) (b : ℕ) → family_at code (cursor_at (at + 1)) b (family_of b) ≡ decoded_to i (cursor_at (at + 1))
-      → Stand code at (b ∷ []) → instruction_at code at ≡ Done i (code_address (at + 1))
+      → Stand code at (b ∷ []) → instruction_at code at ≡ done i (code_address (at + 1))
   one_byte i b form s = first-here code at low b [] s ∙ (form ∙ ended i (at + 1) (at + 1) refl (omega (arith, s.0)))
 
   constant-back : (negative : Bool) (magnitude v : ℕ) → magnitude < 4096 → v ≡ 0x4000 + bit negative * 2 ^ 12 + magnitude
       → bit negative ≤ 1 → Stand code at (half_bytes v)
-      → instruction_at code at ≡ Done (I.ShortConstant negative magnitude) (code_address (at + 2))
+      → instruction_at code at ≡ done (I.ShortConstant negative magnitude) (code_address (at + 2))
   unfolding family_at short_constant_at
   constant-back negative magnitude v small e one s =
       first-here code at low (v / 2 ^ 8) ((v % 2 ^ 8) ∷ []) s
@@ -139,7 +138,7 @@ module _ (code : List ℕ) (short : length code < 2 ^ 32) (at : ℕ) (low : 8 �
       m = omega arith
 
   jump_back : (jump : Jump) (to : CodeAddress) → Stand code at ((0xA0 + jump_number jump) ∷ half_bytes to.0)
-      → instruction_at code at ≡ Done (I.Jump jump to) (code_address (at + 3))
+      → instruction_at code at ≡ done (I.Jump jump to) (code_address (at + 3))
   unfolding jump_at
   jump_back jump to s =
       first-here code at low (0xA0 + jump_number jump) (half_bytes to.0) s
@@ -148,7 +147,7 @@ module _ (code : List ℕ) (short : length code < 2 ^ 32) (at : ℕ) (low : 8 �
       (ended (I.Jump jump to) (at + 1 + 1 + 1) (at + 3) (omega arith) (omega (arith, s.2.2.0))))
 
   word_back : (w : ℕ) → Stand code at (0xAA ∷ word_bytes w)
-      → instruction_at code at ≡ Done (I.ConstantScalar w) (code_address (at + 5))
+      → instruction_at code at ≡ done (I.ConstantScalar w) (code_address (at + 5))
   unfolding constant_scalar_at
   word_back w s =
       first-here code at low 0xAA (word_bytes w) s
@@ -158,7 +157,7 @@ module _ (code : List ℕ) (short : length code < 2 ^ 32) (at : ℕ) (low : 8 �
 
   call_back : (arguments : ℕ) (P : Bool) (fn v : ℕ) → arguments < 16 → fn < 2048 → bit P ≤ 1
       → v ≡ arguments * 2 ^ 12 + bit P * 2 ^ 11 + fn → Stand code at (0xB1 ∷ half_bytes v)
-      → instruction_at code at ≡ Done (I.Call arguments P fn) (code_address (at + 3))
+      → instruction_at code at ≡ done (I.Call arguments P fn) (code_address (at + 3))
   unfolding call_at
   call_back arguments P fn v a f one e s =
       first-here code at low 0xB1 (half_bytes v) s
@@ -174,7 +173,7 @@ module _ (code : List ℕ) (short : length code < 2 ^ 32) (at : ℕ) (low : 8 �
 
   memory-back : (o : MemoryOperation) (a : Address) → MemoryFits o → AddressFits a
       → Stand code at ((0x80 + memory_number o) ∷ address_bytes a)
-      → instruction_at code at ≡ Done (I.Memory o a) (code_address (at + suc (length (address_bytes a))))
+      → instruction_at code at ≡ done (I.Memory o a) (code_address (at + suc (length (address_bytes a))))
   unfolding memory_at
   memory-back o a fits reach s =
       first-here code at low (0x80 + memory_number o) (address_bytes a) s
@@ -186,7 +185,7 @@ module _ (code : List ℕ) (short : length code < 2 ^ 32) (at : ℕ) (low : 8 �
   vector-back : (count : ℕ) (words : List ℕ) → count ≡ length words
       → Stand code at (0xAB ∷ count ∷ (padding (at + 2) ++ words_bytes words))
       → instruction_at code at
-      ≡ Done (I.ConstantVector count (code_address (boundary (at + 2)))) (code_address (at + suc (suc (length (padding (at + 2) ++ words_bytes words)))))
+      ≡ done (I.ConstantVector count (code_address (boundary (at + 2)))) (code_address (at + suc (suc (length (padding (at + 2) ++ words_bytes words)))))
   unfolding constant_vector_at fetch_words
   vector-back count words e s =
       let all : at + 1 + 1 + length (padding (at + 2) ++ words_bytes words) ≤ length code =
@@ -206,7 +205,7 @@ bit-small false = omega arith
 
 pub encoded : (code words : List ℕ) (place : ℕ) (i : Instruction) → length code < 2 ^ 32 → 8 ≤ place
     → Encodable place words i → Stand code place (encode place words i)
-    → instruction_at code place ≡ Done i (code_address (place + length (encode place words i)))
+    → instruction_at code place ≡ done i (code_address (place + length (encode place words i)))
 unfolding encode Encodable
 encoded code words place (I.Load a) short low fits s =
     load-back code place a (length (address_bytes a)) (address_read code place a fits s) low

@@ -7,6 +7,7 @@ use native.Mathlib.Nat.{div-add-mod'}
 use native.Mathlib.Omega.{arith}
 use lib.Dec.{eqb}
 use borrow.Author.Tests.{eq-eqb, ne_eqb, le-leb}
+use Rattle.std.proofs.Common.{Some}
 use Rattle.descriptor.specs.Kinds.{bit}
 use Rattle.operator.specs.Table.{operator_number}
 use Rattle.operator.specs.declared.Monadic.TheVariants as M
@@ -25,7 +26,6 @@ use Rattle.instruction.specs.declared.ControlOperation.TheVariants.{Branch, Retu
 use Rattle.instruction.specs.declared.Jump.{Jump}
 use Rattle.instruction.specs.declared.Jump.TheVariants.{Go, GoTrue, GoFalse}
 use Rattle.instruction.specs.declared.Instruction.TheVariants as I
-use Rattle.instruction.specs.declared.table.MemorySuboperation.TheVariants.{Defined}
 use Rattle.instruction.specs.declared.cursor.Cursor.{Cursor}
 use Rattle.instruction.specs.Families.{family_in, family_of}
 use Rattle.instruction.specs.Tables.{memory_of, etc_of}
@@ -101,7 +101,7 @@ module _ (code : List ℕ) (c : Cursor) where
   call-form = refl
 
   -- ASSIGN_INDEXED's rank is its suboperation.
-  indexed : (rank : ℕ) → 1 ≤ rank → rank ≤ 15 → memory_of ((0x80 + rank) % 2 ^ 5) ≡ Defined (AssignIndexed rank)
+  indexed : (rank : ℕ) → 1 ≤ rank → rank ≤ 15 → memory_of ((0x80 + rank) % 2 ^ 5) ≡ Some (AssignIndexed rank)
   unfolding memory_of
   indexed rank l h =
       let e : (0x80 + rank) % 2 ^ 5 ≡ rank = omega arith in
@@ -109,7 +109,7 @@ module _ (code : List ℕ) (c : Cursor) where
       rw e (simp (positive, le-leb rank 15 h))
 
   pub memory-form : (o : MemoryOperation) → MemoryFits o
-      → family_at code c (0x80 + memory_number o) (family_of (0x80 + memory_number o)) ≡ memory_at code c (Defined o)
+      → family_at code c (0x80 + memory_number o) (family_of (0x80 + memory_number o)) ≡ memory_at code c (Some o)
   unfolding family_at family_of family_in memory_of
   memory-form (AssignIndexed rank) fits = rw (is-mem-ref (0x80 + rank) (omega arith) (omega (arith, fits.1)), indexed rank fits.0 fits.1)
   memory-form Assign fits = refl

@@ -8,33 +8,25 @@ use native.Mathlib.Omega.{arith}
 use lib.ListN.{length, get_or}
 use lib.Dec.{ltb}
 use borrow.Author.Tests.{ltb-true, ltb-false, le-ltb, lt-ltb}
-use Rattle.operator.specs.declared.Suboperation.{Suboperation}
-use Rattle.operator.specs.declared.Suboperation.TheVariants as O
 use Rattle.operator.specs.Table.{operator_of}
+use Rattle.std.proofs.Common.{Option, Some, None, Result, Ok, Err}
+use Rattle.trap.specs.declared.Trap.{Trap}
+use Rattle.trap.specs.Trap.{trap_of}
+use Rattle.operator.specs.declared.Operator.{Operator}
 use Rattle.instruction.specs.declared.Address.{Address}
 use Rattle.instruction.specs.declared.MemoryOperation.{MemoryOperation}
 use Rattle.instruction.specs.declared.Instruction.{Instruction}
 use Rattle.instruction.specs.declared.Instruction.TheVariants as I
 use Rattle.instruction.specs.declared.Decoded.{Decoded}
-use Rattle.instruction.specs.declared.Decoded.TheVariants.{Trap}
-use Rattle.instruction.specs.declared.table.MemorySuboperation.{MemorySuboperation}
-use Rattle.instruction.specs.declared.table.MemorySuboperation.TheVariants as M
 use Rattle.instruction.specs.declared.table.EtcSuboperation.{EtcSuboperation}
 use Rattle.instruction.specs.declared.table.EtcSuboperation.TheVariants as E
 use Rattle.instruction.specs.declared.family.Family.{Family}
 use Rattle.instruction.specs.declared.family.Family.TheVariants.{ShortLocal, ShortConst, GenScalar, MemRef, Etc, LongLocal, LongGlobal, Index, Unassigned}
 use Rattle.instruction.specs.declared.length.Length.{Length}
 use Rattle.instruction.specs.declared.length.Length.TheVariants.{Fixed, ByAddress, ByCount}
-use Rattle.instruction.specs.declared.variable.FetchedAddress.{FetchedAddress}
-use Rattle.instruction.specs.declared.variable.FetchedAddress.TheVariants.{At, Trap as NoAddress}
 use Rattle.instruction.specs.declared.cursor.Cursor.{Cursor}
-use Rattle.instruction.specs.declared.cursor.FetchedByte.{FetchedByte}
-use Rattle.instruction.specs.declared.cursor.FetchedByte.TheVariants.{Byte, Outside}
-use Rattle.instruction.specs.declared.cursor.FetchedHalf.{FetchedHalf}
-use Rattle.instruction.specs.declared.cursor.FetchedWord.{FetchedWord}
-use Rattle.instruction.specs.declared.cursor.FetchedWords.{FetchedWords}
 use Rattle.instruction.specs.Families.{family_of}
-use Rattle.instruction.specs.Reading.{boundary, code_address, cursor_at, place_of, fetch_byte, fetch_half, fetch_word, fetch_words, with_byte, with_half, with_word, with_words}
+use Rattle.instruction.specs.Reading.{boundary, code_address, cursor_at, place_of, fetch_byte, fetch_half, fetch_word, fetch_words, with_read}
 use Rattle.instruction.specs.Variables.{long_local, long_global, address_in, address_at, with_address}
 use Rattle.instruction.specs.Tables.{memory_of, etc_of}
 use Rattle.instruction.specs.Lengths.{scalar_length, memory_length, etc_length, length_in, length_by, fixed_bytes}
@@ -50,7 +42,7 @@ module _ (code : List ℕ) (short : length code < 2 ^ 32) (place : ℕ) (low : 8
   after = cursor_at (place + 1)
 
   -- What is decoded has the length that the first byte says, and ends past that byte.
-  abbrev Reached : Length → Decoded → Type 0
+  abbrev Reached : Length → Result Decoded Trap → Type 0
   Reached bytes d = HasLength code place bytes d × Next place code d
 
   ended : (i : Instruction) (c : Cursor) (end : ℕ) → c.at ≡ end → end ≤ length code → Ends code end (decoded_to i c)
@@ -68,59 +60,59 @@ module _ (code : List ℕ) (short : length code < 2 ^ 32) (place : ℕ) (low : 8
       → Reached (Fixed bytes) (decoded_to i c)
   whole bytes i c e l h = (((λ fits. ended i c (place + bytes) e h), (λ cut. absurd (omega arith))), past i c (omega arith) (omega arith))
 
-  cut_short : (bytes : ℕ) → length code < place + bytes → Reached (Fixed bytes) (Trap 3 1)
+  cut_short : (bytes : ℕ) → length code < place + bytes → Reached (Fixed bytes) (Err (trap_of 3 1))
   cut_short bytes h = (((λ fits. absurd (omega arith)), (λ cut. refl)), tt)
 
   one_byte : (i : Instruction) → Reached (Fixed 1) (decoded_to i after)
   one_byte i = whole 1 i after refl (omega arith) (omega arith)
 
   -- A byte, a half or a word after the first byte.
-  reached-byte : (f : ℕ → Instruction) → Reached (Fixed 2) (with_byte (fetch_byte code after) (Trap 3 1) (λ v c. decoded_to (f v) c))
+  reached-byte : (f : ℕ → Instruction) → Reached (Fixed 2) (with_read (fetch_byte code after) (Err (trap_of 3 1)) (λ v c. decoded_to (f v) c))
   reached-byte f =
       byte-cases code after
-      (λ (x : FetchedByte). Reached (Fixed 2) (with_byte x (Trap 3 1) (λ v c. decoded_to (f v) c)))
+      (λ (x : Option (ℕ × Cursor)). Reached (Fixed 2) (with_read x (Err (trap_of 3 1)) (λ v c. decoded_to (f v) c)))
       (λ h. cut_short 2 (omega arith))
       (λ h. whole 2 (f (get_or code (place + 1) 0)) (cursor_at (place + 1 + 1)) (omega arith) (omega arith) (omega arith))
 
-  reached-half : (f : ℕ → Instruction) → Reached (Fixed 3) (with_half (fetch_half code after) (Trap 3 1) (λ v c. decoded_to (f v) c))
+  reached-half : (f : ℕ → Instruction) → Reached (Fixed 3) (with_read (fetch_half code after) (Err (trap_of 3 1)) (λ v c. decoded_to (f v) c))
   reached-half f =
       half-cases code after
-      (λ (x : FetchedHalf). Reached (Fixed 3) (with_half x (Trap 3 1) (λ v c. decoded_to (f v) c)))
+      (λ (x : Option (ℕ × Cursor)). Reached (Fixed 3) (with_read x (Err (trap_of 3 1)) (λ v c. decoded_to (f v) c)))
       (λ h. cut_short 3 (omega arith))
       (λ v h. whole 3 (f v) (cursor_at (place + 1 + 1 + 1)) (omega arith) (omega arith) (omega arith))
 
-  reached-word : (f : ℕ → Instruction) → Reached (Fixed 5) (with_word (fetch_word code after) (Trap 3 1) (λ v c. decoded_to (f v) c))
+  reached-word : (f : ℕ → Instruction) → Reached (Fixed 5) (with_read (fetch_word code after) (Err (trap_of 3 1)) (λ v c. decoded_to (f v) c))
   reached-word f =
       word-cases code after
-      (λ (x : FetchedWord). Reached (Fixed 5) (with_word x (Trap 3 1) (λ v c. decoded_to (f v) c)))
+      (λ (x : Option (ℕ × Cursor)). Reached (Fixed 5) (with_read x (Err (trap_of 3 1)) (λ v c. decoded_to (f v) c)))
       (λ h. cut_short 5 (omega arith))
       (λ w h. whole 5 (f w) (cursor_at (place + 1 + 1 + 1 + 1 + 1)) (omega arith) (omega arith) (omega arith))
 
   -- The three loads, by an address of two bytes or of one.
   reached-long : (first : ℕ) (address : ℕ → Address)
-      → Reached (Fixed 2) (with_address (with_byte (fetch_byte code after) (NoAddress 3 1) (λ v c. At (address (first * 2 ^ 8 + v)) c)) Trap (λ a c. decoded_to (I.Load a) c))
+      → Reached (Fixed 2) (with_address (with_read (fetch_byte code after) (Err (trap_of 3 1)) (λ v c. Ok (address (first * 2 ^ 8 + v), c))) Err (λ a c. decoded_to (I.Load a) c))
   reached-long first address =
       byte-cases code after
-      (λ (x : FetchedByte). Reached (Fixed 2) (with_address (with_byte x (NoAddress 3 1) (λ v c. At (address (first * 2 ^ 8 + v)) c)) Trap (λ a c. decoded_to (I.Load a) c)))
+      (λ (x : Option (ℕ × Cursor)). Reached (Fixed 2) (with_address (with_read x (Err (trap_of 3 1)) (λ v c. Ok (address (first * 2 ^ 8 + v), c))) Err (λ a c. decoded_to (I.Load a) c)))
       (λ h. cut_short 2 (omega arith))
       (λ h. whole 2 (I.Load (address (first * 2 ^ 8 + get_or code (place + 1) 0))) (cursor_at (place + 1 + 1)) (omega arith) (omega arith) (omega arith))
 
   -- A MEMREF: its address ends where the load of that form would.
-  if-addressed : (o : MemoryOperation) (bytes : ℕ) (x : FetchedAddress) → AddressEnds code (place + 1 + 1) (place + 1 + 1 + bytes) x → place + 1 < length code
-      → EndsIfAny code (place + 1 + bytes) (with_address x Trap (λ a c. decoded_to (I.Memory o a) c)) × Next place code (with_address x Trap (λ a c. decoded_to (I.Memory o a) c))
-  if-addressed o bytes (At a c) ends h =
+  if-addressed : (o : MemoryOperation) (bytes : ℕ) (x : Result (Address × Cursor) Trap) → AddressEnds code (place + 1 + 1) (place + 1 + 1 + bytes) x → place + 1 < length code
+      → EndsIfAny code (place + 1 + bytes) (with_address x Err (λ a c. decoded_to (I.Memory o a) c)) × Next place code (with_address x Err (λ a c. decoded_to (I.Memory o a) c))
+  if-addressed o bytes (Ok (a, c)) ends h =
       let within : c.at ≤ length code = ends.1 (omega arith) in (
         ended (I.Memory o a) c (place + 1 + bytes) (omega (arith, ends.0)) (omega (arith, ends.0, within)),
         past (I.Memory o a) c (omega (arith, ends.0)) within,
       )
-  if-addressed o bytes (NoAddress class number) ends h = (tt, tt)
+  if-addressed o bytes (Err trap) ends h = (tt, tt)
 
-  reached-memory : (sub : MemorySuboperation) → Reached (memory_length sub) (memory_at code after sub)
+  reached-memory : (sub : Option MemoryOperation) → Reached (memory_length sub) (memory_at code after sub)
   unfolding memory_at address_at length_by
-  reached-memory M.Undefined = (tt, tt)
-  reached-memory (M.Defined o) =
+  reached-memory None = (tt, tt)
+  reached-memory (Some o) =
       byte-cases code after
-      (λ (x : FetchedByte). Reached ByAddress (with_address (with_byte x (NoAddress 3 1) (λ v c. address_in code c v (family_of v))) Trap (λ a c. decoded_to (I.Memory o a) c)))
+      (λ (x : Option (ℕ × Cursor)). Reached ByAddress (with_address (with_read x (Err (trap_of 3 1)) (λ v c. address_in code c v (family_of v))) Err (λ a c. decoded_to (I.Memory o a) c)))
       (λ h. (tt, tt))
       (λ h.
       if-addressed o (fixed_bytes (length_by second)) (address_in code (cursor_at (place + 1 + 1)) second (family_of second))
@@ -129,19 +121,19 @@ module _ (code : List ℕ) (short : length code < 2 ^ 32) (place : ℕ) (low : 8
       second : ℕ
       second = get_or code (place + 1) 0
 
-  reached-scalar : (sub : Suboperation) → Reached (scalar_length sub) (scalar_at sub after)
-  reached-scalar (O.Defined o) = one_byte (I.Scalar o)
-  reached-scalar O.Undefined = (tt, tt)
+  reached-scalar : (sub : Option Operator) → Reached (scalar_length sub) (scalar_at sub after)
+  reached-scalar (Some o) = one_byte (I.Scalar o)
+  reached-scalar None = (tt, tt)
 
   reached-vector : Reached ByCount (constant_vector_at code after)
   unfolding constant_vector_at
   reached-vector =
       byte-cases code after
-      (λ (x : FetchedByte). Reached ByCount (with_byte x (Trap 3 1) counted))
+      (λ (x : Option (ℕ × Cursor)). Reached ByCount (with_read x (Err (trap_of 3 1)) counted))
       (λ h. (tt, tt))
       (λ h.
       words-cases code (cursor_at (place + 1 + 1)) count
-      (λ (x : FetchedWords). Reached ByCount (with_words x (Trap 3 1) (taken count)))
+      (λ (x : Option (Cursor × Cursor)). Reached ByCount (with_read x (Err (trap_of 3 1)) (taken count)))
       (tt, tt)
       (λ h₂. (ended vector end (boundary (place + 2) + 4 * count) (omega arith) (omega arith), past vector end (omega arith) h₂)))
     where
@@ -154,22 +146,22 @@ module _ (code : List ℕ) (short : length code < 2 ^ 32) (place : ℕ) (low : 8
       end : Cursor
       end = cursor_at (boundary (place + 1 + 1) + 4 * count)
 
-      taken : ℕ → Cursor → Cursor → Decoded
+      taken : ℕ → Cursor → Cursor → Result Decoded Trap
       taken count first c = decoded_to (I.ConstantVector count (place_of first)) c
 
-      counted : ℕ → Cursor → Decoded
-      counted count c = with_words (fetch_words code c count) (Trap 3 1) (taken count)
+      counted : ℕ → Cursor → Result Decoded Trap
+      counted count c = with_read (fetch_words code c count) (Err (trap_of 3 1)) (taken count)
 
-  reached-etc : (sub : EtcSuboperation) → Reached (etc_length sub) (etc_at code after sub)
+  reached-etc : (sub : Option EtcSuboperation) → Reached (etc_length sub) (etc_at code after sub)
   unfolding etc_at jump_at constant_scalar_at call_at
-  reached-etc (E.Stack o) = one_byte (I.Stack o)
-  reached-etc (E.Array o) = one_byte (I.Array o)
-  reached-etc (E.Control o) = one_byte (I.Control o)
-  reached-etc (E.Jump jump) = reached-half (λ v. I.Jump jump (code_address v))
-  reached-etc E.ConstantScalar = reached-word (λ w. I.ConstantScalar w)
-  reached-etc E.ConstantVector = reached-vector
-  reached-etc E.Call = reached-half call_of
-  reached-etc E.Undefined = (tt, tt)
+  reached-etc (Some (E.Stack o)) = one_byte (I.Stack o)
+  reached-etc (Some (E.Array o)) = one_byte (I.Array o)
+  reached-etc (Some (E.Control o)) = one_byte (I.Control o)
+  reached-etc (Some (E.Jump jump)) = reached-half (λ v. I.Jump jump (code_address v))
+  reached-etc (Some E.ConstantScalar) = reached-word (λ w. I.ConstantScalar w)
+  reached-etc (Some E.ConstantVector) = reached-vector
+  reached-etc (Some E.Call) = reached-half call_of
+  reached-etc None = (tt, tt)
 
   reached-family : (first : ℕ) (family : Family) → Reached (length_in family (first % 2 ^ 5)) (family_at code after first family)
   unfolding family_at load_at address_in short_constant_at
@@ -196,7 +188,7 @@ unfolding instruction_at fetch_byte
 advances code short place = on (ltb place 8) (ltb place (length code)) refl refl
   where
     on : (before inside : Bool) → ltb place 8 ≡ before → ltb place (length code) ≡ inside
-        → Next place code (cond before (Trap 3 1) (with_byte (cond inside (Byte (get_or code place 0) (cursor_at (place + 1))) Outside) (Trap 3 1) (λ first after. family_at code after first (family_of first))))
+        → Next place code (cond before (Err (trap_of 3 1)) (with_read (cond inside (Some (get_or code place 0, cursor_at (place + 1))) None) (Err (trap_of 3 1)) (λ first after. family_at code after first (family_of first))))
     on true inside e f = tt
     on false false e f = tt
     on false true e f = (reached-family code short place (ltb-false place 8 e) (ltb-true place (length code) f) (get_or code place 0) (family_of (get_or code place 0))).1

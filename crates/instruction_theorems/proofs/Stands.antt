@@ -5,9 +5,7 @@ use Prim.Native.Nat.{ℕ, ◌+◌, ◌*◌, ◌^◌, ◌≤◌}
 use native.Mathlib.Omega.{arith}
 use lib.ListN.{length}
 use borrow.Author.Tests.{lt-ltb, le-ltb}
-use Rattle.instruction.specs.declared.cursor.FetchedByte.TheVariants.{Byte}
-use Rattle.instruction.specs.declared.cursor.FetchedHalf.TheVariants.{Half}
-use Rattle.instruction.specs.declared.cursor.FetchedWord.TheVariants.{Word}
+use Rattle.std.proofs.Common.{Some}
 use Rattle.instruction.specs.Families.{family_of}
 use Rattle.instruction.specs.Reading.{cursor_at, fetch_byte, fetch_half, fetch_word}
 use Rattle.instruction.specs.Decoding.{family_at, instruction_at}
@@ -20,7 +18,7 @@ stand-length code at (b ∷ bytes) s =
 
 module _ (code : List ℕ) (at : ℕ) where
   pub byte-here : (b : ℕ) (bytes : List ℕ) → Stand code at (b ∷ bytes)
-      → fetch_byte code (cursor_at at) ≡ Byte b (cursor_at (at + 1))
+      → fetch_byte code (cursor_at at) ≡ Some (b, cursor_at (at + 1))
   unfolding fetch_byte
   byte-here b bytes s = simp (lt-ltb at (length code) s.0, s.1)
 
@@ -31,13 +29,13 @@ module _ (code : List ℕ) (at : ℕ) where
   first-here low b bytes s = simp (le-ltb at 8 low, byte-here b bytes s)
 
 pub half-here : (code : List ℕ) (at high low : ℕ) (bytes : List ℕ) → Stand code at (high ∷ low ∷ bytes)
-    → fetch_half code (cursor_at at) ≡ Half (high * 2 ^ 8 + low) (cursor_at (at + 1 + 1))
+    → fetch_half code (cursor_at at) ≡ Some (high * 2 ^ 8 + low, cursor_at (at + 1 + 1))
 unfolding fetch_half
 half-here code at high low bytes s =
     simp (byte-here code at high (low ∷ bytes) s, byte-here code (at + 1) low bytes s.2)
 
 pub word-here : (code : List ℕ) (at a b c d : ℕ) (bytes : List ℕ) → Stand code at (a ∷ b ∷ c ∷ d ∷ bytes)
-    → fetch_word code (cursor_at at) ≡ Word ((a * 2 ^ 8 + b) * 2 ^ 16 + (c * 2 ^ 8 + d)) (cursor_at (at + 1 + 1 + 1 + 1))
+    → fetch_word code (cursor_at at) ≡ Some ((a * 2 ^ 8 + b) * 2 ^ 16 + (c * 2 ^ 8 + d), cursor_at (at + 1 + 1 + 1 + 1))
 unfolding fetch_word
 word-here code at a b c d bytes s =
     simp (half-here code at a b (c ∷ d ∷ bytes) s, half-here code (at + 1 + 1) c d bytes s.2.2)

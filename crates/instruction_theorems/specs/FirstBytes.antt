@@ -1,10 +1,11 @@
 -- What a first byte says of its instruction: document 02, paper 2, "sorting first bytes into families, and into lengths where they fix
 -- one", and "each of the 256 first bytes falls in exactly one range". A reader must believe: document 01's ranges, `first_bytes` of
 -- instruction/specs/Families, and decoding. Assumes nothing.
-use Rattle.std.specs.Prelude.{ℕ, suc, ◌+◌, ◌*◌, ◌^◌, ◌<◌, ◌≤◌, ◌≡◌, Bool, true, cond, ◌&&◌, List, [], ◌∷◌, ◌++◌, length, get_or, replicate, ltb}
+use Rattle.std.specs.Prelude.{ℕ, suc, ◌+◌, ◌*◌, ◌^◌, ◌<◌, ◌≤◌, ◌≡◌, Bool, true, cond, ◌&&◌, List, [], ◌∷◌, ◌++◌, length, get_or, replicate, ltb, Result, Ok, Err}
 use Rattle.procedure.specs.Headers.{code_start}
+use Rattle.trap.specs.declared.Trap.{Trap}
+use Rattle.trap.specs.Trap.{trap_of}
 use Rattle.instruction.specs.declared.Decoded.{Decoded}
-use Rattle.instruction.specs.declared.Decoded.TheVariants.{Instruction as Done, Trap}
 use Rattle.instruction.specs.declared.length.Length.{Length}
 use Rattle.instruction.specs.declared.length.Length.TheVariants.{Fixed, ByAddress, ByCount, NoInstruction}
 use Rattle.instruction.specs.Families.{Range, holds, first_bytes, family_of}
@@ -27,24 +28,24 @@ Sorted (range ∷ ranges) b = (holds range b ≡ true → family_of b ≡ range.
 -- ---- lengths
 
 -- An instruction was decoded, and it ends there, within the code.
-abbrev pub Ends : List ℕ → ℕ → Decoded → Type 0
-Ends code end (Done i next) = (next ≡ code_address end) × (end ≤ length code)
-Ends code end (Trap class number) = ⊥
+abbrev pub Ends : List ℕ → ℕ → Result Decoded Trap → Type 0
+Ends code end (Ok d) = (d.next ≡ code_address end) × (end ≤ length code)
+Ends code end (Err trap) = ⊥
 
 -- The same, where an instruction was decoded.
-abbrev pub EndsIfAny : List ℕ → ℕ → Decoded → Type 0
-EndsIfAny code end (Done i next) = Ends code end (Done i next)
-EndsIfAny code end (Trap class number) = Unit {0}
+abbrev pub EndsIfAny : List ℕ → ℕ → Result Decoded Trap → Type 0
+EndsIfAny code end (Ok d) = Ends code end (Ok d)
+EndsIfAny code end (Err trap) = Unit {0}
 
-abbrev pub IsTrap : Decoded → Type 0
-IsTrap (Done i next) = ⊥
-IsTrap (Trap class number) = Unit {0}
+abbrev pub IsTrap : Result Decoded Trap → Type 0
+IsTrap (Ok d) = ⊥
+IsTrap (Err trap) = Unit {0}
 
 -- What was decoded at a place has that length. Of a fixed one there is an instruction of so many bytes as soon as the code has them, and
 -- else (3,1). A MEMREF is a byte longer than the load whose form its address has. A CONSTANT_VECTOR ends with the words that its count
 -- says. Where no instruction starts there is a trap.
-abbrev pub HasLength : List ℕ → ℕ → Length → Decoded → Type 0
-HasLength code place (Fixed bytes) d = (place + bytes ≤ length code → Ends code (place + bytes) d) × (length code < place + bytes → d ≡ Trap 3 1)
+abbrev pub HasLength : List ℕ → ℕ → Length → Result Decoded Trap → Type 0
+HasLength code place (Fixed bytes) d = (place + bytes ≤ length code → Ends code (place + bytes) d) × (length code < place + bytes → d ≡ Err (trap_of 3 1))
 HasLength code place ByAddress d = EndsIfAny code (place + 1 + fixed_bytes (length_by (get_or code (place + 1) 0))) d
 HasLength code place ByCount d = EndsIfAny code (boundary (place + 2) + 4 * get_or code (place + 1) 0) d
 HasLength code place NoInstruction d = IsTrap d
@@ -57,9 +58,9 @@ Open ByCount = Unit {0}
 Open NoInstruction = ⊥
 
 -- Where what was decoded ends; 0 at a trap.
-abbrev pub end_of : Decoded → ℕ
-end_of (Done i next) = next.0
-end_of (Trap class number) = 0
+abbrev pub end_of : Result Decoded Trap → ℕ
+end_of (Ok d) = d.next.0
+end_of (Err trap) = 0
 
 -- Where the first instruction of a function with that code ends.
 abbrev pub first_end : List ℕ → ℕ

@@ -1,6 +1,7 @@
 -- What the instructions of control find out before they change a word, read as the manual's answers; and the parts of its plans
 -- for which the code has functions. Assumes nothing.
-use Rattle.std.specs.Prelude.{ℕ, Bool, cond, not, List, [], ◌∷◌, ◌++◌, ltb, eqb}
+use Rattle.std.specs.Prelude.{ℕ, Bool, cond, not, List, [], ◌∷◌, ◌++◌, ltb, eqb, Result, Ok, Err}
+use Rattle.trap.specs.declared.Trap.{Trap}
 use Rattle.scalar.specs.Reading.{whole_of}
 use Rattle.procedure.specs.declared.header.Header.{Header}
 use Rattle.procedure.specs.declared.header.Block.{Block}
@@ -11,18 +12,14 @@ use Rattle.manual.specs.Values as values
 use Rattle.manual.specs.Effects.{Effect, discards, leaves, jumps, Plan}
 use Rattle.manual.specs.Seen.{Seen, variables_of}
 use Rattle.manual.specs.Control as control
-use Rattle.instructions_control.specs.declared.jumps.Condition.{Condition}
-use Rattle.instructions_control.specs.declared.jumps.Condition.TheVariants as C
-use Rattle.instructions_control.specs.declared.calls.Leaving.{Leaving}
-use Rattle.instructions_control.specs.declared.calls.Leaving.TheVariants as L
 
-abbrev pub tested : Condition → OrTrap Bool
-tested (C.Truth b) = gives b
-tested (C.Trap class number) = trap class number
+abbrev pub tested : Result Bool Trap → OrTrap Bool
+tested (Ok b) = gives b
+tested (Err t) = trap t.class t.number
 
-abbrev pub left_by : Leaving → Header → List Effect → Plan
-left_by L.Allowed h before = gives (before ++ (leaves (variables_of h) h.result ∷ []))
-left_by (L.Trap class number) h before = trap class number
+abbrev pub left_by : Result Unit Trap → Header → List Effect → Plan
+left_by (Ok allowed) h before = gives (before ++ (leaves (variables_of h) h.result ∷ []))
+left_by (Err t) h before = trap t.class t.number
 
 -- BRANCH by its operand's value, in the function of a block of the procedure segment `p`.
 abbrev pub branch_by : Seen → List ℕ → Block → ℕ → values.Value → Plan

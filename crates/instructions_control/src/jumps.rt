@@ -1,5 +1,5 @@
 // Jumps inside the current function: GO, GO_TRUE, GO_FALSE, and BRANCH, which may leave it.
-ghost use Rattle.std.specs.Prelude.{◌≡◌, true, cond, not, ◌||◌, [], ◌∷◌, ltb, leb};
+ghost use Rattle.std.specs.Prelude.{◌≡◌, true, ◌||◌, [], ◌∷◌, ltb, leb};
 ghost use Rattle.scalar.specs.Reading.{whole_of, truth_of};
 ghost use Rattle.procedure.specs.Headers as headers;
 ghost use Rattle.manual.specs.OrTrap.{and_then};
@@ -17,26 +17,20 @@ use crate::calls::leave_by_branch;
 use descriptor::address::{CodeAddress, SegmentAddress};
 use effects::Outcome;
 use effects_code::taking::{discard, jump};
-use operands::reading::{Operand, Value, count, elements_of, operand_at, value_of};
-use procedure::header::{Block, Header, Line};
+use operands::reading::{Value, count, elements_of, operand_at, value_of};
+use procedure::header::{Block, Header};
 use scalar::{Truth, Whole};
 use segment::blocks::rank;
+use trap::Trap;
 
-// What GO_TRUE and GO_FALSE find in their operand.
-#[derive(Clone, Copy)]
-pub enum Condition {
-    Truth(bool),
-    Trap(u8, u8),
-}
-
-pub fn go(seg: &mut [u32], h: Header, place: CodeAddress) -> Outcome
+pub fn go(seg: &mut [u32], h: Header, place: CodeAddress) -> Result<Outcome, Trap>
     ensures { CarriesOut seg.old result seg.new (λ _. control.go h place.0) }
 {
     if outside(h, place) {
-        return Outcome::Trapped(3, 1);
+        return Err(Trap::PROCEDURE_ADDRESS);
     }
     jump(seg, place);
-    Outcome::Finished
+    Ok(Outcome::Finished)
 }
 
 // GO_TRUE and GO_FALSE.
@@ -46,33 +40,29 @@ pub fn go_if(
     wanted: bool,
     place: CodeAddress,
     next: CodeAddress,
-) -> Outcome
+) -> Result<Outcome, Trap>
     ensures { CarriesOut seg.old result seg.new (λ sees. control.go_if sees h next.0 wanted place.0) }
 {
     if count(seg) < 1 {
-        return Outcome::Trapped(3, 4);
+        return Err(Trap::MISSING_OPERAND);
     }
-    match condition_of(seg, operand_at(seg, 0)) {
-        Condition::Trap(class, number) => Outcome::Trapped(class, number),
-        Condition::Truth(b) => {
-            if taken(wanted, b) {
-                return jump_to(seg, h, place);
-            }
-            go_on(seg, next);
-            Outcome::Finished
-        }
+    let condition = condition_of(seg, operand_at(seg, 0))?;
+    if condition == wanted {
+        return jump_to(seg, h, place);
     }
+    go_on(seg, next);
+    Ok(Outcome::Finished)
 }
 
-pub fn branch(seg: &mut [u32], p: &[u8], block: Block, next: CodeAddress) -> Outcome
+pub fn branch(seg: &mut [u32], p: &[u8], block: Block, next: CodeAddress) -> Result<Outcome, Trap>
     ensures { CarriesOut seg.old result seg.new (λ sees.
         control.branch sees block.header (headers.line_of p.now block) next.0) }
 {
     if count(seg) < 1 {
-        return Outcome::Trapped(3, 4);
+        return Err(Trap::MISSING_OPERAND);
     }
-    let Operand::Value(v) = value_of(seg, operand_at(seg, 0)) else {
-        return Outcome::Trapped(3, 5);
+    let Some(v) = value_of(seg, operand_at(seg, 0)) else {
+        return Err(Trap::UNKNOWN_DESCRIPTOR);
     };
     match v {
         Value::Scalar(w) => branch_on(seg, p, block, w),
@@ -87,30 +77,30 @@ fn branch_by(
     block: Block,
     next: CodeAddress,
     array: SegmentAddress,
-) -> Outcome
+) -> Result<Outcome, Trap>
     requires { whole seg.old array.0 ≡ true }
     ensures { CarriesOut seg.old result seg.new (λ sees.
         answers.branch_by sees p.now block next.0 (held seg.old (Value.Array array))) }
 {
     if 1 < rank(seg, array) {
-        return Outcome::Trapped(5, 0);
+        return Err(Trap::RANK_ERROR);
     }
     let ravel = elements_of(seg, array);
-    if ravel.len() == 0 {
+    if ravel.is_empty() {
         go_on(seg, next);
-        return Outcome::Finished;
+        return Ok(Outcome::Finished);
     }
     let w = ravel[0];
     branch_on(seg, p, block, w)
 }
 
-fn branch_on(seg: &mut [u32], p: &[u8], block: Block, w: u32) -> Outcome
+fn branch_on(seg: &mut [u32], p: &[u8], block: Block, w: u32) -> Result<Outcome, Trap>
     ensures { CarriesOut seg.old result seg.new (λ sees.
         control.branch_to sees block.header (headers.line_of p.now block) (whole_of w)) }
 {
     match scalar::reading::whole(w) {
-        Whole::Character => Outcome::Trapped(7, 0),
-        Whole::Fraction => Outcome::Trapped(8, 5),
+        Whole::Character => Err(Trap::TYPE_ERROR),
+        Whole::Fraction => Err(Trap::DOMAIN_ERROR),
         Whole::Number {
             negative,
             magnitude,
@@ -119,13 +109,13 @@ fn branch_on(seg: &mut [u32], p: &[u8], block: Block, w: u32) -> Outcome
 }
 
 // To the line of that number, or out of the function.
-fn branch_to(seg: &mut [u32], p: &[u8], block: Block, number: u32) -> Outcome
+fn branch_to(seg: &mut [u32], p: &[u8], block: Block, number: u32) -> Result<Outcome, Trap>
     ensures { CarriesOut seg.old result seg.new (λ sees.
         control.line_or_leave sees block.header (headers.line_of p.now block number)) }
 {
     match block.line(p, number) {
-        Line::At(place) => jump_to(seg, block.header, place),
-        Line::Absent => leave_by_branch(seg, block.header),
+        Some(place) => jump_to(seg, block.header, place),
+        None => leave_by_branch(seg, block.header),
     }
 }
 
@@ -136,14 +126,14 @@ fn line_number(negative: bool, magnitude: u32) -> u32
 }
 
 // The operand goes, and the function goes on at that place of its code.
-fn jump_to(seg: &mut [u32], h: Header, place: CodeAddress) -> Outcome
+fn jump_to(seg: &mut [u32], h: Header, place: CodeAddress) -> Result<Outcome, Trap>
     ensures { CarriesOut seg.old result seg.new (λ _. control.jump_to h place.0 (effect.discards 1 ∷ [])) }
 {
     if outside(h, place) {
-        return Outcome::Trapped(3, 1);
+        return Err(Trap::PROCEDURE_ADDRESS);
     }
     go_on(seg, place);
-    Outcome::Finished
+    Ok(Outcome::Finished)
 }
 
 fn go_on(seg: &mut [u32], place: CodeAddress)
@@ -157,27 +147,15 @@ fn go_on(seg: &mut [u32], place: CodeAddress)
 fn outside(h: Header, place: CodeAddress) -> bool
     ensures { result ≡ (ltb place.0 headers.code_start || leb (headers.code_end h) place.0) }
 {
-    if place.number() < 8 {
-        return true;
-    }
-    h.code_end() <= place.number()
-}
-
-fn taken(wanted: bool, b: bool) -> bool
-    ensures { result ≡ cond wanted b (not b) }
-{
-    if wanted {
-        return b;
-    }
-    !b
+    place.number() < 8 || h.code_end() <= place.number()
 }
 
 // The operand's only element as zero or one.
-fn condition_of(seg: &[u32], w: u32) -> Condition
+fn condition_of(seg: &[u32], w: u32) -> Result<bool, Trap>
     ensures { answers.tested result ≡ and_then (value_of (read seg.now w)) values.truth_of_value }
 {
-    let Operand::Value(v) = value_of(seg, w) else {
-        return Condition::Trap(3, 5);
+    let Some(v) = value_of(seg, w) else {
+        return Err(Trap::UNKNOWN_DESCRIPTOR);
     };
     match v {
         Value::Scalar(x) => truth(x),
@@ -185,21 +163,21 @@ fn condition_of(seg: &[u32], w: u32) -> Condition
     }
 }
 
-fn only(ravel: &[u32]) -> Condition
+fn only(ravel: &[u32]) -> Result<bool, Trap>
     ensures { answers.tested result ≡ values.truth_of_value (values.value [] ravel.now) }
 {
     if ravel.len() == 1 {
         return truth(ravel[0]);
     }
-    Condition::Trap(6, 0)
+    Err(Trap::LENGTH_ERROR)
 }
 
-fn truth(w: u32) -> Condition
+fn truth(w: u32) -> Result<bool, Trap>
     ensures { answers.tested result ≡ values.truth (truth_of w) }
 {
     match scalar::reading::truth(w) {
-        Truth::Value(b) => Condition::Truth(b),
-        Truth::Other => Condition::Trap(8, 5),
-        Truth::Character => Condition::Trap(7, 0),
+        Truth::Value(b) => Ok(b),
+        Truth::Other => Err(Trap::DOMAIN_ERROR),
+        Truth::Character => Err(Trap::TYPE_ERROR),
     }
 }

@@ -1,4 +1,7 @@
 -- ASSIGN_INDEXED by the ways of the code.
+use Rattle.std.specs.Prelude.{Some, None, Result, Ok, Err}
+use Rattle.trap.specs.Trap.{trap_of}
+use Rattle.trap.specs.declared.Trap.{Trap}
 use Prim.Native.Nat.{ℕ, ◌+◌, ◌≤◌, ◌<◌}
 use mathlib.Core.Path.{◌≡◌, sym, ap, ◌∙◌}
 use mathlib.Core.Bool.{Bool, true, not, ◌||◌}
@@ -21,15 +24,11 @@ use Rattle.effects.specs.Sources.{held_at}
 use Rattle.effects.specs.Seen.{read, temporaries, seen}
 use Rattle.operands.specs.declared.reading.Value.{Value}
 use Rattle.operands.specs.declared.reading.Value.TheVariants.{Scalar, Array}
-use Rattle.operands.specs.declared.reading.Operand.TheVariants as O
 use Rattle.operands.specs.Operands.{operand_of, held}
-use Rattle.operands.specs.declared.taken.Taken.{Taken}
-use Rattle.operands.specs.declared.taken.Taken.TheVariants.{Words, Foreign, NoScalar}
 use Rattle.operands.specs.Taken.{is_foreign_to, taken_of, taken}
 use Rattle.operands.proofs.Seen.{origin-seen, count-seen}
 use Rattle.operands.proofs.ValuesSeen.{value-seen}
 use Rattle.operands.proofs.Subscripts.{taken-plan, words-before, word-last}
-use Rattle.effects.specs.declared.Outcome.TheVariants.{Trapped}
 use Rattle.effects.specs.Carried.{did, carry}
 use Rattle.instructions_memory.specs.Indexed.{Indexed}
 
@@ -58,16 +57,16 @@ module _ (s : List ℕ) (next rank : ℕ) (t : Target) where
     abbrev pub indexed : Plan
     indexed = plan.assign_indexed (seen s) next rank (gives (at t (read s w)))
 
-    pub indexed-missing : temporaries s < rank + 1 → did (Trapped 3 4) s ≡ carry s indexed
+    pub indexed-missing : temporaries s < rank + 1 → did (Err (trap_of 3 4)) s ≡ carry s indexed
     unfolding plan.assign_indexed
     indexed-missing few = rw (count-seen s, lt-ltb (temporaries s) (rank + 1) few)
 
     module _ (enough : rank + 1 ≤ temporaries s) where
-      pub indexed-other : operand_of s w ≡ O.Other → did (Trapped 3 5) s ≡ carry s indexed
+      pub indexed-other : operand_of s w ≡ None → did (Err (trap_of 3 5)) s ≡ carry s indexed
       unfolding plan.assign_indexed
       indexed-other e = rw (count-seen s, le-ltb (temporaries s) (rank + 1) enough, value-seen s w, e)
 
-      module _ (v : Value) (is : operand_of s w ≡ O.Value v) where
+      module _ (v : Value) (is : operand_of s w ≡ Some v) where
         abbrev single : Bool
         single = eqb (values.rank (held s v)) 0
 
@@ -79,23 +78,20 @@ module _ (s : List ℕ) (next rank : ℕ) (t : Target) where
             ∙ rw (count-seen s, le-ltb (temporaries s) (rank + 1) enough, value-seen s w, is)
 
         -- As its operands are taken.
-        module _ (r : Taken) (words : List ℕ) where
-          trapped : (class number : ℕ) → taken_of true cells ≡ trap class number → did (Trapped class number) s ≡ carry s indexed
-          trapped class number e = ap (carry s) (rw e at judged)
+        module _ (r : Result Unit Trap) (words : List ℕ) where
+          not-taken : (t : Trap) → taken_of true cells ≡ trap t.class t.number → did (Err t) s ≡ carry s indexed
+          not-taken t e = ap (carry s) (rw e at judged)
 
-          pub indexed-foreign : r ≡ Foreign → taken r words ≡ taken_of true cells → did (Trapped 3 5) s ≡ carry s indexed
-          indexed-foreign foreign e = trapped 3 5 (sym e ∙ rw foreign)
+          pub indexed-trapped : {t : Trap} → r ≡ Err t → taken r words ≡ taken_of true cells → did (Err t) s ≡ carry s indexed
+          indexed-trapped {t} is e = not-taken t (sym e ∙ rw is)
 
-          pub indexed-no-scalar : r ≡ NoScalar → taken r words ≡ taken_of true cells → did (Trapped 5 0) s ≡ carry s indexed
-          indexed-no-scalar other e = trapped 5 0 (sym e ∙ rw other)
-
-          all-scalars : r ≡ Words → taken r words ≡ taken_of true cells → taken_of true cells ≡ gives words
+          all-scalars : {done : Unit} → r ≡ Ok done → taken r words ≡ taken_of true cells → taken_of true cells ≡ gives words
           all-scalars all e = sym e ∙ rw all
 
-          pub indexed-scalar : (x : ℕ) → r ≡ Words → taken r words ≡ taken_of true cells → v ≡ Scalar x → did (Trapped 5 0) s ≡ carry s indexed
+          pub indexed-scalar : {done : Unit} (x : ℕ) → r ≡ Ok done → taken r words ≡ taken_of true cells → v ≡ Scalar x → did (Err (trap_of 5 0)) s ≡ carry s indexed
           indexed-scalar x all e scalar = ap (carry s) (rw (all-scalars all e, scalar) at judged)
 
-        pub indexed-array : (r : Taken) (words : List ℕ) (block : SegmentAddress) → r ≡ Words → taken r (take (rank + 1) words) ≡ taken_of true cells → v ≡ Array block → w ≡ held_at s t → Indexed s rank t block words
+        pub indexed-array : (r : Result Unit Trap) (words : List ℕ) {done : Unit} (block : SegmentAddress) → r ≡ Ok done → taken r (take (rank + 1) words) ≡ taken_of true cells → v ≡ Array block → w ≡ held_at s t → Indexed s rank t block words
         indexed-array r words block all e array held =
             record {
               array = rw (← held, ← array) is;

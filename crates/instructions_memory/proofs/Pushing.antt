@@ -1,4 +1,7 @@
 -- Instructions that push, by the ways of the code: a trap, no room, or the word that the result is.
+use Rattle.std.specs.Prelude.{Result, Ok, Err}
+use Rattle.trap.specs.Trap.{trap_of}
+use Rattle.trap.specs.declared.Trap.{Trap}
 use Prim.Native.Nat.{ℕ, ◌+◌, ◌-◌, ◌≤◌, ◌<◌}
 use mathlib.Core.Path.{◌≡◌, refl, ap, ◌∙◌}
 use mathlib.Core.Bool.{Bool, true, false, cond, not}
@@ -18,14 +21,12 @@ use Rattle.manual.specs.Loads as plan
 use Rattle.effects.specs.Sources.{held_at, reference_word}
 use Rattle.effects.specs.Seen.{read, seen}
 use Rattle.effects.specs.Perform.{replace, perform}
-use Rattle.operands.specs.declared.variables.Resolved.{Resolved}
-use Rattle.operands.specs.declared.variables.Resolved.TheVariants.{At}
+use Rattle.operands.specs.declared.variables.Variable.{Variable}
 use Rattle.operands.specs.Operands.{is_undefined_word}
 use Rattle.operands.specs.Variables.{variable_seen}
 use Rattle.operands.proofs.Seen.{origin-seen, room-seen}
 use Rattle.operands.proofs.ValuesSeen.{undefined-seen}
-use Rattle.effects.specs.declared.Outcome.TheVariants.{Finished, Trapped}
-use Rattle.effects_code.specs.declared.Done.TheVariants.{Done, Full}
+use Rattle.effects.specs.declared.Outcome.TheVariants.{Finished}
 use Rattle.effects_code.specs.Done.{replace_shared, full_or_done, attempt}
 use Rattle.effects.specs.Carried.{did, carry}
 use Rattle.effects_code.proofs.Carrying.{carry-refused, carry-served}
@@ -41,10 +42,10 @@ module _ (s : List ℕ) (next : ℕ) where
   abbrev pushed : Source → Plan
   pushed source = plan.push (seen s) next source
 
-  pub push-full : (source : Source) → room s < 1 → did (Trapped 1 1) s ≡ carry s (pushed source)
+  pub push-full : (source : Source) → room s < 1 → did (Err (trap_of 1 1)) s ≡ carry s (pushed source)
   push-full source full = rw (room-seen s, lt-ltb (room s) 1 full)
 
-  pub word-pushed : (w : ℕ) → 1 ≤ room s → did Finished (perform (replace s 0 (word w)) (jumps next)) ≡ carry s (pushed (word w))
+  pub word-pushed : (w : ℕ) → 1 ≤ room s → did (Ok Finished) (perform (replace s 0 (word w)) (jumps next)) ≡ carry s (pushed (word w))
   word-pushed w some = rw (room-seen s, le-ltb (room s) 1 some)
 
   -- A word pushed that is another source's.
@@ -59,23 +60,23 @@ module _ (s : List ℕ) (next : ℕ) where
   unfolding plan.push_undefined replace
   undefined-pushed = alike (word undefined_word) undefined_value refl
 
-  pub reference-pushed : (v : Resolved) (t : Target) (w : ℕ) → v ≡ At t w → carry s (pushed (word (reference_word t))) ≡ carry s (plan.refer_to (seen s) next (variable_seen s v))
+  pub reference-pushed : (v : Result Variable Trap) (x : Variable) → v ≡ Ok x → carry s (pushed (word (reference_word x.target))) ≡ carry s (plan.refer_to (seen s) next (variable_seen s v))
   unfolding plan.refer_to replace
-  reference-pushed v t w e = rw e (alike (word (reference_word t)) (reference t) refl)
+  reference-pushed v x e = rw e (alike (word (reference_word x.target)) (reference x.target) refl)
 
   pub origin-pushed : carry s (pushed (word (iorg (flags s)))) ≡ carry s (plan.get_origin (seen s) next)
   unfolding plan.get_origin
   origin-pushed = rw (origin-seen s)
 
-  pub tested : (v : Resolved) (t : Target) (w : ℕ) → v ≡ At t w → carry s (pushed (word (cond (is_undefined_word w) 0 1))) ≡ carry s (plan.test_defined (seen s) next (variable_seen s v))
+  pub tested : (v : Result Variable Trap) (x : Variable) → v ≡ Ok x → carry s (pushed (word (cond (is_undefined_word x.held) 0 1))) ≡ carry s (plan.test_defined (seen s) next (variable_seen s v))
   unfolding plan.test_defined
-  tested v t w e = rw (e, undefined-seen s w)
+  tested v x e = rw (e, undefined-seen s x.held)
 
   pub scalar-pushed : (w : ℕ) → is_scalar w ≡ true → carry s (pushed (word w)) ≡ carry s (plan.constant_scalar (seen s) next w)
   unfolding plan.constant_scalar
   scalar-pushed w scalar = rw scalar
 
-  pub no-scalar : (w : ℕ) → is_scalar w ≡ false → did (Trapped 3 5) s ≡ carry s (plan.constant_scalar (seen s) next w)
+  pub no-scalar : (w : ℕ) → is_scalar w ≡ false → did (Err (trap_of 3 5)) s ≡ carry s (plan.constant_scalar (seen s) next w)
   unfolding plan.constant_scalar
   no-scalar w other = rw other
 
@@ -84,15 +85,15 @@ module _ (s : List ℕ) (next : ℕ) where
     abbrev loaded : Plan
     loaded = plan.load (seen s) next (gives (at t (read s w)))
 
-    pub load-undefined : is_undefined_word w ≡ true → did (Trapped 10 0) s ≡ carry s loaded
+    pub load-undefined : is_undefined_word w ≡ true → did (Err (trap_of 10 0)) s ≡ carry s loaded
     unfolding plan.load
     load-undefined none = rw (undefined-seen s w, none)
 
-    pub load_full : is_undefined_word w ≡ false → room s < 1 → did (Trapped 1 1) s ≡ carry s loaded
+    pub load_full : is_undefined_word w ≡ false → room s < 1 → did (Err (trap_of 1 1)) s ≡ carry s loaded
     unfolding plan.load
     load_full some full = rw (undefined-seen s w, some) (push-full (variable t) full)
 
-    pub variable-loaded : w ≡ held_at s t → is_undefined_word w ≡ false → 1 ≤ room s → did Finished (perform (replace_shared s 0 w) (jumps next)) ≡ carry s loaded
+    pub variable-loaded : w ≡ held_at s t → is_undefined_word w ≡ false → 1 ≤ room s → did (Ok Finished) (perform (replace_shared s 0 w) (jumps next)) ≡ carry s loaded
     unfolding plan.load replace_shared replace
     variable-loaded held some enough = rw (undefined-seen s w, some, held, room-seen s, le-ltb (room s) 1 enough)
 
@@ -104,12 +105,12 @@ module _ (s : List ℕ) (next : ℕ) where
     abbrev constant : Plan
     constant = plan.constant_vector (seen s) next ws
 
-    pub vector-other : any_other ws ≡ true → did (Trapped 3 5) s ≡ carry s constant
+    pub vector-other : any_other ws ≡ true → did (Err (trap_of 3 5)) s ≡ carry s constant
     unfolding plan.constant_vector
     vector-other other = rw other
 
     module _ (scalars : any_other ws ≡ false) where
-      pub vector-full : room s < 1 → did (Trapped 1 1) s ≡ carry s constant
+      pub vector-full : room s < 1 → did (Err (trap_of 1 1)) s ≡ carry s constant
       unfolding plan.constant_vector
       vector-full full = rw scalars (push-full (made (length ws ∷ []) ws) full)
 
@@ -118,8 +119,8 @@ module _ (s : List ℕ) (next : ℕ) where
         unfolding plan.constant_vector
         planned = rw (scalars, room-seen s, le-ltb (room s) 1 some)
 
-        pub vector-refused : Full ≡ full_or_done s vector → did (Trapped 1 2) (attempt s vector) ≡ carry s constant
+        pub vector-refused : {t : Trap} → Err t ≡ full_or_done s vector → did (Err t) (attempt s vector) ≡ carry s constant
         vector-refused full = carry-refused s vector (jumps next ∷ []) full ∙ ap (carry s) planned
 
-        pub vector-pushed : Done ≡ full_or_done s vector → did Finished (perform (attempt s vector) (jumps next)) ≡ carry s constant
+        pub vector-pushed : {done : Unit} → Ok done ≡ full_or_done s vector → did (Ok Finished) (perform (attempt s vector) (jumps next)) ≡ carry s constant
         vector-pushed done = carry-served s vector (jumps next ∷ []) done ∙ ap (carry s) planned

@@ -1,4 +1,8 @@
 -- ASSIGN_INDEXED, once the variable is seen to hold an array, and its operands to be scalars.
+use Rattle.std.proofs.Common.{Some, None, Ok, Err}
+use Rattle.trap.specs.declared.Trap.{Trap}
+use Rattle.trap.specs.Trap.{trap_of}
+use Rattle.scalar.specs.Results.{Answer}
 use Prim.Native.Nat.{ℕ, ◌+◌, ◌≤◌}
 use mathlib.Core.Path.{◌≡◌, refl, sym, ap, ◌∙◌}
 use mathlib.Core.Bool.{Bool, true, false, cond}
@@ -20,17 +24,13 @@ use Rattle.segment.specs.Blocks.{product, shape_at}
 use Rattle.manual.specs.OrTrap.{and_then}
 use Rattle.manual.specs.Effects.{Plan}
 use Rattle.manual.specs.Values as values
-use Rattle.elements.specs.declared.Found.{Found}
-use Rattle.elements.specs.declared.Found.TheVariants as found
-use Rattle.elements.specs.Answers.{place_named}
+use Rattle.manual.specs.Values.{answered}
 use Rattle.effects.specs.Sources.{held_at}
 use Rattle.effects.specs.Seen.{whole}
 use Rattle.operands.specs.declared.reading.Value.TheVariants.{Array}
-use Rattle.operands.specs.declared.reading.Operand.TheVariants as operand
 use Rattle.operands.specs.Operands.{operand_of_kind, operand_of}
 use Rattle.operands.proofs.Whole.{whole-facts}
 use Rattle.operands.proofs.ValuesSeen.{array_whole}
-use Rattle.effects.specs.declared.Outcome.TheVariants.{Trapped}
 use Rattle.effects_code.specs.Done.{Held}
 use Rattle.effects.specs.Carried.{did, carry}
 use Rattle.instructions_memory.specs.Indexed.{Indexed}
@@ -45,15 +45,15 @@ kind-address w a e =
     let named : a ≡ segment (address w) = cc in
     ap (λ (b : SegmentAddress). b.0) named
 
-operand-address : (s : List ℕ) (w : ℕ) (block : SegmentAddress) → operand_of s w ≡ operand.Value (Array block) → block.0 ≡ address w
+operand-address : (s : List ℕ) (w : ℕ) (block : SegmentAddress) → operand_of s w ≡ Some (Array block) → block.0 ≡ address w
 unfolding operand_of
 operand-address s w block e = by_kind (kind_of w) refl e
   where
-    by_kind : (k : Kind) → kind_of w ≡ k → operand_of_kind s w k ≡ operand.Value (Array block) → block.0 ≡ address w
+    by_kind : (k : Kind) → kind_of w ≡ k → operand_of_kind s w k ≡ Some (Array block) → block.0 ≡ address w
     by_kind (K.Scalar k) is e = cc
     by_kind (K.Array a) is e = by_whole (whole s a.0) e
       where
-        by_whole : (b : Bool) → cond b (operand.Value (Array a)) operand.Other ≡ operand.Value (Array block) → block.0 ≡ address w
+        by_whole : (b : Bool) → cond b (Some (Array a)) None ≡ Some (Array block) → block.0 ≡ address w
         by_whole true e = let same : K.Array a ≡ K.Array block = cc in kind-address w block (is ∙ same)
         by_whole false e = cc
     by_kind (K.Indirect t) is e = cc
@@ -90,15 +90,15 @@ module _ (s : List ℕ) (rank : ℕ) (t : Target) (block : SegmentAddress) (word
         let several : eqb (length lengths) 0 ≡ false = ne_eqb (length lengths) 0 (λ none. omega arith) in
         cut ∙ (rw (known.scalars, several) at (judged s next rank t (held_at s t) known.enough (Array block) known.array))
 
-    pub other-rank : (rank ≡ length lengths → ⊥) → did (Trapped 9 1) s ≡ carry s assigned
+    pub other-rank : (rank ≡ length lengths → ⊥) → did (Err (trap_of 9 1)) s ≡ carry s assigned
     other-rank differs = ap (carry s) (rw (ne_eqb rank (length lengths) differs) at planned)
 
     module _ (same : rank ≡ length lengths) where
-      placed : (f : Found) → place_named f ≡ values.ravel_place (iorg (flags s)) (take rank words) lengths → and_then (place_named f) (stored s next rank t (get_or words rank 0)) ≡ assigned
+      placed : (f : Answer) → answered f ≡ values.ravel_place (iorg (flags s)) (take rank words) lengths → and_then (answered f) (stored s next rank t (get_or words rank 0)) ≡ assigned
       placed f e = rw e (rw (eq-eqb rank (length lengths) same) at planned)
 
-      pub outside : (f : Found) (class number : ℕ) → f ≡ found.Trap class number → place_named f ≡ values.ravel_place (iorg (flags s)) (take rank words) lengths → did (Trapped class number) s ≡ carry s assigned
-      outside f class number is e = ap (carry s) (rw is at (placed f e))
+      pub outside : (f : Answer) (t : Trap) → f ≡ Err t → answered f ≡ values.ravel_place (iorg (flags s)) (take rank words) lengths → did (Err t) s ≡ carry s assigned
+      outside f t is e = ap (carry s) (rw is at (placed f e))
 
-      pub element-found : (f : Found) (k : ℕ) → f ≡ found.At k → place_named f ≡ values.ravel_place (iorg (flags s)) (take rank words) lengths → carry s (stored s next rank t (get_or words rank 0) k) ≡ carry s assigned
+      pub element-found : (f : Answer) (k : ℕ) → f ≡ Ok k → answered f ≡ values.ravel_place (iorg (flags s)) (take rank words) lengths → carry s (stored s next rank t (get_or words rank 0) k) ≡ carry s assigned
       element-found f k is e = ap (carry s) (rw is at (placed f e))

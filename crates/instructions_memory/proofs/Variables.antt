@@ -1,26 +1,25 @@
 -- A plan for the variable that an address leads to, by what resolving answered.
+use Rattle.std.specs.Prelude.{Result, Ok, Err}
+use Rattle.trap.specs.declared.Trap.{Trap}
 use Prim.Native.Nat.{ℕ}
 use mathlib.Core.Path.{◌≡◌}
 use mathlib.Core.List.{List}
-use Rattle.descriptor.specs.declared.Target.{Target}
 use Rattle.manual.specs.OrTrap.{OrTrap, gives, and_then}
 use Rattle.manual.specs.Effects.{Plan}
-use Rattle.manual.specs.Seen.{Variable, at}
+use Rattle.manual.specs.Seen as manual
 use Rattle.effects.specs.Sources.{held_at}
 use Rattle.effects.specs.Seen.{read}
-use Rattle.operands.specs.declared.variables.Resolved.{Resolved}
-use Rattle.operands.specs.declared.variables.Resolved.TheVariants.{At, Trap}
+use Rattle.operands.specs.declared.variables.Variable.{Variable}
 use Rattle.operands.specs.Variables.{variable_seen, Sure}
-use Rattle.effects.specs.declared.Outcome.TheVariants.{Trapped}
 use Rattle.effects.specs.Carried.{did, carry}
 
-module _ (s : List ℕ) (v : Resolved) where
-  pub variable-trapped : (class number : ℕ) (rest : Variable → Plan) → v ≡ Trap class number → did (Trapped class number) s ≡ carry s (and_then (variable_seen s v) rest)
-  variable-trapped class number rest e = rw e
+module _ (s : List ℕ) (v : Result Variable Trap) where
+  pub variable-trapped : {t : Trap} (rest : manual.Variable → Plan) → v ≡ Err t → did (Err t) s ≡ carry s (and_then (variable_seen s v) rest)
+  variable-trapped rest e = rw e
 
-  module _ (t : Target) (w : ℕ) (e : v ≡ At t w) where
-    pub variable-at : (plan : OrTrap Variable → Plan) → carry s (plan (gives (at t (read s w)))) ≡ carry s (plan (variable_seen s v))
+  module _ (x : Variable) (e : v ≡ Ok x) where
+    pub variable-at : (plan : OrTrap manual.Variable → Plan) → carry s (plan (gives (manual.at x.target (read s x.held)))) ≡ carry s (plan (variable_seen s v))
     variable-at plan = rw e
 
-    pub variable-sure : Sure s v → w ≡ held_at s t
+    pub variable-sure : Sure s v → x.held ≡ held_at s x.target
     variable-sure sure = rw e at sure

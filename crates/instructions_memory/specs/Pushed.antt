@@ -1,5 +1,6 @@
 -- What loads and constants push: the word that a variable holds, and the words of a vector that stands in the code. Assumes nothing.
-use Rattle.std.specs.Prelude.{ℕ, ◌%◌, ◌^◌, ◌≡◌, List}
+use Rattle.std.specs.Prelude.{ℕ, ◌%◌, ◌^◌, ◌≡◌, List, Result}
+use Rattle.trap.specs.declared.Trap.{Trap}
 use Rattle.descriptor.specs.declared.Target.{Target}
 use Rattle.manual.specs.OrTrap.{gives}
 use Rattle.manual.specs.Seen.{at}
@@ -11,7 +12,7 @@ use Rattle.effects.specs.Carried.{CarriesOut}
 use Rattle.effects.specs.declared.Outcome.{Outcome}
 
 -- A load of any variable that holds `w`.
-abbrev pub LoadsHeld : List ℕ → Outcome → List ℕ → ℕ → ℕ → Type 0
+abbrev pub LoadsHeld : List ℕ → Result Outcome Trap → List ℕ → ℕ → ℕ → Type 0
 LoadsHeld s outcome after next w = (t : Target) → w ≡ held_at s t → CarriesOut s outcome after (λ sees. load sees next (gives (at t (read s w))))
 
 -- So many words of the code, from a place of sixteen bits on.

@@ -12,90 +12,93 @@ ghost use Rattle.instructions_memory.specs.Pushed.{LoadsHeld, words_at};
 use descriptor::Descriptor;
 use descriptor::address::CodeAddress;
 use effects::Outcome;
-use effects_code::Done;
 use effects_code::taking::{jump, replace_by_array, replace_by_share, replace_by_word};
 use elements::kinds::any_other;
 use operands::reading::{is_undefined, room};
-use operands::variables::{Resolved, reference_word};
+use operands::variables::{Variable, reference_word};
 use procedure::bytes::word_at;
 use segment::state::iorg;
+use trap::Trap;
 
 // A word that names no array.
-pub fn push_word(seg: &mut [u32], w: u32, next: CodeAddress) -> Outcome
+pub fn push_word(seg: &mut [u32], w: u32, next: CodeAddress) -> Result<Outcome, Trap>
     requires { length seg.old ≤ 16384 }
     ensures { CarriesOut seg.old result seg.new (λ sees. plan.push sees next.0 (effect.word w)) }
 {
     if room(seg) < 1 {
-        return Outcome::Trapped(1, 1);
+        return Err(Trap::STACK_FULL);
     }
     replace_by_word(seg, 0, w);
     jump(seg, next);
-    Outcome::Finished
+    Ok(Outcome::Finished)
 }
 
-pub fn load(seg: &mut [u32], variable: Resolved, next: CodeAddress) -> Outcome
+pub fn load(
+    seg: &mut [u32],
+    variable: Result<Variable, Trap>,
+    next: CodeAddress,
+) -> Result<Outcome, Trap>
     requires { (length seg.old ≤ 16384) × Sure seg.old variable }
     ensures { CarriesOut seg.old result seg.new (λ sees. plan.load sees next.0 (variable_seen seg.old variable)) }
 {
-    match variable {
-        Resolved::Trap(class, number) => Outcome::Trapped(class, number),
-        Resolved::At(_, w) => load_word(seg, w, next),
-    }
+    let variable = variable?;
+    load_word(seg, variable.held, next)
 }
 
 // The word that the variable holds is pushed, and counted.
-fn load_word(seg: &mut [u32], w: u32, next: CodeAddress) -> Outcome
+fn load_word(seg: &mut [u32], w: u32, next: CodeAddress) -> Result<Outcome, Trap>
     requires { length seg.old ≤ 16384 }
     ensures { LoadsHeld seg.old result seg.new next.0 w }
 {
     if is_undefined(w) {
-        return Outcome::Trapped(10, 0);
+        return Err(Trap::VALUE_ERROR);
     }
     if room(seg) < 1 {
-        return Outcome::Trapped(1, 1);
+        return Err(Trap::STACK_FULL);
     }
     replace_by_share(seg, 0, w);
     jump(seg, next);
-    Outcome::Finished
+    Ok(Outcome::Finished)
 }
 
-pub fn refer(seg: &mut [u32], variable: Resolved, next: CodeAddress) -> Outcome
+pub fn refer(
+    seg: &mut [u32],
+    variable: Result<Variable, Trap>,
+    next: CodeAddress,
+) -> Result<Outcome, Trap>
     requires { length seg.old ≤ 16384 }
     ensures { CarriesOut seg.old result seg.new (λ sees. plan.refer_to sees next.0 (variable_seen seg.old variable)) }
 {
-    match variable {
-        Resolved::Trap(class, number) => Outcome::Trapped(class, number),
-        Resolved::At(t, _) => push_word(seg, reference_word(t), next),
-    }
+    let variable = variable?;
+    push_word(seg, reference_word(variable.target), next)
 }
 
-pub fn test_defined(seg: &mut [u32], variable: Resolved, next: CodeAddress) -> Outcome
+pub fn test_defined(
+    seg: &mut [u32],
+    variable: Result<Variable, Trap>,
+    next: CodeAddress,
+) -> Result<Outcome, Trap>
     requires { length seg.old ≤ 16384 }
     ensures { CarriesOut seg.old result seg.new (λ sees. plan.test_defined sees next.0 (variable_seen seg.old variable)) }
 {
-    match variable {
-        Resolved::Trap(class, number) => Outcome::Trapped(class, number),
-        Resolved::At(_, w) => push_word(seg, defined(w), next),
-    }
+    let variable = variable?;
+    push_word(seg, defined(variable.held), next)
 }
 
 fn defined(w: u32) -> u32
     ensures { result ≡ cond (is_undefined_word w) 0 1 }
 {
-    if is_undefined(w) {
-        return 0;
-    }
-    1
+    if is_undefined(w) { 0 } else { 1 }
 }
 
-pub fn push_undefined(seg: &mut [u32], next: CodeAddress) -> Outcome
+pub fn push_undefined(seg: &mut [u32], next: CodeAddress) -> Result<Outcome, Trap>
     requires { length seg.old ≤ 16384 }
     ensures { CarriesOut seg.old result seg.new (λ sees. plan.push_undefined sees next.0) }
 {
     push_word(seg, Descriptor::UNDEFINED, next)
 }
 
-pub fn get_origin(seg: &mut [u32], next: CodeAddress) -> Outcome
+pub fn get_origin(seg: &mut [u32], next: CodeAddress) -> Result<Outcome, Trap>
     requires { length seg.old ≤ 16384 }
     ensures { CarriesOut seg.old result seg.new (λ sees. plan.get_origin sees next.0) }
 {
@@ -103,7 +106,12 @@ pub fn get_origin(seg: &mut [u32], next: CodeAddress) -> Outcome
     push_word(seg, origin, next)
 }
 
-pub fn short_constant(seg: &mut [u32], negative: bool, magnitude: u32, next: CodeAddress) -> Outcome
+pub fn short_constant(
+    seg: &mut [u32],
+    negative: bool,
+    magnitude: u32,
+    next: CodeAddress,
+) -> Result<Outcome, Trap>
     requires { length seg.old ≤ 16384 }
     ensures { CarriesOut seg.old result seg.new (λ sees.
         plan.short_constant sees next.0 (integer_word (bit negative) (magnitude % 2 ^ 12))) }
@@ -115,14 +123,14 @@ pub fn short_constant(seg: &mut [u32], negative: bool, magnitude: u32, next: Cod
     )
 }
 
-pub fn constant_scalar(seg: &mut [u32], w: u32, next: CodeAddress) -> Outcome
+pub fn constant_scalar(seg: &mut [u32], w: u32, next: CodeAddress) -> Result<Outcome, Trap>
     requires { length seg.old ≤ 16384 }
     ensures { CarriesOut seg.old result seg.new (λ sees. plan.constant_scalar sees next.0 w) }
 {
     if Descriptor::of(w).is_scalar() {
         return push_word(seg, w, next);
     }
-    Outcome::Trapped(3, 5)
+    Err(Trap::UNKNOWN_DESCRIPTOR)
 }
 
 // The words stand in the code from `first` on.
@@ -133,7 +141,7 @@ pub fn constant_vector(
     first: CodeAddress,
     next: CodeAddress,
     scratch: &mut [u32],
-) -> Outcome
+) -> Result<Outcome, Trap>
     requires { (length seg.old ≤ 16384) × (length scratch.old ≡ 16384) }
     ensures { CarriesOut seg.old result seg.new (λ sees.
         plan.constant_vector sees next.0 (words_at (count % 2 ^ 8) code.now first.0)) }
@@ -143,24 +151,20 @@ pub fn constant_vector(
     push_vector(seg, &scratch[..n], next)
 }
 
-fn push_vector(seg: &mut [u32], words: &[u32], next: CodeAddress) -> Outcome
+fn push_vector(seg: &mut [u32], words: &[u32], next: CodeAddress) -> Result<Outcome, Trap>
     requires { (length seg.old ≤ 16384) × (length words.now < 2 ^ 8) }
     ensures { CarriesOut seg.old result seg.new (λ sees. plan.constant_vector sees next.0 words.now) }
 {
     if any_other(words) {
-        return Outcome::Trapped(3, 5);
+        return Err(Trap::UNKNOWN_DESCRIPTOR);
     }
     if room(seg) < 1 {
-        return Outcome::Trapped(1, 1);
+        return Err(Trap::STACK_FULL);
     }
     let lengths = [words.len() as u32];
-    match replace_by_array(seg, 0, &lengths, words) {
-        Done::Full => Outcome::Trapped(1, 2),
-        Done::Done => {
-            jump(seg, next);
-            Outcome::Finished
-        }
-    }
+    replace_by_array(seg, 0, &lengths, words)?;
+    jump(seg, next);
+    Ok(Outcome::Finished)
 }
 
 fn read_words(code: &[u8], first: CodeAddress, out: &mut [u32])
@@ -168,10 +172,7 @@ fn read_words(code: &[u8], first: CodeAddress, out: &mut [u32])
     ensures { out.new ≡ words_at (length out.old) code.now first.0 }
 {
     let start = first.number() % 0x1_0000;
-    let n = out.len();
-    let mut i = 0;
-    while i < n {
-        out[i] = word_at(code, start + 4 * i as u32);
-        i += 1;
+    for (i, w) in out.iter_mut().enumerate() {
+        *w = word_at(code, start + 4 * i as u32);
     }
 }

@@ -1,4 +1,5 @@
 -- The GENSCALAR family by the ways through it: a result of scalars, or one with the shape of an array.
+use Rattle.std.proofs.Common.{Ok, Err}
 use Prim.Native.Nat.{ℕ, ◌≤◌}
 use native.Mathlib.Omega.{arith}
 use mathlib.Core.Path.{◌≡◌, refl, sym, ◌∙◌}
@@ -6,19 +7,17 @@ use mathlib.Core.Bool.{Bool, true, false, cond, ◌&&◌}
 use mathlib.Core.List.{List, [], ◌∷◌}
 use lib.Dec.{eqb, ltb}
 use lib.ListN.{length}
-use borrow.Author.Tests.{eqb-true, le-ltb, lt-ltb, ne_eqb}
+use borrow.Author.Tests.{le-ltb, lt-ltb, ne_eqb}
 use Rattle.operator.specs.declared.Monadic.{Monadic}
 use Rattle.operator.specs.declared.Dyadic.{Dyadic}
-use Rattle.scalar.specs.declared.Answer.{Answer}
-use Rattle.scalar.specs.declared.Answer.TheVariants.{Word, Trap}
+use Rattle.scalar.specs.Results.{Answer}
 use Rattle.scalar.specs.Operators.{monadic_of, dyadic_of}
 use Rattle.segment.specs.Blocks.{shape_at, elements_at}
 use Rattle.manual.specs.OrTrap.{OrTrap, gives, trap, and_then}
 use Rattle.manual.specs.Values as values
 use Rattle.manual.specs.Values.{Value, value, scalar, rank, size, answered, collect, each, conform, pairwise, extent}
 use Rattle.manual.specs.Scalars.{replace_by}
-use Rattle.elements.specs.declared.Shape.{Shape}
-use Rattle.elements.specs.Answers.{shape_named, Paired}
+use Rattle.elements.specs.Answers.{Paired}
 use Rattle.elements.proofs.Conformity as conformity
 use Rattle.effects.specs.Seen.{whole}
 use Rattle.operands.proofs.Whole.{whole-facts}
@@ -30,8 +29,8 @@ module _ (next n : ℕ) where
   like-array shape some (trap class number) = refl
 
   like-scalar : (answer : Answer) → replace_by next n (and_then (collect (answered answer ∷ [])) (λ ravel. gives (value [] ravel))) ≡ scalar_of next n (answered answer)
-  like-scalar (Word w) = refl
-  like-scalar (Trap class number) = refl
+  like-scalar (Ok w) = refl
+  like-scalar (Err t) = refl
 
 module _ (next : ℕ) (op : Monadic) where
   pub monadic-scalar : (w : ℕ) → replace_by next 1 (values.monadic op (scalar w)) ≡ scalar_of next 1 (answered (monadic_of op w))
@@ -77,27 +76,8 @@ module _ (v : Value) (ranked : 1 ≤ rank v) where
       by-test true = simp (lt-ltb 0 (rank v) ranked)
       by-test false = refl
 
--- A single element is paired with any operand, and leaves its number.
-pub single-first : (x : ℕ) (b : List ℕ) → Paired (x ∷ []) b
-single-first x b = record { fits = λ some other. absurd (some refl) }
-
-pub single-second : (a : List ℕ) (y : ℕ) → Paired a (y ∷ [])
-single-second a y = record { fits = λ other some. absurd (some refl) }
-
-pub extent-second : (a : List ℕ) (y : ℕ) → extent a (y ∷ []) ≡ length a
-extent-second a y = by-test (eqb (length a) 1) refl
-  where
-    by-test : (b : Bool) → eqb (length a) 1 ≡ b → cond b 1 (length a) ≡ length a
-    by-test true single = sym (eqb-true (length a) 1 single)
-    by-test false single = refl
-
--- Two arrays, by the lengths and elements that the code reads.
+-- Two arrays that conform.
 module _ (s : List ℕ) (first second : ℕ) where
-  pub conformed : (r : Shape) (l k a b : List ℕ) → l ≡ shape_at s first → k ≡ shape_at s second → a ≡ elements_at s first → b ≡ elements_at s second → shape_named r l k ≡ conform l (length a) k (length b)
-      → shape_named r (shape_at s first) (shape_at s second) ≡ conform (shape_at s first) (length (elements_at s first)) (shape_at s second) (length (elements_at s second))
-  conformed r l k a b lengths lengths₂ elements elements₂ e = rw (← lengths, ← lengths₂, ← elements, ← elements₂) e
-
-  -- They conform.
   module _ (like : ℕ) (first-whole : whole s first ≡ true) (second-whole : whole s second ≡ true) (like-whole : whole s like ≡ true)
       (conforms : gives (shape_at s like) ≡ conform (shape_at s first) (length (elements_at s first)) (shape_at s second) (length (elements_at s second))) where
     pub arrays-paired : Paired (elements_at s first) (elements_at s second)

@@ -18,9 +18,7 @@ use Rattle.operands.specs.Operands.{held}
 use Rattle.operands.specs.Taken.{taken_of}
 use Rattle.operands.proofs.Seen.{origin-seen}
 use Rattle.operands.proofs.Subscripts.{taken-plan}
-use Rattle.instructions_values.specs.declared.operand_values.First.{First}
-use Rattle.instructions_values.specs.declared.operand_values.First.TheVariants as F
-use Rattle.instructions_values.specs.Parts.{FirstFound, indexed}
+use Rattle.instructions_values.specs.Parts.{First, indexed}
 
 -- The subscripts are taken, and lead to a place.
 module _ (origin next : ℕ) (subscripts : List ℕ) (a : Value) where
@@ -38,7 +36,7 @@ module _ (origin next : ℕ) (subscripts : List ℕ) (a : Value) where
     indexed-at k e = simp (eq-eqb (length subscripts) (length a.shape) alike, ← e)
 
 -- What is indexed is a value.
-module _ (s : List ℕ) (next n : ℕ) {r : First} (f : FirstFound s (n + 1) r) {v : Operand} (found : r ≡ F.Value v) where
+module _ (s : List ℕ) (next n : ℕ) {v : Operand} (f : First s (n + 1) v) where
   abbrev subscripts_with : ℕ → ℕ → Value → List ℕ → Plan
   subscripts_with origin n a words =
       and_then (stop_if (not (eqb n (length a.shape))) 9 1 (ravel_place origin words a.shape)) (λ k.
@@ -54,7 +52,7 @@ module _ (s : List ℕ) (next n : ℕ) {r : First} (f : FirstFound s (n + 1) r) 
   unfolding index
   index-taken =
       rw (← origin-seen s)
-      (f.goes v found cells
+      (f.goes cells
       ∙ sym (taken-plan false (eqb (rank (held s v)) 0) (operands (seen s) 1 n) (subscripts_with (seen s).origin n (held s v))))
 
   -- The words are so many, and it is an array.

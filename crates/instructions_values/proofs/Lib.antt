@@ -2,7 +2,6 @@
 pub mod Carrying
 pub mod Taking
 pub mod Few
-pub mod Fronts
 pub mod Elementwise
 pub mod Vectors
 pub mod Indexing

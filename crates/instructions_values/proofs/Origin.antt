@@ -11,13 +11,10 @@ use Rattle.effects.specs.Seen.{seen}
 use Rattle.operands.specs.declared.reading.Value.{Value as Operand}
 use Rattle.operands.specs.Operands.{held}
 use Rattle.operands.proofs.Seen.{origin-seen}
-use Rattle.instructions_values.specs.declared.operand_values.First.{First}
-use Rattle.instructions_values.specs.declared.operand_values.First.TheVariants as F
-use Rattle.instructions_values.specs.Parts.{FirstFound, origin_set}
+use Rattle.instructions_values.specs.Parts.{First, origin_set}
 
-pub origin-value : (next : ℕ) {s : List ℕ} {r : First} {v : Operand} → FirstFound s 1 r → r ≡ F.Value v
-    → set_origin (seen s) next ≡ and_then (truth_of_value (held s v)) (λ b. origin_set next b s)
+pub origin-value : (next : ℕ) {s : List ℕ} {v : Operand} → First s 1 v → set_origin (seen s) next ≡ and_then (truth_of_value (held s v)) (λ b. origin_set next b s)
 unfolding set_origin
-origin-value next {s} {r} {v} f e =
+origin-value next {s} f =
     rw (← origin-seen s)
-    (f.goes v e (λ a. and_then (truth_of_value a) (λ b. gives (sets_origin (bit b) ∷ replaces 1 (word (seen s).origin) ∷ jumps next ∷ []))))
+    (f.goes (λ a. and_then (truth_of_value a) (λ b. gives (sets_origin (bit b) ∷ replaces 1 (word (seen s).origin) ∷ jumps next ∷ []))))

@@ -23,7 +23,8 @@ use Rattle.operands.specs.declared.reading.Value.TheVariants.{Scalar, Array}
 use Rattle.operands.specs.Operands.{held, Stands, standing}
 use Rattle.operands.proofs.ValuesSeen.{standing-words}
 use Rattle.effects.specs.Sources.{operand_at}
-use Rattle.effects.specs.declared.Outcome.TheVariants.{Trapped}
+use Rattle.std.specs.Prelude.{Err}
+use Rattle.trap.specs.Trap.{trap_of}
 use Rattle.effects.specs.Carried.{did, carry}
 use Rattle.instructions_values.specs.Parts.{Readable, shaped}
 use Rattle.instructions_values.proofs.Carrying.{carried-long}
@@ -77,7 +78,7 @@ module _ (origin : ℕ) (v : Value) where
     unfolding index_generator
     generator-numbers n e = rw (← one, ← e)
 
-pub numbers-long : (s : List ℕ) (origin n next : ℕ) → 16384 < n → did (Trapped 1 2) s ≡ carry s (replace_by next 1 (gives (vector (up_from origin n))))
+pub numbers-long : (s : List ℕ) (origin n next : ℕ) → 16384 < n → did (Err (trap_of 1 2)) s ≡ carry s (replace_by next 1 (gives (vector (up_from origin n))))
 numbers-long s origin n next more = carried-long s 1 (length (up_from origin n) ∷ []) (up_from origin n) next (omega (arith, length-up_from origin n))
 
 -- ---- RESHAPE
@@ -129,10 +130,7 @@ module _ (lengths : List ℕ) (b : Value) (n : ℕ) (count : n ≡ min (product 
 
 -- As many elements as the lengths ask for.
 module _ (lengths : List ℕ) (n : ℕ) (count : n ≡ product lengths) where
-  pub repeated-some : length lengths ≡ 0 → 0 < n
-  repeated-some none = omega (arith, no_lengths lengths none)
-
-  pub repeated-long : (s : List ℕ) (next : ℕ) (ravel : List ℕ) → (length ravel ≡ 0 → n ≡ 0) → 16384 < n → did (Trapped 1 2) s ≡ carry s (replace_by next 2 (gives (value lengths (cycle n ravel))))
+  pub repeated-long : (s : List ℕ) (next : ℕ) (ravel : List ℕ) → (length ravel ≡ 0 → n ≡ 0) → 16384 < n → did (Err (trap_of 1 2)) s ≡ carry s (replace_by next 2 (gives (value lengths (cycle n ravel))))
   repeated-long s next ravel filled long =
       rw (ne_eqb (length lengths) 0 (λ none. omega (arith, no_lengths lengths none)))
       (carried-long s 2 lengths (cycle n ravel) next (omega (arith, length-cycle n ravel filled)))

@@ -1,5 +1,6 @@
 -- What the contracts of the inner functions say. Nothing here need be believed: no public contract cites it. Assumes nothing.
-use Rattle.std.specs.Prelude.{ℕ, ◌+◌, ◌^◌, ◌≤◌, ◌≡◌, Bool, true, not, ◌&&◌, List, [], ◌∷◌, ltb, leb, eqb, get_or, length, take}
+use Rattle.std.specs.Prelude.{ℕ, ◌+◌, ◌^◌, ◌≤◌, ◌≡◌, Bool, true, not, ◌&&◌, List, [], ◌∷◌, ltb, leb, eqb, get_or, length, Result, Ok, Err}
+use Rattle.trap.specs.declared.Trap.{Trap}
 use Rattle.descriptor.specs.declared.address.SegmentAddress.{SegmentAddress}
 use Rattle.descriptor.specs.Kinds.{bit}
 use Rattle.operator.specs.declared.Dyadic.{Dyadic}
@@ -17,10 +18,6 @@ use Rattle.elements.specs.Answers.{Paired, pairwise_by}
 use Rattle.operands.specs.declared.reading.Value.{Value}
 use Rattle.operands.specs.declared.reading.Value.TheVariants.{Array}
 use Rattle.operands.specs.Operands.{held, Stands}
-use Rattle.instructions_values.specs.declared.operand_values.First.{First}
-use Rattle.instructions_values.specs.declared.operand_values.First.TheVariants as F
-use Rattle.instructions_values.specs.declared.operand_values.Both.{Both}
-use Rattle.instructions_values.specs.declared.operand_values.Both.TheVariants as B
 
 -- ---- what the words hold
 
@@ -43,11 +40,6 @@ pub record BothStand (s : List ℕ) (a b : Value) : Type 0 where
 abbrev pub origin_of : List ℕ → ℕ
 origin_of s = iorg (flags s)
 
--- The words are n, and stand first in a list.
-pub record Front (words : List ℕ) (n : ℕ) (to : List ℕ) : Type 0 where
-  pub count : n ≡ length words
-  pub first : take n to ≡ words
-
 -- ---- the operands
 
 -- A plan that goes on from the value of the first of n operands, and one from the values of both of two.
@@ -58,27 +50,33 @@ abbrev pub from_both : Seen → (values.Value → values.Value → Plan) → Pla
 from_both sees next = from_first sees 2 (λ a. and_then (value_of (sees.operand 1)) (next a))
 
 -- What the code finds: values that can be read, from which every such plan goes on; or the trap that every one is.
-pub record FirstFound (s : List ℕ) (n : ℕ) (r : First) : Type 0 where
-  pub all : (v : Value) → r ≡ F.Value v → n ≤ temporaries s
-  pub operand : (v : Value) → r ≡ F.Value v → Stands s 0 v
-  pub readable : (v : Value) → r ≡ F.Value v → Readable s v
-  pub goes : (v : Value) → r ≡ F.Value v → (next : values.Value → Plan) → from_first (seen s) n next ≡ next (held s v)
-  pub stops : (class number : ℕ) → r ≡ F.Trap class number → (next : values.Value → Plan) → from_first (seen s) n next ≡ trap class number
+pub record First (s : List ℕ) (n : ℕ) (v : Value) : Type 0 where
+  pub all : n ≤ temporaries s
+  pub stands : Stands s 0 v
+  pub readable : Readable s v
+  pub goes : (next : values.Value → Plan) → from_first (seen s) n next ≡ next (held s v)
 
-pub record BothFound (s : List ℕ) (r : Both) : Type 0 where
-  pub operands : (a b : Value) → r ≡ B.Values a b → BothStand s a b
-  pub readable : (a b : Value) → r ≡ B.Values a b → Readable s a × Readable s b
-  pub goes : (a b : Value) → r ≡ B.Values a b → (next : values.Value → values.Value → Plan) → from_both (seen s) next ≡ next (held s a) (held s b)
-  pub stops : (class number : ℕ) → r ≡ B.Trap class number → (next : values.Value → values.Value → Plan) → from_both (seen s) next ≡ trap class number
+abbrev pub FirstFound : List ℕ → ℕ → Result Value Trap → Type 0
+FirstFound s n (Ok v) = First s n v
+FirstFound s n (Err t) = (next : values.Value → Plan) → from_first (seen s) n next ≡ trap t.class t.number
+
+pub record Both (s : List ℕ) (a b : Value) : Type 0 where
+  pub stand : BothStand s a b
+  pub readable : Readable s a × Readable s b
+  pub goes : (next : values.Value → values.Value → Plan) → from_both (seen s) next ≡ next (held s a) (held s b)
+
+abbrev pub BothFound : List ℕ → Result (Value × Value) Trap → Type 0
+BothFound s (Ok (a, b)) = Both s a b
+BothFound s (Err t) = (next : values.Value → values.Value → Plan) → from_both (seen s) next ≡ trap t.class t.number
 
 -- ---- what the words come to
 
 -- From the words `s`, outcome and words afterwards are those of a plan, which is said of these words.
-abbrev pub Carries : List ℕ → Outcome → List ℕ → (List ℕ → Plan) → Type 0
+abbrev pub Carries : List ℕ → Result Outcome Trap → List ℕ → (List ℕ → Plan) → Type 0
 Carries s outcome after plan = did outcome after ≡ carry s (plan s)
 
 -- The plan is that a result takes the place of n operands.
-abbrev pub ReplacesBy : List ℕ → Outcome → List ℕ → ℕ → ℕ → (List ℕ → OrTrap values.Value) → Type 0
+abbrev pub ReplacesBy : List ℕ → Result Outcome Trap → List ℕ → ℕ → ℕ → (List ℕ → OrTrap values.Value) → Type 0
 ReplacesBy s outcome after next n result = Carries s outcome after (λ words. replace_by next n (result words))
 
 -- It is a scalar, or a new array of a shape; or the trap of its elements.
@@ -90,16 +88,20 @@ made_of next n shape result = and_then result (λ words. gives (replaces n (made
 
 -- ---- GENSCALAR and SETORIGIN
 
--- Two arrays whose elements pair, and one that has as many as there are results.
-abbrev pub Pairable : List ℕ → SegmentAddress → SegmentAddress → SegmentAddress → Type 0
-Pairable s first second like =
-    Paired (elements_at s first.0) (elements_at s second.0)
-    × (length (elements_at s like.0) ≡ values.extent (elements_at s first.0) (elements_at s second.0))
+-- The shape of the array that an answer names.
+abbrev pub shape_in : List ℕ → Result SegmentAddress Trap → OrTrap (List ℕ)
+shape_in s (Ok like) = gives (shape_at s like.0)
+shape_in s (Err t) = trap t.class t.number
 
--- The results of their pairs, in the shape of the third.
-abbrev pub pairs_made : ℕ → Dyadic → SegmentAddress → SegmentAddress → SegmentAddress → List ℕ → Plan
-pairs_made next op first second like s =
-    made_of next 2 (shape_at s like.0) (pairwise_by op (elements_at s first.0) (elements_at s second.0))
+-- Two values whose elements pair, and an array that has as many as there are results.
+abbrev pub Pairable : List ℕ → Value → Value → SegmentAddress → Type 0
+Pairable s a b like =
+    Paired (held s a).ravel (held s b).ravel
+    × (length (elements_at s like.0) ≡ values.extent (held s a).ravel (held s b).ravel)
+
+-- The results of their pairs, in the shape of the array.
+abbrev pub pairs_made : ℕ → Dyadic → Value → Value → SegmentAddress → List ℕ → Plan
+pairs_made next op a b like s = made_of next 2 (shape_at s like.0) (pairwise_by op (held s a).ravel (held s b).ravel)
 
 -- The origin is set, and as it was it takes the operand's place.
 abbrev pub origin_set : ℕ → Bool → List ℕ → Plan

@@ -9,13 +9,12 @@ use lib.Dec.{eqb, leb}
 use lib.ListN.{length, set}
 use Rattle.line_tool.specs.Tokens.{token_at, text_of}
 use Rattle.line_tool.specs.Numbers.{number_in}
-use Rattle.line_tool.specs.Lists.{Listing, listing, with_number, turn, numbers_at}
+use Rattle.line_tool.specs.Lists.{Listing, listing, listed, misread, with_number, turn, numbers_at}
 use Rattle.line_tool.specs.declared.tokens.Token.{Token}
 use Rattle.line_tool.specs.declared.fault.Fault.{Fault}
 use Rattle.line_tool.specs.declared.fault.Fault.TheVariants.{PastEnd}
 use Rattle.line_tool.specs.declared.number.Base.{Base}
-use Rattle.line_tool.specs.declared.number.Number.TheVariants as number
-use Rattle.line_tool.specs.declared.list.Listed.TheVariants.{Numbers, Wrong}
+use Rattle.std.proofs.Common.{Ok, Err}
 
 -- what is still to be read comes to the goal
 pub record ListFrom (goal : Listing) (base : Base) (line : List ℕ) (left at n : ℕ) (out : List ℕ) : Type 0 where
@@ -32,7 +31,7 @@ turn_is base line zero at n out h = absurd (not-suc-le-zero h)
 turn_is base line (suc left) at n out h = let e : suc left - 1 ≡ left = omega arith in rw e
 
 module _ {goal : Listing} {base : Base} {line : List ℕ} {left at n : ℕ} {out : List ℕ} (f : ListFrom goal base line left at n out) where
-  pub list-most : left ≡ 0 → listing (Numbers n at) out ≡ goal
+  pub list-most : left ≡ 0 → listing (listed n at) out ≡ goal
   unfolding numbers_at
   list-most e = rw e at f.so_far
 
@@ -40,18 +39,18 @@ module _ {goal : Listing} {base : Base} {line : List ℕ} {left at n : ℕ} {out
     here : turn_at base line (left - 1) at n out t ≡ goal
     here = rw e (turn_is base line left at n out l ∙ f.so_far)
 
-    pub list-end : eqb t.start t.end ≡ true → listing (Numbers n at) out ≡ goal
+    pub list-end : eqb t.start t.end ≡ true → listing (listed n at) out ≡ goal
     unfolding turn_at turn
     list-end p = rw p at here
 
-    pub list-wrong : {fault : Fault} → eqb t.start t.end ≡ false → number_in base (text_of line t) ≡ number.Wrong fault → listing (Wrong fault t) out ≡ goal
+    pub list-wrong : {fault : Fault} → eqb t.start t.end ≡ false → number_in base (text_of line t) ≡ Err fault → listing (misread fault t) out ≡ goal
     unfolding turn_at turn with_number
     list-wrong p q = rw (p, q) at here
 
-    pub list_full : {v : ℕ} → eqb t.start t.end ≡ false → number_in base (text_of line t) ≡ number.Value v → leb (length out) n ≡ true → listing (Wrong PastEnd t) out ≡ goal
+    pub list_full : {v : ℕ} → eqb t.start t.end ≡ false → number_in base (text_of line t) ≡ Ok v → leb (length out) n ≡ true → listing (misread PastEnd t) out ≡ goal
     unfolding turn_at turn with_number
     list_full p q r = rw (p, q, r) at here
 
-    pub list_on : {v : ℕ} → eqb t.start t.end ≡ false → number_in base (text_of line t) ≡ number.Value v → leb (length out) n ≡ false → ListFrom goal base line (left - 1) t.end (n + 1) (set out n v)
+    pub list_on : {v : ℕ} → eqb t.start t.end ≡ false → number_in base (text_of line t) ≡ Ok v → leb (length out) n ≡ false → ListFrom goal base line (left - 1) t.end (n + 1) (set out n v)
     unfolding turn_at turn with_number
     list_on p q r = record { so_far = rw (p, q, r) at here }

@@ -13,7 +13,7 @@ use lib.ListN.{length, get_or, drop}
 use lib.Seq.{drop-cons, drop-length}
 use Rattle.line_tool.specs.Numbers.{digit_of, is_numeral, number_from, number_of, decimal_number, hex_number}
 use Rattle.line_tool.specs.declared.fault.Fault.TheVariants.{TooLarge}
-use Rattle.line_tool.specs.declared.number.Number.TheVariants.{Value, Wrong}
+use Rattle.std.proofs.Common.{Ok, Err}
 
 -- the first i bytes are digits of the base
 pub record NumeralFrom (base : ℕ) (s : List ℕ) (i : ℕ) : Type 0 where
@@ -105,20 +105,20 @@ pub hex-fits : (w : List ℕ) {n : ℕ} → is_numeral 16 w ≡ true → length 
 hex-fits w d h e = omega (arith, hex-bound w d h)
 
 module _ (w : List ℕ) {n : ℕ} (some : length w ≡ 0 → ⊥) where
-  pub decimal-large : is_numeral 10 w ≡ true → n ≡ min (number_of 10 w) (2 ^ 32) → 0xffff_ffff < n → Wrong TooLarge ≡ decimal_number w
+  pub decimal-large : is_numeral 10 w ≡ true → n ≡ min (number_of 10 w) (2 ^ 32) → 0xffff_ffff < n → Err TooLarge ≡ decimal_number w
   unfolding decimal_number
   decimal-large d e h =
       let l : 0xffff_ffff < number_of 10 w = omega arith in
       simp (ne_eqb _ _ some, d, lt-ltb _ _ l)
 
-  pub decimal-value : is_numeral 10 w ≡ true → n ≡ min (number_of 10 w) (2 ^ 32) → n ≤ 0xffff_ffff → Value n ≡ decimal_number w
+  pub decimal-value : is_numeral 10 w ≡ true → n ≡ min (number_of 10 w) (2 ^ 32) → n ≤ 0xffff_ffff → Ok n ≡ decimal_number w
   unfolding decimal_number
   decimal-value d e h =
       let l : number_of 10 w ≤ 0xffff_ffff = omega arith in
       let v : n ≡ number_of 10 w = omega arith in
       simp (ne_eqb _ _ some, d, le-ltb _ _ l, v)
 
-  pub hex-value : is_numeral 16 w ≡ true → length w ≤ 8 → n ≡ min (number_of 16 w) (2 ^ 32) → Value n ≡ hex_number w
+  pub hex-value : is_numeral 16 w ≡ true → length w ≤ 8 → n ≡ min (number_of 16 w) (2 ^ 32) → Ok n ≡ hex_number w
   unfolding hex_number
   hex-value d h e =
       let v : n ≡ number_of 16 w = omega (arith, hex-bound w d h) in

@@ -1,26 +1,24 @@
 -- The bytes of a procedure segment, of a file of imports or of a table of operators as a line writes them: two HEX digits a byte, a
 -- dash for none.
 -- A reader must believe: bytes are read so. Assumes nothing.
-use Rattle.std.specs.Prelude.{ℕ, ◌+◌, ◌*◌, ◌/◌, ◌%◌, ◌≡◌, refl, Bool, true, false, cond, List, [], ◌∷◌, eqb, ltb, length, get_or}
+use Rattle.std.specs.Prelude.{ℕ, ◌+◌, ◌*◌, ◌/◌, ◌%◌, ◌≡◌, refl, Bool, true, false, cond, List, [], ◌∷◌, eqb, ltb, length, get_or, Result, Ok, Err}
 use Rattle.line_tool.specs.Text.{bytes}
 use Rattle.line_tool.specs.Numbers.{digit_of, is_numeral}
 use Rattle.line_tool.specs.declared.fault.Fault.{Fault}
 use Rattle.line_tool.specs.declared.fault.Fault.TheVariants.{Missing, NotHex, Odd, TooManyBytes, LongFile}
-use Rattle.line_tool.specs.declared.bytes.Counted.{Counted}
-use Rattle.line_tool.specs.declared.bytes.Counted.TheVariants.{Bytes, Wrong}
 
 abbrev pub is_dash : List ℕ → Bool
 is_dash word = cond (eqb (length word) 1) (eqb (get_or word 0 0) 45) false
 
 -- How many bytes a word writes, of which there is room for so many; the fault where it writes more.
-unfoldable pub byte_count : List ℕ → ℕ → Fault → Counted
+unfoldable pub byte_count : List ℕ → ℕ → Fault → Result ℕ Fault
 byte_count word room more =
-    cond (eqb (length word) 0) (Wrong Missing)
-    (cond (is_dash word) (Bytes 0)
+    cond (eqb (length word) 0) (Err Missing)
+    (cond (is_dash word) (Ok 0)
     (cond (is_numeral 16 word)
-    (cond (eqb (length word % 2) 1) (Wrong Odd)
-    (cond (ltb room (length word / 2)) (Wrong more) (Bytes (length word / 2))))
-    (Wrong NotHex)))
+    (cond (eqb (length word % 2) 1) (Err Odd)
+    (cond (ltb room (length word / 2)) (Err more) (Ok (length word / 2))))
+    (Err NotHex)))
 
 -- The byte of two digits; a byte that is no digit counts as 0.
 abbrev pub pair : ℕ → ℕ → ℕ
@@ -46,18 +44,18 @@ header : pairs (bytes "00012e0F") ≡ 0 ∷ 1 ∷ 46 ∷ 15 ∷ []
 unfolding digit_of
 header = refl
 
-none : byte_count (bytes "-") 100000 LongFile ≡ Bytes 0
+none : byte_count (bytes "-") 100000 LongFile ≡ Ok 0
 unfolding byte_count digit_of
 none = refl
 
-some : byte_count (bytes "00012e0F") 4 TooManyBytes ≡ Bytes 4
+some : byte_count (bytes "00012e0F") 4 TooManyBytes ≡ Ok 4
 unfolding byte_count digit_of
 some = refl
 
-odd : byte_count (bytes "000") 40000 TooManyBytes ≡ Wrong Odd
+odd : byte_count (bytes "000") 40000 TooManyBytes ≡ Err Odd
 unfolding byte_count digit_of
 odd = refl
 
-too_many : byte_count (bytes "0001") 1 TooManyBytes ≡ Wrong TooManyBytes
+too_many : byte_count (bytes "0001") 1 TooManyBytes ≡ Err TooManyBytes
 unfolding byte_count digit_of
 too_many = refl

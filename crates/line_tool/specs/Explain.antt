@@ -2,6 +2,7 @@
 -- trap classes and numbers, as document 01 reads it. A reader must believe: the tables are theirs. Assumes nothing.
 use Rattle.std.specs.Prelude.{ℕ, ◌+◌, ◌*◌, ◌≡◌, refl, cond, List, [], ◌∷◌, ◌++◌, eqb}
 use Prim.Native.String.{String}
+use Rattle.trap.specs.Trap.{trap_of}
 use Rattle.line_tool.specs.Text.{bytes}
 use Rattle.line_tool.specs.Writing.{decimal}
 use Rattle.line_tool.specs.declared.explain.Last.{Last}
@@ -88,7 +89,7 @@ trap_text class n = bytes "trap (" ++ decimal class ++ bytes "," ++ decimal n ++
 unfoldable pub last_text : Last → List ℕ
 last_text Nothing = bytes "no status yet"
 last_text (Status n) = status_text n
-last_text (Trap class n) = trap_text class n
+last_text (Trap trap) = trap_text trap.class trap.number
 
 second-entry : lookup 2 ((1, "one") ∷ (2, "two") ∷ []) "none" ≡ "two"
 second-entry = refl
@@ -120,19 +121,19 @@ no-status : last_text (Status 1) ≡ bytes "status 1: no such status"
 unfolding last_text status_text status_words decimal
 no-status = refl
 
-full : last_text (Trap 1 2) ≡ bytes "trap (1,2): storage overflow: no free block is long enough"
+full : last_text (Trap (trap_of 1 2)) ≡ bytes "trap (1,2): storage overflow: no free block is long enough"
 unfolding last_text trap_text trap_words decimal
 full = refl
 
-bottom : last_text (Trap 3 13) ≡ bytes "trap (3,13): system error: a return from the bottom frame"
+bottom : last_text (Trap (trap_of 3 13)) ≡ bytes "trap (3,13): system error: a return from the bottom frame"
 unfolding last_text trap_text trap_words decimal
 bottom = refl
 
-by_zero : last_text (Trap 8 4) ≡ bytes "trap (8,4): domain error: division by zero"
+by_zero : last_text (Trap (trap_of 8 4)) ≡ bytes "trap (8,4): domain error: division by zero"
 unfolding last_text trap_text trap_words decimal
 by_zero = refl
 
 -- A rank error has no number but 0.
-no-trap : last_text (Trap 5 1) ≡ bytes "trap (5,1): no such trap"
+no-trap : last_text (Trap (trap_of 5 1)) ≡ bytes "trap (5,1): no such trap"
 unfolding last_text trap_text trap_words decimal
 no-trap = refl

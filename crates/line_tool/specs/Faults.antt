@@ -22,24 +22,6 @@ fault_text F.PastEnd = "past the end of the segment"
 fault_text F.NoBar = "no bar | where the lengths end"
 fault_text F.LongLine = "the line is too long, it begins with"
 
--- The place of a fault among the others.
-unfoldable pub fault_line : Fault → ℕ
-fault_line F.NoCommand = 0
-fault_line F.Missing = 1
-fault_line F.Extra = 2
-fault_line F.NotDecimal = 3
-fault_line F.TooLarge = 4
-fault_line F.NotHex = 5
-fault_line F.TooLong = 6
-fault_line F.Odd = 7
-fault_line F.TooManyBytes = 8
-fault_line F.LongFile = 9
-fault_line F.LongTable = 10
-fault_line F.TooManyWords = 11
-fault_line F.PastEnd = 12
-fault_line F.NoBar = 13
-fault_line F.LongLine = 14
-
 -- A token of an error: its first 40 bytes.
 unfoldable pub shown : List ℕ → List ℕ
 shown token = cond (leb (length token) 40) token (take 40 token ++ bytes "..")

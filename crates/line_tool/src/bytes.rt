@@ -6,45 +6,34 @@ ghost use Rattle.line_tool.specs.Bytes as meaning;
 use crate::fault::Fault;
 use crate::number::{digit, is_numeral};
 
-#[derive(Clone, Copy)]
-pub enum Counted {
-    Bytes(usize),
-    Wrong(Fault),
-}
-
 // How many bytes a word writes, of which there is room for so many; the fault where it writes more.
-pub fn count(word: &[u8], room: usize, more: Fault) -> Counted
+pub fn count(word: &[u8], room: usize, more: Fault) -> Result<usize, Fault>
     ensures { result ≡ meaning.byte_count word.now room more }
 {
     if word.len() == 0 {
-        return Counted::Wrong(Fault::Missing);
+        return Err(Fault::Missing);
     }
     if is_dash(word) {
-        return Counted::Bytes(0);
+        return Ok(0);
     }
     if !is_numeral(16, word) {
-        return Counted::Wrong(Fault::NotHex);
+        return Err(Fault::NotHex);
     }
     if word.len() % 2 == 1 {
-        return Counted::Wrong(Fault::Odd);
+        return Err(Fault::Odd);
     }
     if room < word.len() / 2 {
-        return Counted::Wrong(more);
+        return Err(more);
     }
-    Counted::Bytes(word.len() / 2)
+    Ok(word.len() / 2)
 }
 
 // The bytes that a word writes, put where there is room for them.
 pub fn put_bytes(word: &[u8], out: &mut [u8])
     ensures { out.new ≡ sets out.old 0 (meaning.pairs word.now) }
 {
-    let mut i = 0;
-    while i < word.len() / 2 {
-        if out.len() <= i {
-            return;
-        }
+    for i in 0..out.len().min(word.len() / 2) {
         out[i] = pair(word[2 * i], word[2 * i + 1]);
-        i += 1;
     }
 }
 
@@ -57,8 +46,5 @@ fn pair(high: u8, low: u8) -> u8
 fn is_dash(word: &[u8]) -> bool
     ensures { result ≡ meaning.is_dash word.now }
 {
-    if word.len() != 1 {
-        return false;
-    }
-    word[0] == b'-'
+    word == b"-".as_slice()
 }

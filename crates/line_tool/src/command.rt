@@ -2,7 +2,7 @@
 ghost use Rattle.std.specs.Prelude.{◌≡◌};
 ghost use Rattle.line_tool.specs.Commands as meaning;
 
-#[derive(Clone, Copy)]
+#[derive(Clone, Copy, Debug, PartialEq, Eq)]
 pub enum Command {
     Seg,
     Word,
@@ -22,102 +22,91 @@ pub enum Command {
     Tally,
     Explain,
     Help,
-    Unknown,
 }
 
-pub fn command_of(word: &[u8]) -> Command
+pub fn command_of(word: &[u8]) -> Option<Command>
     ensures { result ≡ meaning.command_of word.now }
 {
     if is(word, b"seg") {
-        return Command::Seg;
+        return Some(Command::Seg);
     }
     if is(word, b"word") {
-        return Command::Word;
+        return Some(Command::Word);
     }
     if is(word, b"words") {
-        return Command::Words;
+        return Some(Command::Words);
     }
     bytes_of(word)
 }
 
 // The commands that set bytes.
-fn bytes_of(word: &[u8]) -> Command
+fn bytes_of(word: &[u8]) -> Option<Command>
     ensures { result ≡ meaning.bytes_of word.now }
 {
     if is(word, b"reg") {
-        return Command::Reg;
+        return Some(Command::Reg);
     }
     if is(word, b"alt") {
-        return Command::Alt;
+        return Some(Command::Alt);
     }
     if is(word, b"file") {
-        return Command::File;
+        return Some(Command::File);
     }
     if is(word, b"table") {
-        return Command::Table;
+        return Some(Command::Table);
     }
     operation_of(word)
 }
 
 // The commands over the operations.
-fn operation_of(word: &[u8]) -> Command
+fn operation_of(word: &[u8]) -> Option<Command>
     ensures { result ≡ meaning.operation_of word.now }
 {
     if is(word, b"layout") {
-        return Command::Layout;
+        return Some(Command::Layout);
     }
     if is(word, b"run") {
-        return Command::Run;
+        return Some(Command::Run);
     }
     if is(word, b"load") {
-        return Command::Load;
+        return Some(Command::Load);
     }
     if is(word, b"look") {
-        return Command::Look;
+        return Some(Command::Look);
     }
     if is(word, b"sheet") {
-        return Command::Sheet;
+        return Some(Command::Sheet);
     }
     if is(word, b"replay") {
-        return Command::Replay;
+        return Some(Command::Replay);
     }
     question_of(word)
 }
 
 // The commands that only answer.
-fn question_of(word: &[u8]) -> Command
+fn question_of(word: &[u8]) -> Option<Command>
     ensures { result ≡ meaning.question_of word.now }
 {
     if is(word, b"dump") {
-        return Command::Dump;
+        return Some(Command::Dump);
     }
     if is(word, b"hash") {
-        return Command::Hash;
+        return Some(Command::Hash);
     }
     if is(word, b"tally") {
-        return Command::Tally;
+        return Some(Command::Tally);
     }
     if is(word, b"explain") {
-        return Command::Explain;
+        return Some(Command::Explain);
     }
     if is(word, b"help") {
-        return Command::Help;
+        return Some(Command::Help);
     }
-    Command::Unknown
+    None
 }
 
 pub fn is(word: &[u8], name: &[u8]) -> bool
     ensures { result ≡ meaning.is word.now name.now }
 {
-    if word.len() != name.len() {
-        return false;
-    }
-    let mut i = 0;
-    while i < word.len() {
-        if word[i] != name[i] {
-            return false;
-        }
-        i += 1;
-    }
-    true
+    word == name
 }

@@ -4,10 +4,10 @@ ghost use Rattle.line_tool.specs.Text.{bytes};
 ghost use Rattle.line_tool.specs.Faults as meaning;
 ghost use Rattle.line_tool.specs.Writing.{wrote, writes};
 
-use crate::tables::put_line;
+use crate::tokens::Token;
 use crate::writing::put;
 
-#[derive(Clone, Copy)]
+#[derive(Clone, Copy, Debug, PartialEq, Eq)]
 pub enum Fault {
     NoCommand,
     Missing,
@@ -26,49 +26,41 @@ pub enum Fault {
     LongLine,
 }
 
+impl Fault {
+    fn text(self) -> &'static [u8]
+        ensures { result.now ≡ bytes (meaning.fault_text self) }
+    {
+        match self {
+            Fault::NoCommand => b"no such command",
+            Fault::Missing => b"something is missing after",
+            Fault::Extra => b"more than the command takes",
+            Fault::NotDecimal => b"not a decimal number",
+            Fault::TooLarge => b"a number above 4294967295",
+            Fault::NotHex => b"not only digits 0 to 9 and a to f",
+            Fault::TooLong => b"a word of more than 8 digits",
+            Fault::Odd => b"an odd number of digits, two are a byte",
+            Fault::TooManyBytes => b"more than 40000 bytes",
+            Fault::LongFile => b"more than 100000 bytes",
+            Fault::LongTable => b"more than 1000 bytes",
+            Fault::TooManyWords => b"more than 40000 words",
+            Fault::PastEnd => b"past the end of the segment",
+            Fault::NoBar => b"no bar | where the lengths end",
+            Fault::LongLine => b"the line is too long, it begins with",
+        }
+    }
+}
+
+// What is wrong, and the token that it is about.
+#[derive(Clone, Copy, Debug, PartialEq, Eq)]
+pub struct Misread {
+    pub fault: Fault,
+    pub token: Token,
+}
+
 pub fn put_fault(out: &mut [u8], at: usize, fault: Fault) -> usize
     ensures { wrote result out.new ≡ writes out.old at (bytes (meaning.fault_text fault)) }
 {
-    let texts = b"no such command
-something is missing after
-more than the command takes
-not a decimal number
-a number above 4294967295
-not only digits 0 to 9 and a to f
-a word of more than 8 digits
-an odd number of digits, two are a byte
-more than 40000 bytes
-more than 100000 bytes
-more than 1000 bytes
-more than 40000 words
-past the end of the segment
-no bar | where the lengths end
-the line is too long, it begins with
-";
-    put_line(out, at, texts, line_of(fault))
-}
-
-// The line that says a fault.
-fn line_of(fault: Fault) -> usize
-    ensures { result ≡ meaning.fault_line fault }
-{
-    match fault {
-        Fault::NoCommand => 0,
-        Fault::Missing => 1,
-        Fault::Extra => 2,
-        Fault::NotDecimal => 3,
-        Fault::TooLarge => 4,
-        Fault::NotHex => 5,
-        Fault::TooLong => 6,
-        Fault::Odd => 7,
-        Fault::TooManyBytes => 8,
-        Fault::LongFile => 9,
-        Fault::LongTable => 10,
-        Fault::TooManyWords => 11,
-        Fault::PastEnd => 12,
-        Fault::NoBar => 13,
-        Fault::LongLine => 14,
-    }
+    put(out, at, fault.text())
 }
 
 // A token of an error: its first 40 bytes.

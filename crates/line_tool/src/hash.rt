@@ -6,10 +6,8 @@ pub fn hash_of(words: &[u32]) -> u32
     ensures { result ≡ meaning.hash_from 0 words.now }
 {
     let mut h = 0;
-    let mut i = 0;
-    while i < words.len() {
-        h = hash_step(h, words[i]);
-        i += 1;
+    for &w in words {
+        h = hash_step(h, w);
     }
     h
 }

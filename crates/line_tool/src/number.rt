@@ -4,19 +4,13 @@ ghost use Rattle.line_tool.specs.Numbers as meaning;
 
 use crate::fault::Fault;
 
-#[derive(Clone, Copy)]
+#[derive(Clone, Copy, Debug, PartialEq, Eq)]
 pub enum Base {
     Decimal,
     Hex,
 }
 
-#[derive(Clone, Copy)]
-pub enum Number {
-    Value(u32),
-    Wrong(Fault),
-}
-
-pub fn number_in(base: Base, word: &[u8]) -> Number
+pub fn number_in(base: Base, word: &[u8]) -> Result<u32, Fault>
     ensures { result ≡ meaning.number_in base word.now }
 {
     match base {
@@ -25,74 +19,60 @@ pub fn number_in(base: Base, word: &[u8]) -> Number
     }
 }
 
-pub fn decimal(word: &[u8]) -> Number
+pub fn decimal(word: &[u8]) -> Result<u32, Fault>
     ensures { result ≡ meaning.decimal_number word.now }
 {
     if word.len() == 0 {
-        return Number::Wrong(Fault::Missing);
+        return Err(Fault::Missing);
     }
     if !is_numeral(10, word) {
-        return Number::Wrong(Fault::NotDecimal);
+        return Err(Fault::NotDecimal);
     }
     let n = capped(10, word);
     if 0xffff_ffff < n {
-        return Number::Wrong(Fault::TooLarge);
+        return Err(Fault::TooLarge);
     }
-    Number::Value(n as u32)
+    Ok(n as u32)
 }
 
-pub fn hex(word: &[u8]) -> Number
+pub fn hex(word: &[u8]) -> Result<u32, Fault>
     ensures { result ≡ meaning.hex_number word.now }
 {
     if word.len() == 0 {
-        return Number::Wrong(Fault::Missing);
+        return Err(Fault::Missing);
     }
     if !is_numeral(16, word) {
-        return Number::Wrong(Fault::NotHex);
+        return Err(Fault::NotHex);
     }
     if 8 < word.len() {
-        return Number::Wrong(Fault::TooLong);
+        return Err(Fault::TooLong);
     }
-    Number::Value(capped(16, word) as u32)
+    Ok(capped(16, word) as u32)
 }
 
 // Has the word digits of the base alone?
 pub fn is_numeral(base: u8, word: &[u8]) -> bool
     ensures { result ≡ meaning.is_numeral base word.now }
 {
-    let mut i = 0;
-    while i < word.len() {
-        if base <= digit(word[i]) {
+    for &b in word {
+        if base <= digit(b) {
             return false;
         }
-        i += 1;
     }
     true
 }
 
 // The digit that a byte is, of either case; 16 where it is none.
+#[tactic(auto, unfolding(crate::specs::Numbers::digit_of))]
 pub fn digit(b: u8) -> u8
     ensures { result ≡ meaning.digit_of b }
 {
-    if b < b'0' {
-        return 16;
+    match b {
+        b'0'..=b'9' => b - b'0',
+        b'A'..=b'F' => b - b'A' + 10,
+        b'a'..=b'f' => b - b'a' + 10,
+        _ => 16,
     }
-    if b <= b'9' {
-        return b - b'0';
-    }
-    if b < b'A' {
-        return 16;
-    }
-    if b <= b'F' {
-        return b - b'A' + 10;
-    }
-    if b < b'a' {
-        return 16;
-    }
-    if b <= b'f' {
-        return b - b'a' + 10;
-    }
-    16
 }
 
 // The number of a numeral, or 2 ^ 32 where it is that or more.
@@ -100,10 +80,8 @@ fn capped(base: u8, word: &[u8]) -> u64
     ensures { result ≡ min (meaning.number_of base word.now) (2 ^ 32) }
 {
     let mut n: u64 = 0;
-    let mut i = 0;
-    while i < word.len() {
-        n = cap(n * base as u64 + digit(word[i]) as u64);
-        i += 1;
+    for &b in word {
+        n = cap(n * base as u64 + digit(b) as u64);
     }
     n
 }
@@ -111,5 +89,5 @@ fn capped(base: u8, word: &[u8]) -> u64
 fn cap(n: u64) -> u64
     ensures { result ≡ min n (2 ^ 32) }
 {
-    if n < 0x1_0000_0000 { n } else { 0x1_0000_0000 }
+    n.min(0x1_0000_0000)
 }

@@ -1,9 +1,9 @@
 // The tokens of a line: its longest parts without a blank.
-ghost use Rattle.std.specs.Prelude.{◌≡◌, ◌≤◌, min, max, eqb, length};
+ghost use Rattle.std.specs.Prelude.{◌≡◌, ◌≤◌, max, eqb, length};
 ghost use Rattle.line_tool.specs.Tokens as meaning;
 
 // The first byte of a token, and the byte after its last: an empty one where a line has no further token.
-#[derive(Clone, Copy)]
+#[derive(Clone, Copy, Debug, PartialEq, Eq)]
 pub struct Token {
     pub start: usize,
     pub end: usize,
@@ -31,11 +31,22 @@ pub fn text(line: &[u8], token: Token) -> &[u8]
     ensures { result.now ≡ meaning.text_of line.now token }
 {
     let start = token.start;
-    let end = least(token.end, line.len());
+    let end = token.end.min(line.len());
     if end < start {
         return &line[0..0];
     }
     &line[start..end]
+}
+
+// What there is of the line where it ends too soon: the token, or all up to an empty one.
+pub fn shown(line: &[u8], token: Token) -> Token {
+    if token.is_empty() {
+        return Token {
+            start: token_at(line, 0).start,
+            end: token.start,
+        };
+    }
+    token
 }
 
 // A blank line, or one that begins with #.
@@ -69,14 +80,12 @@ enum Kind {
 fn after_all(kind: Kind, bytes: &[u8], from: usize) -> usize
     ensures { result ≡ meaning.after_all (meaning.is_of kind) bytes.now from }
 {
-    let mut i = from;
-    while i < bytes.len() {
+    for i in from..bytes.len() {
         if !is_of(kind, bytes[i]) {
             return i;
         }
-        i += 1;
     }
-    i
+    from.max(bytes.len())
 }
 
 fn is_of(kind: Kind, b: u8) -> bool
@@ -92,16 +101,5 @@ fn is_of(kind: Kind, b: u8) -> bool
 fn is_blank(b: u8) -> bool
     ensures { result ≡ meaning.is_blank b }
 {
-    match b {
-        b' ' => true,
-        b'\t' => true,
-        b'\r' => true,
-        _ => false,
-    }
-}
-
-fn least(a: usize, b: usize) -> usize
-    ensures { result ≡ min a b }
-{
-    if a < b { a } else { b }
+    matches!(b, b' ' | b'\t' | b'\r')
 }

@@ -7,14 +7,12 @@ pub fn put(out: &mut [u8], at: usize, text: &[u8]) -> usize
     ensures { meaning.wrote result out.new ≡ meaning.writes out.old at text.now }
 {
     let mut to = at;
-    let mut i = 0;
-    while i < text.len() {
+    for &b in text {
         if out.len() <= to {
             return to;
         }
-        out[to] = text[i];
+        out[to] = b;
         to += 1;
-        i += 1;
     }
     to
 }
@@ -40,16 +38,14 @@ fn decimal_digits(n: u32, digits: &mut [u8]) -> usize
     ensures { (result ≤ 10) × (length digits.new ≡ 10) × (drop result digits.new ≡ meaning.decimal n) }
 {
     let mut rest = n;
-    let mut at = 10;
-    while 0 < at {
-        at -= 1;
-        digits[at] = 48 + (rest % 10) as u8;
-        rest = rest / 10;
+    for at in (0..10).rev() {
+        digits[at] = b'0' + (rest % 10) as u8;
+        rest /= 10;
         if rest == 0 {
             return at;
         }
     }
-    at
+    0
 }
 
 fn hex_digits(w: u32) -> [u8; 8]
@@ -72,5 +68,5 @@ fn glyph(n: u32) -> u8
     ensures { result ≡ meaning.glyph n }
 {
     let d = (n % 16) as u8;
-    if d < 10 { 48 + d } else { 87 + d }
+    if d < 10 { b'0' + d } else { b'a' - 10 + d }
 }

@@ -1,4 +1,7 @@
 -- What is left of a run, before and after one step or one part of it.
+use Rattle.std.specs.Prelude.{Result, Ok, Err}
+use Rattle.trap.specs.Trap.{trap_of}
+use Rattle.trap.specs.declared.Trap.{Trap}
 use Prim.Native.Nat.{ℕ, suc, ◌+◌, ◌-◌, ◌/◌, ◌%◌, ◌^◌, ◌<◌, ◌≤◌}
 use native.Mathlib.Omega.{arith}
 use mathlib.Core.Path.{◌≡◌, refl}
@@ -51,24 +54,24 @@ module _ (p : Program) (budget n : ℕ) (counts s : List ℕ) where
       rw none
 
   -- by what the next step answers
-  module _ (r : Stepped) (t : List ℕ) (more : n < budget) (is : step_result r t ≡ step_of p s) where
+  module _ (r : Result Stepped Trap) (t : List ℕ) (more : n < budget) (is : step_result r t ≡ step_of p s) where
     one : budget - n ≡ suc (budget - (n + 1))
     one = omega arith
 
-    pub run-trapped : (class number : ℕ) → r ≡ answers.Trapped class number → ending (Trapped n) counts t ≡ whole (budget - n) n p counts s
+    pub run-trapped : (trap : Trap) → r ≡ Err trap → ending (Trapped n) counts t ≡ whole (budget - n) n p counts s
     unfolding steps_from tallied_from
-    run-trapped class number trapped = rw (one, ← is, trapped)
+    run-trapped trap trapped = rw (one, ← is, trapped)
 
     -- its instruction counted
     module _ {first : ℕ} {after : List ℕ} (read : first ≡ first_byte p.regular p.alternate s) (up : after ≡ counted first counts) where
-      pub run-goes : r ≡ answers.Finished → whole (budget - (n + 1)) (n + 1) p after t ≡ whole (budget - n) n p counts s
+      pub run-goes : r ≡ Ok answers.Finished → whole (budget - (n + 1)) (n + 1) p after t ≡ whole (budget - n) n p counts s
       unfolding steps_from tallied_from
       run-goes done = rw (up, read, one, ← is, done)
 
-      pub run-traced : (class number : ℕ) → r ≡ answers.Traced class number → ending (Trapped (n + 1)) after t ≡ whole (budget - n) n p counts s
+      pub run-traced : (trap : Trap) → r ≡ Ok (answers.Traced trap) → ending (Trapped (n + 1)) after t ≡ whole (budget - n) n p counts s
       unfolding steps_from tallied_from
-      run-traced class number traced = rw (up, read, one, ← is, traced)
+      run-traced trap traced = rw (up, read, one, ← is, traced)
 
   -- a part of a run in a function that is not there
   pub run-absent : {r : Ran} {t : List ℕ} → n < budget → trapped s 3 1 ≡ step_of p s → r ≡ Trapped n → t ≡ set_trap s 3 1 → (resumed r budget p counts t ≡ whole (budget - n) n p counts s) × Advanced n budget r
-  run-absent more absent is words = rw (is, words) (run-trapped (answers.Trapped 3 1) (set_trap s 3 1) more absent 3 1 refl, tt)
+  run-absent more absent is words = rw (is, words) (run-trapped (Err (trap_of 3 1)) (set_trap s 3 1) more absent (trap_of 3 1) refl, tt)

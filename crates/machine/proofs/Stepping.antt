@@ -1,4 +1,7 @@
 -- A step by the ways that the code goes.
+use Rattle.std.specs.Prelude.{Some, None, Result, Ok, Err}
+use Rattle.trap.specs.Trap.{trap_of}
+use Rattle.trap.specs.declared.Trap.{Trap}
 use Prim.Native.Nat.{ℕ, ◌+◌, ◌*◌, ◌/◌, ◌%◌, ◌^◌, ◌<◌, ◌≤◌}
 use native.Mathlib.Omega.{arith}
 use mathlib.Core.Path.{◌≡◌, refl, sym, ap, ◌∙◌}
@@ -9,11 +12,9 @@ use lib.ListN.{length}
 use borrow.Author.Tests.{le-ltb, eq-eqb, ne_eqb, eqb-true, eqb-false}
 use mir.Val.{bool_byte}
 use Rattle.procedure.specs.declared.header.Block.{Block}
-use Rattle.procedure.specs.declared.directory.Function.TheVariants as F
 use Rattle.procedure.specs.Bytes.{byte_at}
 use Rattle.procedure.specs.Headers.{code_start}
 use Rattle.procedure.specs.Directory.{selected, function_of}
-use Rattle.instruction.specs.declared.Decoded.TheVariants.{Trap}
 use Rattle.instruction.specs.Reading.{fetch_byte}
 use Rattle.instruction.specs.Decoding.{instruction_at}
 use Rattle.segment.specs.State.{lbase, flags, step_flag, set_trap}
@@ -23,7 +24,7 @@ use Rattle.manual.specs.Instructions.{Running, running, header_of, code_in, plan
 use Rattle.effects.specs.declared.Outcome.{Outcome}
 use Rattle.effects.specs.Carried.{CarriesOut}
 use Rattle.effects.specs.declared.Stepped.{Stepped}
-use Rattle.effects.specs.declared.Stepped.TheVariants.{Finished, Traced, Trapped}
+use Rattle.effects.specs.declared.Stepped.TheVariants.{Finished, Traced}
 use Rattle.machine.specs.Resuming.{step_at}
 use Rattle.effects.specs.Tally.{first_in, first_byte}
 use Rattle.effects.specs.Step.{StepResult, step_result, selector_of, current_function, trapped, finished, settled, settle, step_in, step_found, step_of}
@@ -61,25 +62,28 @@ module _ (w number : ℕ) where
 abbrev selected_by : Bool → Program → List ℕ
 selected_by P p = selected P p.regular p.alternate
 
-same-either : (b : Bool) → cond b (Trap 3 1) (Trap 3 1) ≡ Trap 3 1
-same-either true = refl
-same-either false = refl
+same-either : {A : Type 0} (b : Bool) (a : A) → cond b a a ≡ a
+same-either true a = refl
+same-either false a = refl
 
-outside : (code : List ℕ) (place : ℕ) → length code ≤ place → instruction_at code place ≡ Trap 3 1
+outside : (code : List ℕ) (place : ℕ) → length code ≤ place → instruction_at code place ≡ Err (trap_of 3 1)
 unfolding instruction_at fetch_byte
-outside code place past = simp (le-ltb place (length code) past) (same-either (ltb place code_start))
+outside code place past = simp (le-ltb place (length code) past) (same-either (ltb place code_start) (Err (trap_of 3 1)))
+
+no-trap : {stepped : Stepped} {t : Trap} → Ok stepped ≡ Err t → ⊥
+no-trap e = cc
 
 module _ (s : List ℕ) where
-  pub trap-set : (class number : ℕ) → class < 256 → number < 256 → step_result (Trapped class number) (set_trap s class number) ≡ trapped s class number
+  pub trap-set : (class number : ℕ) → class < 256 → number < 256 → step_result (Err (trap_of class number)) (set_trap s class number) ≡ trapped s class number
   trap-set class number c n = rw (eight-bits class c, eight-bits number n)
 
-  pub trace-set : (number : ℕ) → 0 < number → step_result (Traced 2 number) (set_trap s 2 number) ≡ finished number s
+  pub trace-set : (number : ℕ) → 0 < number → step_result (Ok (Traced (trap_of 2 number))) (set_trap s 2 number) ≡ finished number s
   trace-set number some = rw (ne_eqb number 0 (omega arith))
 
   pub step_set : eqb (step_flag (flags s)) 1 ≡ true → finished 1 s ≡ finished (step_flag (flags s)) s
   step_set set = ap (λ (n : ℕ). finished n s) (sym (eqb-true (step_flag (flags s)) 1 set))
 
-  pub step_clear : eqb (step_flag (flags s)) 1 ≡ false → step_result Finished s ≡ finished (step_flag (flags s)) s
+  pub step_clear : eqb (step_flag (flags s)) 1 ≡ false → step_result (Ok Finished) s ≡ finished (step_flag (flags s)) s
   step_clear clear = ap (λ (n : ℕ). finished n s) (sym (flag-clear (flags s) (eqb-false (step_flag (flags s)) 1 clear)))
 
   -- no instruction stands outside the code
@@ -89,7 +93,7 @@ module _ (s : List ℕ) where
 
   -- the instruction at PCTR, done as its plan says
   module _ (f : Running) {place : ℕ} (counted : place ≡ pctr (code_word_at s (lbase s))) where
-    pub step-done : {r : Outcome} {t : List ℕ} → CarriesOut s r t (λ sees. plan_at f sees place) → settled f.program.regular f.program.alternate (header_of f).rtntrace r t ≡ step_in f s
+    pub step-done : {r : Result Outcome Trap} {t : List ℕ} → CarriesOut s r t (λ sees. plan_at f sees place) → settled f.program.regular f.program.alternate (header_of f).rtntrace r t ≡ step_in f s
     unfolding step_in
     step-done done = ap (settle f.program.regular f.program.alternate (header_of f).rtntrace) (rw counted at done)
 
@@ -99,17 +103,11 @@ module _ (s : List ℕ) where
     step_kept u kept = ap (step_at f place) kept ∙ ap (λ (n : ℕ). step_at f n s) counted
 
     -- an instruction that has not trapped stands in the function's code
-    module _ {code : List ℕ} (bytes : code ≡ code_in f) {r : Stepped} {t : List ℕ} (is : step_result r t ≡ step_in f s) where
-      stands : (r ≡ Trapped 3 1 → ⊥) → place < length code
-      stands done =
-          let inside : (length code ≤ place → ⊥) = λ past. done (ap (λ (x : StepResult). x.answer) (is ∙ step-outside f (rw (bytes, counted) at past))) in
+    module _ {code : List ℕ} (bytes : code ≡ code_in f) {r : Result Stepped Trap} {t : List ℕ} (is : step_result r t ≡ step_in f s) where
+      pub stands : {stepped : Stepped} → r ≡ Ok stepped → place < length code
+      stands told =
+          let inside : (length code ≤ place → ⊥) = λ past. no-trap (sym told ∙ ap (λ (x : StepResult). x.answer) (is ∙ step-outside f (rw (bytes, counted) at past))) in
           omega (arith, inside)
-
-      pub finished-stands : r ≡ Finished → place < length code
-      finished-stands told = stands (λ e. let k : Finished ≡ Trapped 3 1 = sym told ∙ e in let z : ◌≡◌ {A = ℕ} 0 1 = cc in absurd (omega arith))
-
-      pub traced-stands : (class number : ℕ) → r ≡ Traced class number → place < length code
-      traced-stands class number told = stands (λ e. let k : Traced class number ≡ Trapped 3 1 = sym told ∙ e in let z : ◌≡◌ {A = ℕ} 0 1 = cc in absurd (omega arith))
 
   -- the function of the current frame
   module _ (p : Program) {selector : Bool} {number : ℕ} (P : selector_of s ≡ selector) (n : current_function s ≡ number) where
@@ -121,18 +119,18 @@ module _ (s : List ℕ) where
     unfolding first_byte
     first = rw (← P, ← n)
 
-    pub step-absent : function_of (selected_by selector p) number ≡ F.Absent → trapped s 3 1 ≡ step_of p s
+    pub step-absent : function_of (selected_by selector p) number ≡ None → trapped s 3 1 ≡ step_of p s
     step-absent is = ap (step_found p s selector) (sym is) ∙ found
 
-    module _ (block : Block) (is : function_of (selected_by selector p) number ≡ F.At block) where
+    module _ (block : Block) (is : function_of (selected_by selector p) number ≡ Some block) where
       pub step-found : step_in (running p selector block) s ≡ step_of p s
       step-found = ap (step_found p s selector) (sym is) ∙ found
 
-      pub first_found : first_in (selected_by selector p) s (F.At block) ≡ first_byte p.regular p.alternate s
+      pub first_found : first_in (selected_by selector p) s (Some block) ≡ first_byte p.regular p.alternate s
       first_found = ap (first_in (selected_by selector p) s) (sym is) ∙ first
 
   -- the function that the second word of the current frame tells at once
-  module _ (p : Program) (P : Bool) {number : ℕ} (block : Block) {w : ℕ} (small : number < 2 ^ 11) (is : function_of (selected_by P p) number ≡ F.At block) (held : w ≡ code_word_at s (lbase s)) (same : w / 2 ^ 16 % 2 ^ 12 ≡ number + 2048 * bool_byte P) where
+  module _ (p : Program) (P : Bool) {number : ℕ} (block : Block) {w : ℕ} (small : number < 2 ^ 11) (is : function_of (selected_by P p) number ≡ Some block) (held : w ≡ code_word_at s (lbase s)) (same : w / 2 ^ 16 % 2 ^ 12 ≡ number + 2048 * bool_byte P) where
     told : code_word_at s (lbase s) / 2 ^ 16 % 2 ^ 12 ≡ number + 2048 * bool_byte P
     told = rw (← held) same
 

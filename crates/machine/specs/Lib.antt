@@ -1,2 +1,4 @@
--- What the contracts inside the crate cite: a run that is under way.
+-- What the contracts inside the crate cite: what a run is lent, the function that is run, a run that is under way.
+pub mod Lent
+pub mod Held
 pub mod Resuming

@@ -1,7 +1,6 @@
 -- A run that is under way: some instructions have finished, and it goes on or has trapped. Contracts inside the crate cite it and
 -- that of `run` does not, so a reader need not believe it. Assumes nothing.
-use Rattle.std.specs.Prelude.{ℕ, ◌-◌, ◌<◌, ◌≤◌, ◌≡◌, List}
-use Rattle.procedure.specs.declared.directory.Function.TheVariants.{At}
+use Rattle.std.specs.Prelude.{ℕ, ◌-◌, ◌<◌, ◌≤◌, ◌≡◌, List, Some}
 use Rattle.procedure.specs.Directory.{function_of}
 use Rattle.manual.specs.Program.{Program}
 use Rattle.manual.specs.Instructions.{Running, segment_of, header_of, plan_at}
@@ -19,7 +18,7 @@ step_at f place s = settle f.program.regular f.program.alternate (header_of f).r
 
 -- The current frame is of the function `f`, which has that number in its directory.
 pub record Current (f : Running) (number : ℕ) (s : List ℕ) : Type 0 where
-  pub found : function_of (segment_of f) number ≡ At f.block
+  pub found : function_of (segment_of f) number ≡ Some f.block
   pub selects : selector_of s ≡ f.selector
   pub numbers : current_function s ≡ number
 

@@ -11,7 +11,7 @@ pub fn count_step(counts: &mut [u32], code: &[u8], place: CodeAddress)
     requires { place.0 < length code.now }
     ensures { counts.new ≡ counted (byte_at code.now place.0) counts.old }
 {
-    if counts.len() == 0 {
+    if counts.is_empty() {
         return;
     }
     count(counts, code[place.number() as usize]);

@@ -1,14 +1,12 @@
 // The long way of a step: the instruction at a place of a function's code, decoded and then done.
-ghost use Rattle.std.specs.Prelude.{◌≡◌, List, ℕ, ◌≤◌, length};
-ghost use Rattle.procedure.specs.Directory.{selected};
-ghost use Rattle.procedure.specs.Headers.{line_of};
+ghost use Rattle.std.specs.Prelude.{◌≡◌, ◌≤◌, length};
 ghost use Rattle.manual.specs.Loads as loading;
-ghost use Rattle.manual.specs.Control as going;
-ghost use Rattle.manual.specs.Program.{program};
 ghost use Rattle.manual.specs.Instructions as plan;
 ghost use Rattle.effects.specs.Carried.{CarriesOut};
 ghost use Rattle.operands.specs.Variables.{variable_seen, Sure};
+ghost use Rattle.machine.specs.Held.{running_of};
 
+use super::running::Running;
 use descriptor::address::CodeAddress;
 use effects::Outcome;
 use instruction::decode::instruction_at;
@@ -19,57 +17,56 @@ use instruction::{
 use instructions_control::{calls, jumps};
 use instructions_memory::{loads, memory};
 use instructions_values::{arrays, scalars, subscripts};
-use operands::variables::{Resolved, resolve, variables};
+use operands::variables::{Variable, resolve, variables};
 use operator::Operator;
 use operator::lent::named;
-use procedure::header::{Block, Header};
+use procedure::header::Header;
+use trap::Trap;
 
-// `code` is that of `block`, which stands in the segment that P names.
 pub fn obey(
     seg: &mut [u32],
-    regular: &[u8],
-    alternate: &[u8],
-    table: &[u8; 16],
-    selector: bool,
-    block: Block,
-    code: &[u8],
+    f: &Running,
     place: CodeAddress,
     scratch: &mut [u32],
-) -> Outcome
-    requires seg_len_bound { (length seg.old ≤ 16384) × (length scratch.old ≡ 16384) }
-    requires code_value { code.now ≡ plan.code_in (plan.running (program regular.now alternate.now table.now) selector block) }
-    ensures { CarriesOut seg.old result seg.new (λ sees.
-        plan.plan_at (plan.running (program regular.now alternate.now table.now) selector block) sees place.0) }
+) -> Result<Outcome, Trap>
+    requires { (length seg.old ≤ 16384) × (length scratch.old ≡ 16384) }
+    ensures { CarriesOut seg.old result seg.new (λ sees. plan.plan_at (running_of f.now) sees place.0) }
 {
-    match instruction_at(code, place) {
-        Decoded::Trap(class, number) => Outcome::Trapped(class, number),
-        Decoded::Instruction(i, next) => match i {
-            Instruction::Load(a) => load(seg, block.header, a, next),
-            Instruction::ShortConstant {
-                negative,
-                magnitude,
-            } => loads::short_constant(seg, negative, magnitude, next),
-            Instruction::Scalar(op) => scalar(seg, named(table, op), next, scratch),
-            Instruction::Memory(op, a) => memory_reference(seg, block.header, op, a, next, scratch),
-            Instruction::Stack(op) => stack(seg, op, next),
-            Instruction::Array(op) => array(seg, op, next, scratch),
-            Instruction::Control(op) => control(seg, regular, alternate, selector, block, op, next),
-            Instruction::Jump(jump, to) => jump_to(seg, block.header, jump, to, next),
-            Instruction::ConstantScalar(w) => loads::constant_scalar(seg, w, next),
-            Instruction::ConstantVector { count, first } => loads::constant_vector(
-                seg, code, count, first, next, scratch,
-            ),
-            Instruction::Call {
-                arguments,
-                alternate: p,
-                function,
-            } => calls::call(seg, regular, alternate, arguments, p, function, next),
-            Instruction::Index(rank) => subscripts::index(seg, rank, next),
-        },
+    let Decoded { instruction, next } = instruction_at(f.code, place)?;
+    match instruction {
+        Instruction::Load(a) => load(seg, f.block.header, a, next),
+        Instruction::ShortConstant {
+            negative,
+            magnitude,
+        } => loads::short_constant(seg, negative, magnitude, next),
+        Instruction::Scalar(op) => scalar(seg, named(f.program.table, op), next, scratch),
+        Instruction::Memory(op, a) => memory_reference(seg, f.block.header, op, a, next, scratch),
+        Instruction::Stack(op) => stack(seg, op, next),
+        Instruction::Array(op) => array(seg, op, next, scratch),
+        Instruction::Control(op) => control(seg, f, op, next),
+        Instruction::Jump(jump, to) => jump_to(seg, f.block.header, jump, to, next),
+        Instruction::ConstantScalar(w) => loads::constant_scalar(seg, w, next),
+        Instruction::ConstantVector { count, first } => loads::constant_vector(
+            seg, f.code, count, first, next, scratch,
+        ),
+        Instruction::Call {
+            arguments,
+            alternate: p,
+            function,
+        } => calls::call(
+            seg,
+            f.program.regular,
+            f.program.alternate,
+            arguments,
+            p,
+            function,
+            next,
+        ),
+        Instruction::Index(rank) => subscripts::index(seg, rank, next),
     }
 }
 
-fn load(seg: &mut [u32], h: Header, a: Address, next: CodeAddress) -> Outcome
+fn load(seg: &mut [u32], h: Header, a: Address, next: CodeAddress) -> Result<Outcome, Trap>
     requires { length seg.old ≤ 16384 }
     ensures { CarriesOut seg.old result seg.new (λ sees. loading.load sees next.0 (plan.resolve sees h a)) }
 {
@@ -84,7 +81,7 @@ fn memory_reference(
     a: Address,
     next: CodeAddress,
     scratch: &mut [u32],
-) -> Outcome
+) -> Result<Outcome, Trap>
     requires { (length seg.old ≤ 16384) × (length scratch.old ≡ 16384) }
     ensures { CarriesOut seg.old result seg.new (λ sees. plan.memory_plan sees next.0 op (plan.resolve sees h a)) }
 {
@@ -95,10 +92,10 @@ fn memory_reference(
 fn memory_operation(
     seg: &mut [u32],
     op: MemoryOperation,
-    variable: Resolved,
+    variable: Result<Variable, Trap>,
     next: CodeAddress,
     scratch: &mut [u32],
-) -> Outcome
+) -> Result<Outcome, Trap>
     requires { (length seg.old ≤ 16384) × (length scratch.old ≡ 16384) × Sure seg.old variable }
     ensures { CarriesOut seg.old result seg.new (λ sees.
         plan.memory_plan sees next.0 op (variable_seen seg.old variable)) }
@@ -114,7 +111,12 @@ fn memory_operation(
     }
 }
 
-fn scalar(seg: &mut [u32], op: Operator, next: CodeAddress, scratch: &mut [u32]) -> Outcome
+fn scalar(
+    seg: &mut [u32],
+    op: Operator,
+    next: CodeAddress,
+    scratch: &mut [u32],
+) -> Result<Outcome, Trap>
     requires { (length seg.old ≤ 16384) × (length scratch.old ≡ 16384) }
     ensures { CarriesOut seg.old result seg.new (λ sees. plan.scalar_plan sees next.0 op) }
 {
@@ -124,7 +126,7 @@ fn scalar(seg: &mut [u32], op: Operator, next: CodeAddress, scratch: &mut [u32])
     }
 }
 
-fn stack(seg: &mut [u32], op: StackOperation, next: CodeAddress) -> Outcome
+fn stack(seg: &mut [u32], op: StackOperation, next: CodeAddress) -> Result<Outcome, Trap>
     requires { length seg.old ≤ 16384 }
     ensures { CarriesOut seg.old result seg.new (λ sees. plan.stack_plan sees next.0 op) }
 {
@@ -137,7 +139,12 @@ fn stack(seg: &mut [u32], op: StackOperation, next: CodeAddress) -> Outcome
     }
 }
 
-fn array(seg: &mut [u32], op: ArrayOperation, next: CodeAddress, scratch: &mut [u32]) -> Outcome
+fn array(
+    seg: &mut [u32],
+    op: ArrayOperation,
+    next: CodeAddress,
+    scratch: &mut [u32],
+) -> Result<Outcome, Trap>
     requires { (length seg.old ≤ 16384) × (length scratch.old ≡ 16384) }
     ensures { CarriesOut seg.old result seg.new (λ sees. plan.array_plan sees next.0 op) }
 {
@@ -152,44 +159,29 @@ fn array(seg: &mut [u32], op: ArrayOperation, next: CodeAddress, scratch: &mut [
 
 fn control(
     seg: &mut [u32],
-    regular: &[u8],
-    alternate: &[u8],
-    selector: bool,
-    block: Block,
+    f: &Running,
     op: ControlOperation,
     next: CodeAddress,
-) -> Outcome
+) -> Result<Outcome, Trap>
     requires { length seg.old ≤ 16384 }
-    ensures { (table : List ℕ) → CarriesOut seg.old result seg.new (λ sees.
-        plan.control_plan (plan.running (program regular.now alternate.now table) selector block) sees next.0 op) }
+    ensures { CarriesOut seg.old result seg.new (λ sees. plan.control_plan (running_of f.now) sees next.0 op) }
 {
     match op {
-        ControlOperation::Branch => branch(seg, regular, alternate, selector, block, next),
-        ControlOperation::Return => calls::return_from(seg, block.header),
+        ControlOperation::Branch => jumps::branch(seg, f.segment(), f.block, next),
+        ControlOperation::Return => calls::return_from(seg, f.block.header),
         ControlOperation::NoOperation => memory::no_operation(seg, next),
-        ControlOperation::Breakpoint => Outcome::Trapped(2, 4),
-        ControlOperation::Attention => Outcome::Trapped(4, 0),
+        ControlOperation::Breakpoint => Err(Trap::BREAKPOINT),
+        ControlOperation::Attention => Err(Trap::ATTENTION),
     }
 }
 
-fn branch(
+fn jump_to(
     seg: &mut [u32],
-    regular: &[u8],
-    alternate: &[u8],
-    selector: bool,
-    block: Block,
+    h: Header,
+    jump: Jump,
+    to: CodeAddress,
     next: CodeAddress,
-) -> Outcome
-    ensures { CarriesOut seg.old result seg.new (λ sees.
-        going.branch sees block.header (line_of (selected selector regular.now alternate.now) block) next.0) }
-{
-    if selector {
-        return jumps::branch(seg, alternate, block, next);
-    }
-    jumps::branch(seg, regular, block, next)
-}
-
-fn jump_to(seg: &mut [u32], h: Header, jump: Jump, to: CodeAddress, next: CodeAddress) -> Outcome
+) -> Result<Outcome, Trap>
     ensures { (f : plan.Running) → plan.header_of f ≡ h
         → CarriesOut seg.old result seg.new (λ sees. plan.jump_plan f sees next.0 jump to.0) }
 {

@@ -3,5 +3,7 @@
 
 mod counting;
 mod dispatch;
+mod program;
 pub mod run;
+mod running;
 mod step;

@@ -1,4 +1,5 @@
 -- The walk over all plans: what holds of every shape of specs/Cases holds of the plan of every instruction.
+use Rattle.std.proofs.Common.{Option, Some, None}
 use Prim.Native.Nat.{ℕ, ◌+◌, ◌-◌, ◌%◌, ◌^◌, ◌≤◌}
 use mathlib.Core.Path.{◌≡◌, refl}
 use mathlib.Core.Bool.{Bool, true, false, cond, not, ◌&&◌, ◌||◌}
@@ -11,8 +12,7 @@ use Rattle.scalar.specs.declared.Whole.{Whole}
 use Rattle.scalar.specs.declared.Whole.TheVariants as W
 use Rattle.scalar.specs.Reading.{whole_of}
 use Rattle.operator.specs.declared.Operator.TheVariants as O
-use Rattle.procedure.specs.declared.header.Line.{Line}
-use Rattle.procedure.specs.declared.header.Line.TheVariants as L
+use Rattle.descriptor.specs.declared.address.CodeAddress.{CodeAddress}
 use Rattle.procedure.specs.Headers.{code_start, code_end, line_of}
 use Rattle.procedure.specs.Directory.{in_directory}
 use Rattle.instruction.specs.declared.Address.{Address}
@@ -126,17 +126,17 @@ module _ {f : Running} {seen : Seen} {i : Instruction} {next : ℕ} (P : List Ef
       goes P T (values.truth_of_value a) _ (by-table (values.truth_of_value a) (truth-listed a)) (λ b e.
       either P T (cond wanted b (not b)) _ _ (λ t. jump-has place (discards 1 ∷ []) (k.dropped c)) (λ t. k.dropped c onward))))
 
-  line-has : 1 ≤ seen.count → (line : Line) → Has (control.line_or_leave seen (header_of f) line)
-  line-has c (L.At place) = jump-has place.0 (discards 1 ∷ []) (k.dropped c)
-  line-has c L.Absent = leaving-has (seen.count - 1) (discards 1 ∷ []) (k.left_dropping c)
+  line-has : 1 ≤ seen.count → (line : Option CodeAddress) → Has (control.line_or_leave seen (header_of f) line)
+  line-has c (Some place) = jump-has place.0 (discards 1 ∷ []) (k.dropped c)
+  line-has c None = leaving-has (seen.count - 1) (discards 1 ∷ []) (k.left_dropping c)
 
-  branch_to-has : 1 ≤ seen.count → (line : ℕ → Line) (n : Whole) → Has (control.branch_to seen (header_of f) line n)
+  branch_to-has : 1 ≤ seen.count → (line : ℕ → Option CodeAddress) (n : Whole) → Has (control.branch_to seen (header_of f) line n)
   unfolding listed
   branch_to-has c line (W.Number negative n) = line-has c (line (control.line_number negative n))
   branch_to-has c line W.Fraction = k.stopped _ _ refl
   branch_to-has c line W.Character = k.stopped _ _ refl
 
-  branch-has : (line : ℕ → Line) → Has (control.branch seen (header_of f) line next)
+  branch-has : (line : ℕ → Option CodeAddress) → Has (control.branch seen (header_of f) line next)
   unfolding control.branch listed
   branch-has line =
       counts 1 _ (λ c.

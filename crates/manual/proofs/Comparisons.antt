@@ -1,4 +1,5 @@
 -- The theorem of specs/Comparisons, down the lists of traps that a scalar instruction of two operands goes through.
+use Rattle.std.proofs.Common.{Ok}
 use Prim.Native.Nat.{ℕ}
 use mathlib.Core.Path.{◌≡◌, refl}
 use mathlib.Core.Bool.{Bool, true, false, cond, ◌&&◌, ◌||◌}
@@ -8,7 +9,6 @@ use Rattle.descriptor.specs.Fields.{is_character}
 use Rattle.descriptor.specs.Kinds.{bit}
 use Rattle.operator.specs.declared.Dyadic.{Dyadic}
 use Rattle.operator.specs.declared.Dyadic.TheVariants as D
-use Rattle.scalar.specs.declared.Answer.TheVariants.{Word}
 use Rattle.scalar.specs.Value.{character_code}
 use Rattle.scalar.specs.Order.{is_below, is_equal}
 use Rattle.scalar.specs.Results.{type_error}
@@ -45,7 +45,7 @@ less-only : (x y : ℕ) → Only less_traps (answered (less x y))
 unfolding less
 less-only x y = go (is_character x || is_character y) (bit (is_below x y))
   where
-    go : (t : Bool) (w : ℕ) → Only less_traps (answered (cond t type_error (Word w)))
+    go : (t : Bool) (w : ℕ) → Only less_traps (answered (cond t type_error (Ok w)))
     go true w = refl
     go false w = tt
 
@@ -53,7 +53,7 @@ equal-only : (x y : ℕ) → Only equal_traps (answered (equal x y))
 unfolding equal
 equal-only x y = go (is_character x) (is_character y) (bit (is_character y && eqb (character_code x) (character_code y))) (bit (is_equal x y))
   where
-    go : (t u : Bool) (v w : ℕ) → Only equal_traps (answered (cond t (Word v) (cond u (Word 0) (Word w))))
+    go : (t u : Bool) (v w : ℕ) → Only equal_traps (answered (cond t (Ok v) (cond u (Ok 0) (Ok w))))
     go true u v w = tt
     go false true v w = tt
     go false false v w = tt

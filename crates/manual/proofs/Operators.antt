@@ -1,4 +1,5 @@
 -- The traps of the scalar operators are in the table.
+use Rattle.std.proofs.Common.{Ok}
 use Prim.Native.Nat.{ℕ, ◌-◌, ◌*◌, ◌/◌, ◌^◌}
 use mathlib.Core.Path.{refl}
 use mathlib.Core.Bool.{Bool, true, false, cond, ◌&&◌, ◌||◌}
@@ -14,10 +15,8 @@ use Rattle.scalar.specs.declared.Whole.{Whole}
 use Rattle.scalar.specs.declared.Whole.TheVariants as W
 use Rattle.scalar.specs.declared.Truth.{Truth}
 use Rattle.scalar.specs.declared.Truth.TheVariants as T
-use Rattle.scalar.specs.declared.Answer.{Answer}
-use Rattle.scalar.specs.declared.Answer.TheVariants.{Word}
+use Rattle.scalar.specs.Results.{Answer, integer, float, rounded, result}
 use Rattle.scalar.specs.Value.{one, units, one_float}
-use Rattle.scalar.specs.Results.{integer, float, rounded, result}
 use Rattle.scalar.specs.Reading.{whole_of, truth_of}
 use Rattle.scalar.specs.Operators.{number, numbers, identity, with_sign, negative, ones, whole_near, floor, ceiling, magnitude_of, not_truth, not_of, test_number, converted, convert, sum_sign, sum_size, plus, sum, minus, difference, product_sign, times, product, ratio_of, quotient, logical, logical_product, logical_sum, less, equal, monadic_of, dyadic_of}
 use Rattle.manual.specs.Values.{answered}
@@ -76,7 +75,7 @@ converted-listed a (W.Number false n) = chosen (ltb n (2 ^ 8)) _ _ tt refl
 
 pub monadic-answers : (op : Monadic) (a : ℕ) → Answers (monadic_of op a)
 unfolding identity negative floor ceiling magnitude_of not_of test_number convert
-monadic-answers M.Identity a = number-listed a (Word a) tt
+monadic-answers M.Identity a = number-listed a (Ok a) tt
 monadic-answers M.Negative a = number-listed a (with_sign (1 - sign a) a) tt
 monadic-answers M.Floor a = number-listed a (whole_near (sign a) a) (near-listed (sign a) a)
 monadic-answers M.Ceiling a = number-listed a (whole_near (1 - sign a) a) (near-listed (1 - sign a) a)

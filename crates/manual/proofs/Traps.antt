@@ -8,13 +8,14 @@ use native.Mathlib.Omega.{arith}
 use lib.Dec.{ltb, eqb}
 use lib.ListN.{length}
 use borrow.Author.Tests.{ltb-true, eqb-true}
+use Rattle.std.proofs.Common.{Result, Ok, Err}
+use Rattle.trap.specs.declared.Trap.{Trap}
 use Rattle.segment.specs.Cells.{Cell, undefined}
 use Rattle.segment.specs.Machine.{Machine, depth_of_frames}
 use Rattle.instruction.specs.declared.Address.{Address}
 use Rattle.instruction.specs.declared.Address.TheVariants as A
 use Rattle.instruction.specs.declared.Instruction.{Instruction}
 use Rattle.instruction.specs.declared.Decoded.{Decoded}
-use Rattle.instruction.specs.declared.Decoded.TheVariants as D
 use Rattle.instruction.specs.Decoding.{instruction_at}
 use Rattle.manual.specs.Values.{any}
 use Rattle.manual.specs.Effects.{look, Plan}
@@ -54,9 +55,9 @@ plan-listed f seen h i next =
       entered = λ arguments alternate number e c. tt;
     })
 
-decoded-listed : (f : Running) (seen : Seen) → Addressed seen → (d : Decoded) → Decodes (λ w. Unit {0}) d → Listed (plan_decoded f seen d)
-decoded-listed f seen h (D.Instruction i next) l = plan-listed f seen h (under_table f.program.table i) next.0
-decoded-listed f seen h (D.Trap class number) l = l
+decoded-listed : (f : Running) (seen : Seen) → Addressed seen → (d : Result Decoded Trap) → Decodes (λ w. Unit {0}) d → Listed (plan_decoded f seen d)
+decoded-listed f seen h (Ok d) l = plan-listed f seen h (under_table f.program.table d.instruction) d.next.0
+decoded-listed f seen h (Err t) l = l
 
 place-listed : (f : Running) (seen : Seen) → Addressed seen → (place : ℕ) → Listed (plan_at f seen place)
 unfolding plan_at

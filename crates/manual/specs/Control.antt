@@ -1,12 +1,11 @@
 -- BRANCH, GO, GO_TRUE, GO_FALSE, RETURN, CALL, BREAKPOINT and ATTENTION, as the manual has them with document 01's "Meanings
 -- fixed here" and decisions 20, 21 and 32. Assumes nothing.
-use Rattle.std.specs.Prelude.{ℕ, ◌+◌, ◌-◌, ◌*◌, ◌^◌, Bool, cond, not, ◌&&◌, ◌||◌, List, [], ◌∷◌, ◌++◌, ltb, leb, eqb}
+use Rattle.std.specs.Prelude.{ℕ, ◌+◌, ◌-◌, ◌*◌, ◌^◌, Bool, cond, not, ◌&&◌, ◌||◌, List, [], ◌∷◌, ◌++◌, ltb, leb, eqb, Option, Some, None}
 use Rattle.scalar.specs.declared.Whole.{Whole}
 use Rattle.scalar.specs.declared.Whole.TheVariants as W
 use Rattle.scalar.specs.Reading.{whole_of}
 use Rattle.procedure.specs.declared.header.Header.{Header}
-use Rattle.procedure.specs.declared.header.Line.{Line}
-use Rattle.procedure.specs.declared.header.Line.TheVariants as L
+use Rattle.descriptor.specs.declared.address.CodeAddress.{CodeAddress}
 use Rattle.procedure.specs.Headers.{code_start, code_end}
 use Rattle.manual.specs.OrTrap.{gives, trap, and_then, stop_if}
 use Rattle.manual.specs.Values as values
@@ -44,20 +43,20 @@ return seen h = leaving seen h seen.count []
 
 -- BRANCH 1 to NLINES takes that line entry; any other whole number leaves the function, (3,12) being judged without BRANCH's
 -- operand, which is dropped first of all.
-abbrev pub line_or_leave : Seen → Header → Line → Plan
-line_or_leave seen h (L.At place) = jump_to h place.0 (discards 1 ∷ [])
-line_or_leave seen h L.Absent = leaving seen h (seen.count - 1) (discards 1 ∷ [])
+abbrev pub line_or_leave : Seen → Header → Option CodeAddress → Plan
+line_or_leave seen h (Some place) = jump_to h place.0 (discards 1 ∷ [])
+line_or_leave seen h None = leaving seen h (seen.count - 1) (discards 1 ∷ [])
 
 abbrev pub line_number : Bool → ℕ → ℕ
 line_number negative n = cond negative 0 n
 
-abbrev pub branch_to : Seen → Header → (ℕ → Line) → Whole → Plan
+abbrev pub branch_to : Seen → Header → (ℕ → Option CodeAddress) → Whole → Plan
 branch_to seen h line (W.Number negative n) = line_or_leave seen h (line (line_number negative n))
 branch_to seen h line W.Fraction = trap 8 5
 branch_to seen h line W.Character = trap 7 0
 
 -- An empty vector only drops the operand.
-unfoldable pub branch : Seen → Header → (ℕ → Line) → ℕ → Plan
+unfoldable pub branch : Seen → Header → (ℕ → Option CodeAddress) → ℕ → Plan
 branch seen h line next =
     stop_if (ltb seen.count 1) 3 4
     (and_then (value_of (seen.operand 0)) (λ v.

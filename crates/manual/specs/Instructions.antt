@@ -1,6 +1,6 @@
 -- The plan of every instruction: the manual's table of contents. A plan is told by what is seen and by the code alone.
 -- A reader must believe: each instruction has its section's meaning. Assumes nothing.
-use Rattle.std.specs.Prelude.{ℕ, zero, suc, ◌+◌, ◌%◌, ◌^◌, Bool, true, false, not, List, [], ◌∷◌}
+use Rattle.std.specs.Prelude.{ℕ, zero, suc, ◌+◌, ◌%◌, ◌^◌, Bool, true, false, not, List, [], ◌∷◌, Result, Ok, Err}
 use Rattle.descriptor.specs.Fields.{integer_word}
 use Rattle.descriptor.specs.Kinds.{bit}
 use Rattle.operator.specs.declared.Operator.{Operator}
@@ -24,8 +24,8 @@ use Rattle.instruction.specs.declared.Jump.{Jump}
 use Rattle.instruction.specs.declared.Jump.TheVariants as J
 use Rattle.instruction.specs.declared.Instruction.{Instruction}
 use Rattle.instruction.specs.declared.Instruction.TheVariants as I
+use Rattle.trap.specs.declared.Trap.{Trap}
 use Rattle.instruction.specs.declared.Decoded.{Decoded}
-use Rattle.instruction.specs.declared.Decoded.TheVariants as D
 use Rattle.instruction.specs.Decoding.{instruction_at}
 use Rattle.manual.specs.OrTrap.{OrTrap, trap, stop_if}
 use Rattle.manual.specs.Effects.{Plan}
@@ -123,9 +123,9 @@ plan_of f seen (I.Call arguments alternate number) next = call_plan f seen next 
 plan_of f seen (I.Index rank) next = scalars.index seen next (rank % 2 ^ 4)
 
 -- What is decoded at a place, planned by what it is under the table that is lent. A fetch trap comes first.
-abbrev pub plan_decoded : Running → Seen → Decoded → Plan
-plan_decoded f seen (D.Instruction i next) = plan_of f seen (under_table f.program.table i) next.0
-plan_decoded f seen (D.Trap class number) = trap class number
+abbrev pub plan_decoded : Running → Seen → Result Decoded Trap → Plan
+plan_decoded f seen (Ok d) = plan_of f seen (under_table f.program.table d.instruction) d.next.0
+plan_decoded f seen (Err t) = trap t.class t.number
 
 unfoldable pub plan_at : Running → Seen → ℕ → Plan
 plan_at f seen place = plan_decoded f seen (instruction_at (code_in f) place)

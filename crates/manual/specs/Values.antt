@@ -2,12 +2,11 @@
 -- manual has them and document 01 fixes them under "Meanings fixed here". A value is its shape, the lengths as numbers, and its
 -- ravel, the elements' words. Missing operands (3,4), operands of a wrong kind (3,5) and storage (1,2) are not said here.
 -- A reader must believe: this is what the planners' functions mean. Assumes nothing.
-use Rattle.std.specs.Prelude.{ℕ, zero, suc, ◌+◌, ◌-◌, ◌*◌, ◌^◌, Bool, true, false, cond, not, ◌&&◌, ◌||◌, List, [], ◌∷◌, ◌++◌, map, ltb, leb, eqb, length, get_or, take, replicate}
+use Rattle.std.specs.Prelude.{ℕ, zero, suc, ◌+◌, ◌-◌, ◌*◌, ◌^◌, Bool, true, false, cond, not, ◌&&◌, ◌||◌, List, [], ◌∷◌, ◌++◌, map, ltb, leb, eqb, length, get_or, take, replicate, Ok, Err}
 use Rattle.descriptor.specs.Fields.{is_character}
 use Rattle.operator.specs.declared.Monadic.{Monadic}
 use Rattle.operator.specs.declared.Dyadic.{Dyadic}
-use Rattle.scalar.specs.declared.Answer.{Answer}
-use Rattle.scalar.specs.declared.Answer.TheVariants as A
+use Rattle.scalar.specs.Results.{Answer}
 use Rattle.scalar.specs.declared.Whole.{Whole}
 use Rattle.scalar.specs.declared.Whole.TheVariants as W
 use Rattle.scalar.specs.declared.Truth.{Truth}
@@ -56,8 +55,8 @@ any test (x ∷ xs) = test x || any test xs
 -- ---- GENSCALAR
 
 abbrev pub answered : Answer → OrTrap ℕ
-answered (A.Word w) = gives w
-answered (A.Trap class number) = trap class number
+answered (Ok w) = gives w
+answered (Err t) = trap t.class t.number
 
 -- The results of the elements in ravel order; the first trap wins.
 abbrev pub collect : List (OrTrap ℕ) → OrTrap (List ℕ)

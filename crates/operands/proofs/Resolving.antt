@@ -1,6 +1,6 @@
 -- Resolving on words is the manual's on what is seen.
 use Prim.Native.Nat.{ℕ, ◌-◌, ◌≤◌, ◌<◌}
-use mathlib.Core.Path.{◌≡◌, refl}
+use mathlib.Core.Path.{◌≡◌, refl, ◌∙◌}
 use mathlib.Core.Bool.{Bool, true, false, cond, ◌||◌}
 use mathlib.Core.List.{List}
 use lib.Dec.{ltb, leb}
@@ -22,9 +22,12 @@ use Rattle.manual.specs.Seen as manual
 use Rattle.manual.specs.Instructions.{resolve}
 use Rattle.effects.specs.Sources.{held_at}
 use Rattle.effects.specs.Seen.{whole, read_kind, read, seen}
-use Rattle.operands.specs.declared.variables.Resolved.{Resolved}
-use Rattle.operands.specs.declared.variables.Resolved.TheVariants.{Trap}
-use Rattle.operands.specs.Variables.{resolved_target_by, resolved_target, resolved_variable_by, resolved_variable, resolved_local, resolved_global, resolved, variable_seen, Sure}
+use Rattle.std.specs.Prelude.{◌⊎◌, Result, Ok, Err}
+use Rattle.std.proofs.Common.{inl, inr}
+use Rattle.trap.specs.Trap.{trap_of}
+use Rattle.trap.specs.declared.Trap.{Trap}
+use Rattle.operands.specs.declared.variables.Variable.{Variable}
+use Rattle.operands.specs.Variables.{variable, resolved_target_by, resolved_target, resolved_variable_by, resolved_variable, resolved_local, resolved_global, resolved, variable_seen, Sure}
 
 -- An array that cannot be read is the end of the way too.
 array-followed : (t : Target) (shape ravel : List ℕ) (b : Bool) → gives (manual.at t (cond b (value shape ravel) invalid)) ≡ manual.followed t (cond b (value shape ravel) invalid)
@@ -63,7 +66,7 @@ module _ (s : List ℕ) where
   unfolding resolved_variable read
   variable-seen t = variable-by t (held_at s t) (kind_of (held_at s t)) refl
 
-  judged : (class number : ℕ) (a b : Bool) (t : Target) → variable_seen s (cond a (Trap class number) (cond b (Trap class number) (resolved_variable s t))) ≡ stop_if (a || b) class number (manual.follow held t (held t))
+  judged : (class number : ℕ) (a b : Bool) (t : Target) → variable_seen s (cond a (Err (trap_of class number)) (cond b (Err (trap_of class number)) (resolved_variable s t))) ≡ stop_if (a || b) class number (manual.follow held t (held t))
   judged class number true b t = refl
   judged class number false true t = refl
   judged class number false false t = variable-seen t
@@ -74,25 +77,42 @@ module _ (s : List ℕ) where
   resolved-seen variables h (A.Global g) e = judged 3 3 (ltb g.0 8) (leb (blockptr s) g.0) (Global (segment g.0))
 
   -- By the ways of the code.
-  pub local-below : (variables v : ℕ) → v < 1 → resolved_local s variables v ≡ Trap 3 2
-  unfolding resolved_local
-  local-below variables v low = simp (lt-ltb _ _ low)
+  direct-target : (t : Target) (w : ℕ) (k : Kind) → ((u : Target) → k ≡ K.Indirect u → ⊥) → Ok (variable t w) ≡ resolved_target_by t w k
+  direct-target t w (K.Indirect u) other = absurd (other u refl)
+  direct-target t w (K.Scalar k) other = refl
+  direct-target t w (K.Array a) other = refl
+  direct-target t w K.Undefined other = refl
+  direct-target t w K.Invalid other = refl
 
-  pub local-above : (variables v : ℕ) → 1 ≤ v → variables < v → resolved_local s variables v ≡ Trap 3 2
+  direct-variable : (t : Target) (w : ℕ) (k : Kind) → ((u : Target) → k ≡ K.Indirect u → ⊥) → Ok (variable t w) ≡ resolved_variable_by s t w k
+  direct-variable t w (K.Indirect u) other = absurd (other u refl)
+  direct-variable t w (K.Scalar k) other = refl
+  direct-variable t w (K.Array a) other = refl
+  direct-variable t w K.Undefined other = refl
+  direct-variable t w K.Invalid other = refl
+
+  module _ (t : Target) (w : ℕ) (k : Kind) (here : w ≡ held_at s t) (kind : k ≡ kind_of w) (other : (u : Target) → k ≡ K.Indirect u → ⊥) where
+    pub target_direct : Ok (variable t w) ≡ resolved_target s t
+    unfolding resolved_target
+    target_direct = direct-target t w k other ∙ rw (kind, here)
+
+    pub variable_direct : Ok (variable t w) ≡ resolved_variable s t
+    unfolding resolved_variable
+    variable_direct = direct-variable t w k other ∙ rw (kind, here)
+
+  pub local-outside : (variables v : ℕ) → (v < 1) ⊎ ((1 ≤ v) × (variables < v)) → Err (trap_of 3 2) ≡ resolved_local s variables v
   unfolding resolved_local
-  local-above variables v some past = simp (le-ltb _ _ some, lt-ltb _ _ past)
+  local-outside variables v (inl low) = simp (lt-ltb _ _ low)
+  local-outside variables v (inr past) = simp (le-ltb _ _ past.0, lt-ltb _ _ past.1)
 
   pub local-inside : (variables v : ℕ) (at : StackAddress) → at.0 ≡ lbase s - v → 1 ≤ v → v ≤ variables → resolved_variable s (Local at) ≡ resolved_local s variables v
   unfolding resolved_local
   local-inside variables v at e some inside = rw (le-ltb v 1 some, le-ltb variables v inside, ← e)
 
-  pub global-below : (g : ℕ) → g < 8 → resolved_global s g ≡ Trap 3 3
+  pub global-outside : (g : ℕ) → (g < 8) ⊎ ((8 ≤ g) × (blockptr s ≤ g)) → Err (trap_of 3 3) ≡ resolved_global s g
   unfolding resolved_global
-  global-below g low = simp (lt-ltb _ _ low)
-
-  pub global-above : (g : ℕ) → 8 ≤ g → blockptr s ≤ g → resolved_global s g ≡ Trap 3 3
-  unfolding resolved_global
-  global-above g some past = simp (le-ltb _ _ some, le-leb _ _ past)
+  global-outside g (inl low) = simp (lt-ltb _ _ low)
+  global-outside g (inr past) = simp (le-ltb _ _ past.0, le-leb _ _ past.1)
 
   pub global-inside : (g : ℕ) → 8 ≤ g → g < blockptr s → resolved_global s g ≡ resolved_variable s (Global (segment g))
   unfolding resolved_global
@@ -121,7 +141,7 @@ module _ (s : List ℕ) where
       by_kind K.Undefined = refl
       by_kind K.Invalid = refl
 
-  trapped-or : (class number : ℕ) (a b : Bool) (t : Target) → Sure s (cond a (Trap class number) (cond b (Trap class number) (resolved_variable s t)))
+  trapped-or : (class number : ℕ) (a b : Bool) (t : Target) → Sure s (cond a (Err (trap_of class number)) (cond b (Err (trap_of class number)) (resolved_variable s t)))
   trapped-or class number true b t = tt
   trapped-or class number false true t = tt
   trapped-or class number false false t = variable-sure t
@@ -131,5 +151,5 @@ module _ (s : List ℕ) where
   resolved-sure variables (A.Local v) = trapped-or 3 2 (ltb v 1) (ltb variables v) (Local (stack (lbase s - v)))
   resolved-sure variables (A.Global g) = trapped-or 3 3 (ltb g.0 8) (leb (blockptr s) g.0) (Global (segment g.0))
 
-  pub sure : (variables : ℕ) (address : Address) (r : Resolved) → r ≡ resolved s variables address → Sure s r
+  pub sure : (variables : ℕ) (address : Address) (r : Result Variable Trap) → r ≡ resolved s variables address → Sure s r
   sure variables address r e = rw e (resolved-sure variables address)

@@ -19,8 +19,8 @@ use Rattle.manual.specs.Scalars.{operands, is_scalar_cell, any_cell, cell_word, 
 use Rattle.effects.specs.Sources.{operand_at}
 use Rattle.effects.specs.Seen.{whole, read_kind, read, temporaries, seen}
 use Rattle.operands.specs.declared.reading.Value.TheVariants as values
-use Rattle.operands.specs.declared.reading.Operand.{Operand}
-use Rattle.operands.specs.declared.reading.Operand.TheVariants as operand
+use Rattle.operands.specs.declared.reading.Value.{Value}
+use Rattle.std.specs.Prelude.{Option, Some, None, is_some}
 use Rattle.operands.specs.Operands.{operand_of_kind, operand_of, is_undefined_kind, is_undefined_word}
 use Rattle.operands.specs.Taken.{is_foreign_to, scalars_of, taken_of}
 use Rattle.operands.proofs.Whole.{whole-facts}
@@ -28,11 +28,17 @@ use Rattle.operands.proofs.Seen.{operand-seen}
 
 -- ---- one operand
 
-abbrev is_other : Operand → Bool
-is_other (operand.Value v) = false
-is_other operand.Other = true
+abbrev is_other : Option Value → Bool
+is_other (Some v) = false
+is_other None = true
 
-array-foreign : (strict b : Bool) (shape ravel : List ℕ) (a : SegmentAddress) → is_foreign_to strict (cond b (value shape ravel) invalid) ≡ is_other (cond b (operand.Value (values.Array a)) operand.Other)
+pub other-none : (o : Option Value) (b : Bool) → is_some o ≡ not b → b ≡ is_other o
+other-none (Some v) true e = cc
+other-none (Some v) false e = refl
+other-none None true e = refl
+other-none None false e = cc
+
+array-foreign : (strict b : Bool) (shape ravel : List ℕ) (a : SegmentAddress) → is_foreign_to strict (cond b (value shape ravel) invalid) ≡ is_other (cond b (Some (values.Array a)) None)
 array-foreign true true shape ravel a = refl
 array-foreign true false shape ravel a = refl
 array-foreign false true shape ravel a = refl
@@ -57,7 +63,7 @@ module _ (s : List ℕ) (w : ℕ) where
   pub undefined-foreign : (strict : Bool) → is_undefined_word w ≡ true → is_foreign_to strict (read s w) ≡ strict
   undefined-foreign strict h = foreign-seen strict ∙ rw h
 
-  pub value-foreign : (strict : Bool) (o : Operand) → is_undefined_word w ≡ false → operand_of s w ≡ o → is_foreign_to strict (read s w) ≡ is_other o
+  pub value-foreign : (strict : Bool) (o : Option Value) → is_undefined_word w ≡ false → operand_of s w ≡ o → is_foreign_to strict (read s w) ≡ is_other o
   value-foreign strict o h e = foreign-seen strict ∙ rw (h, e)
 
   scalar-of-kind : (k : Kind) → is_scalar_cell (read_kind s w k) ≡ scalar_kind k

@@ -1,12 +1,11 @@
 -- Operands that must be scalars, as the manual's lists of INDEX and ASSIGN_INDEXED judge them: all are looked at for (3,5) before
 -- any for (5,0). Assumes nothing.
-use Rattle.std.specs.Prelude.{ℕ, Bool, true, false, not, List}
+use Rattle.std.specs.Prelude.{ℕ, Bool, true, false, not, List, Result, Ok, Err}
 use Rattle.segment.specs.Cells.{Cell}
 use Rattle.manual.specs.OrTrap.{OrTrap, gives, trap, stop_if}
 use Rattle.manual.specs.Scalars.{is_foreign, is_scalar_cell, any_cell, scalar_words}
 use Rattle.manual.specs.Memory.{has_no_value}
-use Rattle.operands.specs.declared.taken.Taken.{Taken}
-use Rattle.operands.specs.declared.taken.Taken.TheVariants.{Words, Foreign, NoScalar}
+use Rattle.trap.specs.declared.Trap.{Trap}
 
 -- Undefined is foreign to ASSIGN_INDEXED, and no scalar to INDEX.
 abbrev pub is_foreign_to : Bool → Cell → Bool
@@ -20,7 +19,6 @@ unfoldable pub taken_of : Bool → List Cell → OrTrap (List ℕ)
 taken_of strict cells = stop_if (any_cell (is_foreign_to strict) cells) 3 5 (scalars_of cells)
 
 -- The code's answer, with the words that it wrote.
-abbrev pub taken : Taken → List ℕ → OrTrap (List ℕ)
-taken Words words = gives words
-taken Foreign words = trap 3 5
-taken NoScalar words = trap 5 0
+abbrev pub taken : Result Unit Trap → List ℕ → OrTrap (List ℕ)
+taken (Ok done) words = gives words
+taken (Err t) words = trap t.class t.number

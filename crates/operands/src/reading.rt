@@ -11,7 +11,7 @@ use descriptor::{Descriptor, Kind};
 use elements::shapes::product;
 use segment::blocks::{Part, elements, rank, shape, size_at};
 use segment::state::{lbase, ltop, sbase, top_cell};
-use segment::{minus, word};
+use segment::word;
 
 #[derive(Clone, Copy)]
 pub enum Value {
@@ -19,17 +19,10 @@ pub enum Value {
     Array(SegmentAddress),
 }
 
-// What an operand is: a value, or of no kind that an instruction takes.
-#[derive(Clone, Copy)]
-pub enum Operand {
-    Value(Value),
-    Other,
-}
-
 pub fn count(seg: &[u32]) -> u32
     ensures { result ≡ temporaries seg.now }
 {
-    minus(ltop(seg).number(), lbase(seg).number() + 1)
+    ltop(seg).number().saturating_sub(lbase(seg).number() + 1)
 }
 
 // How many words the stack can still take.
@@ -55,25 +48,21 @@ pub fn operand_at(seg: &[u32], i: u32) -> u32
     word(seg, 0)
 }
 
-pub fn value_of(seg: &[u32], w: u32) -> Operand
+// What an operand is: a value, or of no kind that an instruction takes.
+pub fn value_of(seg: &[u32], w: u32) -> Option<Value>
     ensures { result ≡ operand_of seg.now w }
 {
     match Descriptor::of(w).kind() {
-        Kind::Scalar(_) => Operand::Value(Value::Scalar(w)),
+        Kind::Scalar(_) => Some(Value::Scalar(w)),
         Kind::Array(block) => array_at(seg, block),
-        Kind::Indirect(_) => Operand::Other,
-        Kind::Undefined => Operand::Other,
-        Kind::Invalid => Operand::Other,
+        _ => None,
     }
 }
 
-fn array_at(seg: &[u32], block: SegmentAddress) -> Operand
-    ensures { result ≡ cond (whole seg.now block.0) (Operand.Value (Value.Array block)) Operand.Other }
+fn array_at(seg: &[u32], block: SegmentAddress) -> Option<Value>
+    ensures { result ≡ cond (whole seg.now block.0) (Some (Value.Array block)) None }
 {
-    if is_whole(seg, block) {
-        return Operand::Value(Value::Array(block));
-    }
-    Operand::Other
+    is_whole(seg, block).then_some(Value::Array(block))
 }
 
 // The block's SIZE is that of its rank and lengths, and it lies in the segment: its parts can be read.
@@ -116,7 +105,7 @@ pub fn elements_part(seg: &[u32], i: u32, v: Value) -> Part
 {
     match v {
         Value::Scalar(_) => Part {
-            start: SegmentAddress::of(minus(top_cell(seg).number(), i)),
+            start: SegmentAddress::of(top_cell(seg).number().saturating_sub(i)),
             count: 1,
         },
         Value::Array(block) => {
@@ -132,11 +121,5 @@ pub fn elements_part(seg: &[u32], i: u32, v: Value) -> Part
 pub fn is_undefined(w: u32) -> bool
     ensures { result ≡ is_undefined_word w }
 {
-    match Descriptor::of(w).kind() {
-        Kind::Undefined => true,
-        Kind::Scalar(_) => false,
-        Kind::Array(_) => false,
-        Kind::Indirect(_) => false,
-        Kind::Invalid => false,
-    }
+    matches!(Descriptor::of(w).kind(), Kind::Undefined)
 }

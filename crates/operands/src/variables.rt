@@ -9,13 +9,14 @@ use descriptor::{Descriptor, Kind, Target};
 use instruction::Address;
 use procedure::header::Header;
 use segment::state::{blockptr, lbase, sbase};
-use segment::{minus, word};
+use segment::word;
+use trap::Trap;
 
-// A variable and the word that it holds, or a trap.
+// A variable, and the word that it holds.
 #[derive(Clone, Copy)]
-pub enum Resolved {
-    At(Target, u32),
-    Trap(u8, u8),
+pub struct Variable {
+    pub target: Target,
+    pub held: u32,
 }
 
 // How many variables a function's frame has.
@@ -25,7 +26,7 @@ pub fn variables(h: Header) -> u32
     h.nargs as u32 + h.nlocals as u32
 }
 
-pub fn resolve(seg: &[u32], variables: u32, address: Address) -> Resolved
+pub fn resolve(seg: &[u32], variables: u32, address: Address) -> Result<Variable, Trap>
     ensures value { result ≡ meaning.resolved seg.now variables address }
     ensures sure { meaning.Sure seg.now result }
 {
@@ -35,57 +36,45 @@ pub fn resolve(seg: &[u32], variables: u32, address: Address) -> Resolved
     }
 }
 
-fn resolve_local(seg: &[u32], variables: u32, v: u32) -> Resolved
+fn resolve_local(seg: &[u32], variables: u32, v: u32) -> Result<Variable, Trap>
     ensures { result ≡ meaning.resolved_local seg.now variables v }
 {
-    if v < 1 {
-        return Resolved::Trap(3, 2);
-    }
-    if variables < v {
-        return Resolved::Trap(3, 2);
+    if v < 1 || variables < v {
+        return Err(Trap::STACK_ADDRESS);
     }
     follow(
         seg,
-        Target::Local(StackAddress::of(minus(lbase(seg).number(), v))),
+        Target::Local(StackAddress::of(lbase(seg).number().saturating_sub(v))),
     )
 }
 
-fn resolve_global(seg: &[u32], g: SegmentAddress) -> Resolved
+fn resolve_global(seg: &[u32], g: SegmentAddress) -> Result<Variable, Trap>
     ensures { result ≡ meaning.resolved_global seg.now g.0 }
 {
-    if g.number() < 8 {
-        return Resolved::Trap(3, 3);
-    }
-    if blockptr(seg).number() <= g.number() {
-        return Resolved::Trap(3, 3);
+    if g.number() < 8 || blockptr(seg) <= g {
+        return Err(Trap::GLOBAL_ADDRESS);
     }
     follow(seg, Target::Global(g))
 }
 
-fn follow(seg: &[u32], t: Target) -> Resolved
-    ensures { result ≡ meaning.resolved_variable seg.now t }
+fn follow(seg: &[u32], target: Target) -> Result<Variable, Trap>
+    ensures { result ≡ meaning.resolved_variable seg.now target }
 {
-    let w = held(seg, t);
-    match Descriptor::of(w).kind() {
-        Kind::Indirect(u) => end(seg, u),
-        Kind::Scalar(_) => Resolved::At(t, w),
-        Kind::Array(_) => Resolved::At(t, w),
-        Kind::Undefined => Resolved::At(t, w),
-        Kind::Invalid => Resolved::At(t, w),
+    let held = held(seg, target);
+    match Descriptor::of(held).kind() {
+        Kind::Indirect(named) => end(seg, named),
+        _ => Ok(Variable { target, held }),
     }
 }
 
 // The variable that an indirect word names: it may not be indirect again.
-fn end(seg: &[u32], t: Target) -> Resolved
-    ensures { result ≡ meaning.resolved_target seg.now t }
+fn end(seg: &[u32], target: Target) -> Result<Variable, Trap>
+    ensures { result ≡ meaning.resolved_target seg.now target }
 {
-    let w = held(seg, t);
-    match Descriptor::of(w).kind() {
-        Kind::Indirect(_) => Resolved::Trap(3, 6),
-        Kind::Scalar(_) => Resolved::At(t, w),
-        Kind::Array(_) => Resolved::At(t, w),
-        Kind::Undefined => Resolved::At(t, w),
-        Kind::Invalid => Resolved::At(t, w),
+    let held = held(seg, target);
+    match Descriptor::of(held).kind() {
+        Kind::Indirect(_) => Err(Trap::DOUBLE_INDIRECTION),
+        _ => Ok(Variable { target, held }),
     }
 }
 

@@ -12,7 +12,10 @@ use Rattle.operator.specs.Lent.{table_test}
 use Rattle.procedure.specs.Refusal.{procedure_refusal}
 use Rattle.acceptance.specs.Refusal.{length_test, data_refusal}
 use Rattle.manual.specs.Program.{Program}
+use Rattle.operations.specs.declared.Refusal.{Refusal}
+use Rattle.operations.specs.Answers.{number_of}
 use Rattle.operations.specs.Run.{run_refusal}
+use Rattle.operations.proofs.Answers.{nonzero}
 
 abbrev pub segments : List ℕ → List ℕ → List ℕ → ℕ
 segments s regular alternate = cond (length_test s) (procedure_refusal regular alternate) 10
@@ -42,8 +45,8 @@ module _ (s : List ℕ) (p : Program) where
   unfolding run_refusal
   by-segments = then-others (length_test s) (procedure_refusal p.regular p.alternate) others
 
-  pub lent-refused : (n : ℕ) → n ≡ lent → (n ≡ 0 → ⊥) → n ≡ run_refusal s p
-  lent-refused n same some = sym (by-segments ∙ simp (← same, ne_eqb n 0 some))
+  pub lent-refused : (refusal : Refusal) → number_of refusal ≡ lent → number_of refusal ≡ run_refusal s p
+  lent-refused refusal same = sym (by-segments ∙ simp (← same, ne_eqb (number_of refusal) 0 (nonzero refusal)))
 
   module _ (passed : 0 ≡ lent) where
     pub no_table : false ≡ table_test p.table → 26 ≡ run_refusal s p

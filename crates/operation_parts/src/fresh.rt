@@ -6,7 +6,6 @@ ghost use Rattle.manual.specs.Control.{frame_word};
 ghost use Rattle.fresh_segment.specs.LayOut as meaning;
 
 use descriptor::Descriptor;
-use elements::copies::fill;
 use segment::put;
 
 pub fn write_fresh(
@@ -25,7 +24,7 @@ pub fn write_fresh(
     let start = 8 + globals;
     let base = start + storage;
     let word = selector * 0x0800_0000 + function * 0x1_0000 + 8;
-    fill(0, seg);
+    seg.fill(0);
     write_head(seg, start, base, locals);
     undefine(seg, 8, globals);
     write_storage(seg, start, storage);
@@ -70,5 +69,5 @@ fn undefine(seg: &mut [u32], start: u32, n: u32)
 {
     let from = start as usize;
     let end = from + n as usize;
-    fill(Descriptor::UNDEFINED, &mut seg[from..end]);
+    seg[from..end].fill(Descriptor::UNDEFINED);
 }

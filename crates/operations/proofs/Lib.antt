@@ -1,4 +1,4 @@
--- Laws of the operations: a status is the number that refused; what a run's tests come to; a replay's counts are eight, its place lies in
+-- Laws of the operations: no test has the number 0; what a run's tests come to; a replay's counts are eight, its place lies in
 -- the file.
 pub mod Answers
 pub mod Tests

@@ -13,23 +13,25 @@ use Rattle.imports.specs.Records.{Record, FoundRecord, Records, ends, malformed,
 use Rattle.tally.specs.Counts.{none_counted}
 use Rattle.tally.proofs.Laws.{counted-length}
 use Rattle.manual.specs.Program.{Program}
+use Rattle.std.specs.Prelude.{Result, Ok, Err}
+use Rattle.trap.specs.declared.Trap.{Trap}
 use Rattle.effects.specs.declared.Stepped.{Stepped}
 use Rattle.effects.specs.declared.Stepped.TheVariants as stepped
 use Rattle.effects.specs.Step.{step_of}
 use Rattle.effects.specs.Tally.{tallying, tallied_from}
-use Rattle.operations.specs.declared.Replayed.TheVariants.{Halted}
-use Rattle.operations.specs.Answers.{replay_place}
+use Rattle.std.proofs.Common.{Err}
+use Rattle.operations.specs.Answers.{Halted, replay_place}
 use Rattle.operations.specs.Load.{load_refusal, loaded}
 use Rattle.operations.specs.Run.{run_refusal, ran}
 use Rattle.operations.specs.Replay.{Replay, replay, tallied, run_halt, replay_from, replayed}
 
 -- ---- counts
 
-tallying-length : (n : ℕ) (answer : Stepped) (counts more : List ℕ) (rest : List ℕ → List ℕ) → length counts ≡ n → length more ≡ n
+tallying-length : (n : ℕ) (answer : Result Stepped Trap) (counts more : List ℕ) (rest : List ℕ → List ℕ) → length counts ≡ n → length more ≡ n
     → ((l : List ℕ) → length l ≡ n → length (rest l) ≡ n) → length (tallying answer counts more rest) ≡ n
-tallying-length n stepped.Finished counts more rest c m r = r more m
-tallying-length n (stepped.Traced class number) counts more rest c m r = m
-tallying-length n (stepped.Trapped class number) counts more rest c m r = c
+tallying-length n (Ok stepped.Finished) counts more rest c m r = r more m
+tallying-length n (Ok (stepped.Traced trap)) counts more rest c m r = m
+tallying-length n (Err trap) counts more rest c m r = c
 
 tallied-from-length : (n budget : ℕ) (counts : List ℕ) (p : Program) (s : List ℕ) → length counts ≡ n → length (tallied_from budget counts p s) ≡ n
 unfolding tallied_from
@@ -81,7 +83,7 @@ record Kept (limit : ℕ) (r : Replay) : Type 0 where
 
 module _ (limit : ℕ) (some : 0 < limit) (p : Program) where
   after-record : (place number : ℕ) (b : Bool) (s counts : List ℕ) (rest : Replay) → place < limit → length counts ≡ 8 → Kept limit rest
-      → Kept limit (cond b rest (replay (Halted number place) s counts))
+      → Kept limit (cond b rest (replay (Err (Halted number place)) s counts))
   after-record place number true s counts rest low c k = k
   after-record place number false s counts rest low c k = record { eight = c; inside = low }
 

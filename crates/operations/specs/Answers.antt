@@ -1,51 +1,78 @@
--- The answers of the operations, by document 01's numbers. Assumes nothing.
-use Rattle.std.specs.Prelude.{ℕ, cond, eqb}
-use Rattle.operations.specs.declared.Answer.{Answer}
-use Rattle.operations.specs.declared.Answer.TheVariants as A
-use Rattle.operations.specs.declared.Run.{Run}
-use Rattle.operations.specs.declared.Run.TheVariants as R
-use Rattle.operations.specs.declared.Looked.{Looked}
-use Rattle.operations.specs.declared.Looked.TheVariants as L
-use Rattle.operations.specs.declared.Sheeted.{Sheeted}
-use Rattle.operations.specs.declared.Sheeted.TheVariants as S
-use Rattle.operations.specs.declared.Replayed.{Replayed}
-use Rattle.operations.specs.declared.Replayed.TheVariants as P
+-- The answers of the operations, by document 01's numbers: in these definitions an `Err` is the number of the test that refused.
+-- Assumes nothing.
+use Rattle.std.specs.Prelude.{ℕ, cond, eqb, Result, Ok, Err}
+use Rattle.acceptance.specs.Answer.{number_of_test}
+use Rattle.effects.specs.declared.Ran.{Ran}
+use Rattle.effects.specs.declared.Ran.TheVariants as R
+use Rattle.operations.specs.declared.Refusal.{Refusal}
+use Rattle.operations.specs.declared.Refusal.TheVariants as F
+use Rattle.operations.specs.declared.Halt.{Halt}
+use Rattle.operations.specs.declared.Halt.TheVariants as H
+
+-- The table's number for each test.
+abbrev pub number_of : Refusal → ℕ
+number_of (F.Test test) = number_of_test test
+number_of F.Parts = 19
+number_of F.Function = 20
+number_of F.Global = 21
+number_of F.Undefined = 22
+number_of F.Value = 23
+number_of F.Full = 24
+number_of F.Table = 26
+
+-- What the code answers, by the number of the test.
+abbrev pub numbered : {A : Type 0} → Result A Refusal → Result A ℕ
+numbered (Ok a) = Ok a
+numbered (Err refusal) = Err (number_of refusal)
+
+-- The number of the test that refused; 0 where none did.
+abbrev pub status_of : {A : Type 0} → Result A ℕ → ℕ
+status_of (Ok a) = 0
+status_of (Err number) = number
 
 -- Lay out and load: done, or refused by the number of a test.
-abbrev pub done_or_refused : ℕ → Answer
-done_or_refused number = cond (eqb number 0) A.Done (A.Refused number)
-
-abbrev pub status_of : Answer → ℕ
-status_of A.Done = 0
-status_of (A.Refused number) = number
+abbrev pub done_or_refused : ℕ → Result (Unit {0}) ℕ
+done_or_refused number = cond (eqb number 0) (Ok tt) (Err number)
 
 -- Run: 2 and 3 come with the number of finished instructions.
-abbrev pub run_status : Run → ℕ
-run_status (R.Done steps) = 2
-run_status (R.Trapped steps) = 3
-run_status (R.Refused number) = number
+abbrev pub run_status : Result Ran ℕ → ℕ
+run_status (Ok (R.Done steps)) = 2
+run_status (Ok (R.Trapped steps)) = 3
+run_status (Err number) = number
 
-abbrev pub steps_of : Run → ℕ
-steps_of (R.Done steps) = steps
-steps_of (R.Trapped steps) = steps
-steps_of (R.Refused number) = 0
+abbrev pub steps_of : Result Ran ℕ → ℕ
+steps_of (Ok (R.Done steps)) = steps
+steps_of (Ok (R.Trapped steps)) = steps
+steps_of (Err number) = 0
 
-abbrev pub look_status : Looked → ℕ
-look_status (L.Scalar w) = 0
-look_status (L.Array block) = 0
-look_status (L.Refused number) = number
+-- What halts a replay: the number that a record's load or run returned, 3 for a trap, and the place of its first byte; or the place
+-- of what is no record.
+pub data Stop : Type 0 where
+  Halted : ℕ → ℕ → Stop
+  Malformed : ℕ → Stop
 
-abbrev pub sheet_status : Sheeted → ℕ
-sheet_status (S.Summed sums) = 0
-sheet_status (S.Refused number) = number
+abbrev pub stop_of : Halt → Stop
+stop_of (H.Refused refusal place) = Halted (number_of refusal) place
+stop_of (H.Trapped place) = Halted 3 place
+stop_of (H.Malformed place) = Malformed place
+
+abbrev pub stopped : Result (Unit {0}) Halt → Result (Unit {0}) Stop
+stopped (Ok done) = Ok done
+stopped (Err halt) = Err (stop_of halt)
+
+abbrev pub stop_number : Stop → ℕ
+stop_number (Halted number place) = number
+stop_number (Malformed place) = 25
+
+abbrev pub stop_place : Stop → ℕ
+stop_place (Halted number place) = place
+stop_place (Malformed place) = place
 
 -- Replay: with every number but 0 stands the place of a record's first byte.
-abbrev pub replay_status : Replayed → ℕ
-replay_status P.Done = 0
-replay_status (P.Halted number place) = number
-replay_status (P.Malformed place) = 25
+abbrev pub replay_status : Result (Unit {0}) Stop → ℕ
+replay_status (Ok done) = 0
+replay_status (Err stop) = stop_number stop
 
-abbrev pub replay_place : Replayed → ℕ
-replay_place P.Done = 0
-replay_place (P.Halted number place) = place
-replay_place (P.Malformed place) = place
+abbrev pub replay_place : Result (Unit {0}) Stop → ℕ
+replay_place (Ok done) = 0
+replay_place (Err stop) = stop_place stop

@@ -2,16 +2,15 @@
 -- runs give one by one, and halts at the first trap or refusal with the number returned for it (3 for a trap); 0 says that every
 -- record was done"; 25 for what is no record, "the earlier records stand"; the tally "is zeroed first". Decision 83. Assumes
 -- nothing.
-use Rattle.std.specs.Prelude.{ℕ, cond, List, eqb, set}
+use Rattle.std.specs.Prelude.{ℕ, cond, List, eqb, set, Result, Ok, Err}
 use Rattle.imports.specs.Records as file
 use Rattle.imports.specs.Records.{Records, ends, malformed, entry, records_of}
 use Rattle.tally.specs.Counts.{none_counted}
 use Rattle.manual.specs.Program.{Program}
 use Rattle.effects.specs.Tally.{tallied_from}
-use Rattle.operations.specs.declared.Run.{Run}
-use Rattle.operations.specs.declared.Run.TheVariants as R
-use Rattle.operations.specs.declared.Replayed.{Replayed}
-use Rattle.operations.specs.declared.Replayed.TheVariants.{Done, Halted, Malformed}
+use Rattle.effects.specs.declared.Ran.{Ran}
+use Rattle.effects.specs.declared.Ran.TheVariants as R
+use Rattle.operations.specs.Answers.{Stop, Halted, Malformed}
 use Rattle.operations.specs.Run.{run_refusal, ran}
 use Rattle.operations.specs.Load.{load_refusal, loaded}
 
@@ -25,26 +24,26 @@ tallied s p budget counts = cond (eqb (run_refusal s p) 0) (tallied_from budget 
 
 -- What a replay answers, the segment after it, and the eight counts.
 pub record Replay : Type 0 where
-  pub answer : Replayed
+  pub answer : Result (Unit {0}) Stop
   pub words : List ℕ
   pub counts : List ℕ
 
-abbrev pub replay : Replayed → List ℕ → List ℕ → Replay
+abbrev pub replay : Result (Unit {0}) Stop → List ℕ → List ℕ → Replay
 replay answer s counts = record { answer = answer; words = s; counts = counts }
 
 -- "the number returned for it (3 for a trap)"; 0 where the run was done to its end.
-abbrev pub run_halt : Run → ℕ
-run_halt (R.Done steps) = 0
-run_halt (R.Trapped steps) = 3
-run_halt (R.Refused number) = number
+abbrev pub run_halt : Result Ran ℕ → ℕ
+run_halt (Ok (R.Done steps)) = 0
+run_halt (Ok (R.Trapped steps)) = 3
+run_halt (Err number) = number
 
 -- A record that returned a number halts the replay; else it goes on.
 abbrev pub after_record : ℕ → ℕ → List ℕ → List ℕ → Replay → Replay
-after_record place number s counts rest = cond (eqb number 0) rest (replay (Halted number place) s counts)
+after_record place number s counts rest = cond (eqb number 0) rest (replay (Err (Halted number place)) s counts)
 
 unfoldable pub replay_from : Program → Records → List ℕ → List ℕ → Replay
-replay_from p ends s counts = replay Done s counts
-replay_from p (malformed place) s counts = replay (Malformed place) s counts
+replay_from p ends s counts = replay (Ok tt) s counts
+replay_from p (malformed place) s counts = replay (Err (Malformed place)) s counts
 replay_from p (entry place (file.load g lengths ravel) rest) s counts =
     let t = loaded s p.regular p.alternate g lengths ravel in
     let more = replay_from p rest t counts in

@@ -1,29 +1,22 @@
 -- Run. Document 01's table: 10–18, and 26 of document 02, paper 5, "tested after 12"; then 2 and the steps where the number asked was
 -- done, 3 and the steps at a trap. Assumes nothing.
-use Rattle.std.specs.Prelude.{ℕ, cond, List, eqb}
+use Rattle.std.specs.Prelude.{ℕ, cond, List, eqb, Result, Ok, Err}
 use Rattle.operator.specs.Lent.{table_test}
 use Rattle.procedure.specs.Refusal.{procedure_refusal}
 use Rattle.acceptance.specs.Refusal.{length_test, data_refusal}
 use Rattle.manual.specs.Program.{Program}
 use Rattle.effects.specs.declared.Ran.{Ran}
-use Rattle.effects.specs.declared.Ran.TheVariants as machine
 use Rattle.effects.specs.Run.{RunResult, run_of}
-use Rattle.operations.specs.declared.Run.{Run}
-use Rattle.operations.specs.declared.Run.TheVariants.{Done, Trapped, Refused}
 
 pub record Ended : Type 0 where
-  pub answer : Run
+  pub answer : Result Ran ℕ
   pub words : List ℕ
 
-abbrev pub ended : Run → List ℕ → Ended
+abbrev pub ended : Result Ran ℕ → List ℕ → Ended
 ended answer s = record { answer = answer; words = s }
 
-abbrev pub accepted_run : Ran → Run
-accepted_run (machine.Done steps) = Done steps
-accepted_run (machine.Trapped steps) = Trapped steps
-
 abbrev pub accepted_end : RunResult → Ended
-accepted_end o = ended (accepted_run o.answer) o.words
+accepted_end o = ended (Ok o.answer) o.words
 
 unfoldable pub run_refusal : List ℕ → Program → ℕ
 run_refusal s p =
@@ -34,4 +27,4 @@ run_refusal s p =
     10
 
 unfoldable pub ran : List ℕ → Program → ℕ → Ended
-ran s p budget = cond (eqb (run_refusal s p) 0) (accepted_end (run_of p s budget)) (ended (Refused (run_refusal s p)) s)
+ran s p budget = cond (eqb (run_refusal s p) 0) (accepted_end (run_of p s budget)) (ended (Err (run_refusal s p)) s)

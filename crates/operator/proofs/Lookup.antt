@@ -1,4 +1,4 @@
--- A number past all those of a table finds nothing in it; of eight numbers in a row, one that is none of the first seven is the last.
+-- A number past all those of a table finds nothing in it.
 use Prim.Native.Nat.{ℕ, ◌+◌, ◌<◌, ◌≤◌}
 use mathlib.Core.Path.{◌≡◌, refl}
 use mathlib.Core.Bool.{Bool, true, false, ◌&&◌, false≢true}
@@ -24,9 +24,3 @@ module _ {A : Type 0} (k bound : ℕ) (past : bound ≤ k) (none : A) where
   pub past-table : (table : List (ℕ × A)) → all_below bound table ≡ true → lookup k table none ≡ none
   past-table [] below = refl
   past-table (entry ∷ table) below = past-entry entry table (ltb entry.0 bound) refl below (past-table table)
-
-next : (n k : ℕ) → k ≤ n → (n ≡ k → ⊥) → k + 1 ≤ n
-next n k h other = omega (arith, other)
-
-pub last-of-eight : (n k : ℕ) → k ≤ n → n < k + 8 → (n ≡ k → ⊥) → (n ≡ k + 1 → ⊥) → (n ≡ k + 1 + 1 → ⊥) → (n ≡ k + 1 + 1 + 1 → ⊥) → (n ≡ k + 1 + 1 + 1 + 1 → ⊥) → (n ≡ k + 1 + 1 + 1 + 1 + 1 → ⊥) → (n ≡ k + 1 + 1 + 1 + 1 + 1 + 1 → ⊥) → n ≡ k + 7
-last-of-eight n k h below a b c d e f g = let past = next n (k + 1 + 1 + 1 + 1 + 1 + 1) (next n (k + 1 + 1 + 1 + 1 + 1) (next n (k + 1 + 1 + 1 + 1) (next n (k + 1 + 1 + 1) (next n (k + 1 + 1) (next n (k + 1) (next n k h a) b) c) d) e) f) g in omega (arith, below, past)

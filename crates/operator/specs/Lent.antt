@@ -1,9 +1,7 @@
 -- A table that is lent in place of the manual's: one operator for each suboperation of GENSCALAR in order, by its place in the
 -- manual's table from 0. Document 02, paper 5. A reader must believe: test 26 is the paper's sentence. Assumes nothing.
-use Rattle.std.specs.Prelude.{ℕ, Bool, true, false, cond, not, ◌&&◌, ◌||◌, List, [], ◌∷◌, leb, ltb, eqb, length, get_or}
+use Rattle.std.specs.Prelude.{ℕ, Bool, true, false, cond, not, ◌&&◌, ◌||◌, List, [], ◌∷◌, leb, ltb, eqb, length, get_or, Option, None, unwrap_or}
 use Rattle.operator.specs.declared.Operator.{Operator}
-use Rattle.operator.specs.declared.Suboperation.{Suboperation}
-use Rattle.operator.specs.declared.Suboperation.TheVariants.{Defined, Undefined}
 use Rattle.operator.specs.Table.{operator_of, operator_number}
 
 -- The manual's own numbering: each suboperation means the operator at its place.
@@ -27,14 +25,10 @@ table_test table = eqb (length table) 16 && each_once [] table
 -- ---- what a suboperation means
 
 -- The manual's operator at the place that its byte is; 16 to 31 mean nothing under any table.
-unfoldable pub operator_under : List ℕ → ℕ → Suboperation
-operator_under table number = cond (ltb number 16) (operator_of (get_or table number 0)) Undefined
-
-abbrev pub or_manual : Suboperation → Operator → Operator
-or_manual (Defined o) manuals = o
-or_manual Undefined manuals = manuals
+unfoldable pub operator_under : List ℕ → ℕ → Option Operator
+operator_under table number = cond (ltb number 16) (operator_of (get_or table number 0)) None
 
 -- The operator that a table names for the suboperation which is `op` in the manual. A byte that is no place, as no table has that passes
 -- test 26, leaves the manual's.
 unfoldable pub named : List ℕ → Operator → Operator
-named table op = or_manual (operator_under table (operator_number op)) op
+named table op = unwrap_or (operator_under table (operator_number op)) op

@@ -1,27 +1,25 @@
 -- The GENSCALAR table of the manual: the operator of a suboperation number, and the number of an operator.
 -- A reader must believe: the table is the manual's. Assumes nothing.
-use Rattle.std.specs.Prelude.{ℕ, cond, List, [], ◌∷◌, eqb}
+use Rattle.std.specs.Prelude.{ℕ, cond, List, [], ◌∷◌, eqb, Option, Some, None}
 use Rattle.operator.specs.declared.Monadic.{Monadic}
 use Rattle.operator.specs.declared.Monadic.TheVariants.{Identity, Negative, Floor, Ceiling, Magnitude, Not, TestNumber, Convert}
 use Rattle.operator.specs.declared.Dyadic.{Dyadic}
 use Rattle.operator.specs.declared.Dyadic.TheVariants.{Sum, Difference, Product, Quotient, LogicalProduct, LogicalSum, Less, Equal}
 use Rattle.operator.specs.declared.Operator.{Operator}
 use Rattle.operator.specs.declared.Operator.TheVariants as O
-use Rattle.operator.specs.declared.Suboperation.{Suboperation}
-use Rattle.operator.specs.declared.Suboperation.TheVariants.{Defined, Undefined}
 
 -- What a table of numbers has at k, and `none` where it has nothing.
 abbrev pub lookup : {A : Type 0} → ℕ → List (ℕ × A) → A → A
 lookup k [] none = none
 lookup k (entry ∷ table) none = cond (eqb k entry.0) entry.1 (lookup k table none)
 
-abbrev pub monadic_at : ℕ → Monadic → ℕ × Suboperation
-monadic_at k o = (k, Defined (O.Monadic o))
+abbrev pub monadic_at : ℕ → Monadic → ℕ × Option Operator
+monadic_at k o = (k, Some (O.Monadic o))
 
-abbrev pub dyadic_at : ℕ → Dyadic → ℕ × Suboperation
-dyadic_at k o = (k, Defined (O.Dyadic o))
+abbrev pub dyadic_at : ℕ → Dyadic → ℕ × Option Operator
+dyadic_at k o = (k, Some (O.Dyadic o))
 
-abbrev pub operators : List (ℕ × Suboperation)
+abbrev pub operators : List (ℕ × Option Operator)
 operators =
     monadic_at 0 Identity
     ∷ monadic_at 1 Negative
@@ -41,8 +39,8 @@ operators =
     ∷ dyadic_at 15 Equal
     ∷ []
 
-unfoldable pub operator_of : ℕ → Suboperation
-operator_of k = lookup k operators Undefined
+unfoldable pub operator_of : ℕ → Option Operator
+operator_of k = lookup k operators None
 
 -- The table read the other way.
 abbrev pub monadic_number : Monadic → ℕ

@@ -2,7 +2,7 @@
 ghost use Rattle.std.specs.Prelude.{◌≡◌, length};
 ghost use Rattle.operator.specs.Lent as meaning;
 
-use super::{Operator, Suboperation, number_of, operator_of};
+use super::{Operator, number_of, operator_of};
 
 // Test 26: sixteen places, each of them once.
 pub fn is_table(table: &[u8]) -> bool
@@ -12,9 +12,7 @@ pub fn is_table(table: &[u8]) -> bool
         return false;
     }
     let mut seen = [false; 16];
-    let mut i = 0;
-    while i < table.len() {
-        let place = table[i];
+    for &place in table {
         if 15 < place {
             return false;
         }
@@ -22,29 +20,25 @@ pub fn is_table(table: &[u8]) -> bool
             return false;
         }
         seen[place as usize] = true;
-        i += 1;
     }
     true
 }
 
 // The operator that a suboperation number means under a table.
-pub fn operator_under(table: &[u8; 16], number: u8) -> Suboperation
+#[tactic(auto, unfolding(crate::specs::Lent::operator_under))]
+pub fn operator_under(table: &[u8; 16], number: u8) -> Option<Operator>
     ensures { result ≡ meaning.operator_under table.now number }
 {
-    if 16 <= number {
-        return Suboperation::Undefined;
-    }
-    operator_of(table[number as usize])
+    let place = table.get(number as usize)?;
+    operator_of(*place)
 }
 
 // The operator that a table names for the suboperation which is `op` in the manual.
+#[tactic(auto, unfolding(crate::specs::Lent::named))]
 pub fn named(table: &[u8; 16], op: Operator) -> Operator
     ensures { result ≡ meaning.named table.now op }
 {
-    match operator_under(table, number_of(op)) {
-        Suboperation::Defined(o) => o,
-        Suboperation::Undefined => op,
-    }
+    operator_under(table, number_of(op)).unwrap_or(op)
 }
 
 // The manual's own table.
@@ -59,11 +53,7 @@ pub fn sixteen(table: &[u8]) -> [u8; 16]
     requires { length table.now ≡ 16 }
     ensures { result ≡ table.now }
 {
-    let mut places = [0u8; 16];
-    let mut i = 0;
-    while i < 16 {
-        places[i] = table[i];
-        i += 1;
-    }
+    let mut places = [0; 16];
+    places.copy_from_slice(table);
     places
 }

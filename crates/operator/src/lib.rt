@@ -3,12 +3,12 @@
 #![tactic(auto)]
 
 ghost use Rattle.std.specs.Prelude.{◌≡◌, ◌<◌, ◌≤◌};
-ghost use Rattle.operator.specs.Table.{operator_of, operator_number, monadic_number, dyadic_number};
+ghost use Rattle.operator.specs.Table.{operator_of, operator_number};
 
 pub mod lent;
 
-// The operators of one operand.
-#[derive(Clone, Copy)]
+// The operators of one operand, each with its suboperation number, from 0.
+#[derive(Clone, Copy, Debug, PartialEq, Eq)]
 pub enum Monadic {
     Identity,
     Negative,
@@ -20,10 +20,10 @@ pub enum Monadic {
     Convert,
 }
 
-// The operators of two operands.
-#[derive(Clone, Copy)]
+// The operators of two operands, likewise from 8.
+#[derive(Clone, Copy, Debug, PartialEq, Eq)]
 pub enum Dyadic {
-    Sum,
+    Sum = 8,
     Difference,
     Product,
     Quotient,
@@ -33,35 +33,31 @@ pub enum Dyadic {
     Equal,
 }
 
-#[derive(Clone, Copy)]
+#[derive(Clone, Copy, Debug, PartialEq, Eq)]
 pub enum Operator {
     Monadic(Monadic),
     Dyadic(Dyadic),
 }
 
-#[derive(Clone, Copy)]
-pub enum Suboperation {
-    Defined(Operator),
-    Undefined,
-}
-
 // The operator of a suboperation number, by the manual's table: eight of one operand, then eight of two. Apart, each number is its
 // operator's place less a constant, and the compiler makes no table of them.
-pub fn operator_of(number: u8) -> Suboperation
+#[tactic(auto, unfolding(crate::specs::Table::operator_of))]
+pub fn operator_of(number: u8) -> Option<Operator>
     ensures { result ≡ operator_of number }
 {
     if number < 8 {
-        return Suboperation::Defined(Operator::Monadic(monadic_of(number)));
+        return Some(Operator::Monadic(monadic_of(number)));
     }
     if number < 16 {
-        return Suboperation::Defined(Operator::Dyadic(dyadic_of(number)));
+        return Some(Operator::Dyadic(dyadic_of(number)));
     }
-    Suboperation::Undefined
+    None
 }
 
+#[tactic(auto, unfolding(crate::specs::Table::operator_of))]
 fn monadic_of(number: u8) -> Monadic
     requires { number < 8 }
-    ensures { Suboperation.Defined (Operator.Monadic result) ≡ operator_of number }
+    ensures { Some (Operator.Monadic result) ≡ operator_of number }
 {
     match number {
         0 => Monadic::Identity,
@@ -75,9 +71,10 @@ fn monadic_of(number: u8) -> Monadic
     }
 }
 
+#[tactic(auto, unfolding(crate::specs::Table::operator_of))]
 fn dyadic_of(number: u8) -> Dyadic
     requires { (8 ≤ number) × (number < 16) }
-    ensures { Suboperation.Defined (Operator.Dyadic result) ≡ operator_of number }
+    ensures { Some (Operator.Dyadic result) ≡ operator_of number }
 {
     match number {
         8 => Dyadic::Sum,
@@ -96,37 +93,7 @@ pub fn number_of(op: Operator) -> u8
     ensures { (result ≡ operator_number op) × (result < 16) }
 {
     match op {
-        Operator::Monadic(m) => number_of_monadic(m),
-        Operator::Dyadic(d) => number_of_dyadic(d),
-    }
-}
-
-fn number_of_monadic(op: Monadic) -> u8
-    ensures { (result ≡ monadic_number op) × (result < 16) }
-{
-    match op {
-        Monadic::Identity => 0,
-        Monadic::Negative => 1,
-        Monadic::Floor => 2,
-        Monadic::Ceiling => 3,
-        Monadic::Magnitude => 4,
-        Monadic::Not => 5,
-        Monadic::TestNumber => 6,
-        Monadic::Convert => 7,
-    }
-}
-
-fn number_of_dyadic(op: Dyadic) -> u8
-    ensures { (result ≡ dyadic_number op) × (result < 16) }
-{
-    match op {
-        Dyadic::Sum => 8,
-        Dyadic::Difference => 9,
-        Dyadic::Product => 10,
-        Dyadic::Quotient => 11,
-        Dyadic::LogicalProduct => 12,
-        Dyadic::LogicalSum => 13,
-        Dyadic::Less => 14,
-        Dyadic::Equal => 15,
+        Operator::Monadic(m) => m as u8,
+        Operator::Dyadic(d) => d as u8,
     }
 }

@@ -11,10 +11,9 @@ use Rattle.operator.specs.declared.Monadic.TheVariants as M
 use Rattle.operator.specs.declared.Dyadic.TheVariants as D
 use Rattle.operator.specs.declared.Operator.{Operator}
 use Rattle.operator.specs.declared.Operator.TheVariants as O
-use Rattle.operator.specs.declared.Suboperation.{Suboperation}
-use Rattle.operator.specs.declared.Suboperation.TheVariants.{Defined, Undefined}
 use Rattle.operator.specs.Table.{operators, operator_of, operator_number}
-use Rattle.operator.specs.Lent.{manual_table, each_once, table_test, operator_under, or_manual, named}
+use Rattle.std.proofs.Common.{Option, Some, None, unwrap_or}
+use Rattle.operator.specs.Lent.{manual_table, each_once, table_test, operator_under, named}
 use Rattle.descriptor.proofs.Truth.{both, by_le}
 use Rattle.descriptor.proofs.Computed.{everywhere}
 use Rattle.operator.proofs.Lookup.{past-table}
@@ -24,7 +23,7 @@ use Rattle.operator_theorems.proofs.Permuted.{all-places, all-stand, found, same
 
 -- an operator stands at its number, which is below sixteen
 record Placed (op : Operator) : Type 0 where
-  stands : operator_of (operator_number op) ≡ Defined op
+  stands : operator_of (operator_number op) ≡ Some op
   below : operator_number op < 16
 
 placed : (op : Operator) → Placed op
@@ -46,19 +45,19 @@ placed (O.Dyadic D.LogicalSum) = record { stands = refl; below = omega arith }
 placed (O.Dyadic D.Less) = record { stands = refl; below = omega arith }
 placed (O.Dyadic D.Equal) = record { stands = refl; below = omega arith }
 
-past : (n : ℕ) → 16 ≤ n → operator_of n ≡ Undefined
+past : (n : ℕ) → 16 ≤ n → operator_of n ≡ None
 unfolding operator_of
-past n h = past-table n 16 h Undefined operators refl
+past n h = past-table n 16 h None operators refl
 
-number_of : (n : ℕ) (op : Operator) → operator_of n ≡ Defined op → n ≡ operator_number op
+number_of : (n : ℕ) (op : Operator) → operator_of n ≡ Some op → n ≡ operator_number op
 number_of n op e =
     by_le 16 n (λ h. let none : 16 ≡ operator_number op = ap number_in (sym (past n h) ∙ e) in absurd (omega (arith, none, (placed op).below)))
     (λ low. sym (numbered n low) ∙ ap number_in e)
 
 -- a place has an operator
-defined : (n : ℕ) → n < 16 → (op : Operator) (sub : Suboperation) → operator_of n ≡ sub → sub ≡ Defined (or_manual sub op)
-defined n h op (Defined o) e = refl
-defined n h op Undefined e = let z : 16 ≡ n = ap number_in (sym e) ∙ numbered n h in absurd (omega (arith, z, h))
+defined : (n : ℕ) → n < 16 → (op : Operator) (sub : Option Operator) → operator_of n ≡ sub → sub ≡ Some (unwrap_or sub op)
+defined n h op (Some o) e = refl
+defined n h op None e = let z : 16 ≡ n = ap number_in (sym e) ∙ numbered n h in absurd (omega (arith, z, h))
 
 -- ---- under any table
 
@@ -81,13 +80,13 @@ module _ (table : List ℕ) where
         let low : at.0 < 16 = omega (arith, at.1, sixteen.0) in
         record { number = at.0; means = under-below at.0 low ∙ ap operator_of at.2 ∙ k.stands; only = λ other means. only_at at.0 low at.2 other means }
       where
-        only_at : (n : ℕ) → n < 16 → get_or table n 0 ≡ operator_number op → (other : ℕ) → operator_under table other ≡ Defined op → other ≡ n
+        only_at : (n : ℕ) → n < 16 → get_or table n 0 ≡ operator_number op → (other : ℕ) → operator_under table other ≡ Some op → other ≡ n
         only_at n low there other means =
             let small = means-below table other means in
             same_place [] table sixteen.1 other n (omega (arith, small, sixteen.0)) (omega (arith, low, sixteen.0))
             (number_of (get_or table other 0) op (sym (under-below other small) ∙ means) ∙ sym there)
 
-    named-means : (op : Operator) → operator_under table (operator_number op) ≡ Defined (named table op)
+    named-means : (op : Operator) → operator_under table (operator_number op) ≡ Some (named table op)
     unfolding named
     named-means op =
         let k = (placed op).below in
@@ -105,7 +104,7 @@ manual-means n =
 
 manual-names : (op : Operator) → named manual_table op ≡ op
 unfolding named
-manual-names op = ap (λ (sub : Suboperation). or_manual sub op) (manual-means (operator_number op) ∙ (placed op).stands)
+manual-names op = ap (λ (sub : Option Operator). unwrap_or sub op) (manual-means (operator_number op) ∙ (placed op).stands)
 
 manual-passes : table_test manual_table ≡ true
 unfolding table_test

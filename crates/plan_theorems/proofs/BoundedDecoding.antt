@@ -7,19 +7,15 @@ use native.Mathlib.Omega.{arith}
 use lib.Dec.{ltb}
 use lib.ListN.{take, drop, length}
 use lib.Seq.{get_or-drop}
+use Rattle.std.proofs.Common.{Option, Some, None, Result}
+use Rattle.trap.specs.declared.Trap.{Trap}
 use Rattle.procedure.specs.declared.header.Block.{Block}
 use Rattle.procedure.specs.Bytes.{byte_at, word_at}
 use Rattle.procedure.specs.Headers.{code_end, code_of}
 use Rattle.procedure.specs.Directory.{selected}
 use Rattle.instruction.specs.declared.Decoded.{Decoded}
 use Rattle.instruction.specs.declared.cursor.Cursor.{Cursor}
-use Rattle.instruction.specs.declared.cursor.FetchedByte.{FetchedByte}
-use Rattle.instruction.specs.declared.cursor.FetchedByte.TheVariants as B
-use Rattle.instruction.specs.declared.cursor.FetchedHalf.{FetchedHalf}
-use Rattle.instruction.specs.declared.cursor.FetchedHalf.TheVariants as H
-use Rattle.instruction.specs.declared.cursor.FetchedWord.{FetchedWord}
-use Rattle.instruction.specs.declared.cursor.FetchedWord.TheVariants as W
-use Rattle.instruction.specs.Reading.{cursor_at, fetch_byte, fetch_half, fetch_word, with_byte, with_half}
+use Rattle.instruction.specs.Reading.{cursor_at, fetch_byte, fetch_half, fetch_word, with_read}
 use Rattle.instruction.specs.Decoding.{instruction_at}
 use Rattle.segment.specs.Lent.{Words, Bytes}
 use Rattle.manual.specs.Instructions.{Running, code_in, segment_of, words_from}
@@ -58,53 +54,40 @@ words-from (suc n) code h place (suc i) = words-from n code h (place + 4) i
 
 -- ---- what is read of them
 
-abbrev ByteBelow : FetchedByte → Type 0
-ByteBelow (B.Byte b next) = b < 2 ^ 8
-ByteBelow B.Outside = Unit {0}
+abbrev Below : ℕ → Option (ℕ × Cursor) → Type 0
+Below bound (Some read) = read.0 < bound
+Below bound None = Unit {0}
 
-abbrev HalfBelow : FetchedHalf → Type 0
-HalfBelow (H.Half v next) = v < 2 ^ 16
-HalfBelow H.Outside = Unit {0}
-
-abbrev WordBelow : FetchedWord → Type 0
-WordBelow (W.Word v next) = v < 2 ^ 32
-WordBelow W.Outside = Unit {0}
-
-with_byte_lem : {A : Type 0} (P : A → Type 0) (x : FetchedByte) (outside : A) (f : ℕ → Cursor → A) → ByteBelow x → P outside
-    → ((b : ℕ) (next : Cursor) → b < 2 ^ 8 → P (f b next)) → P (with_byte x outside f)
-with_byte_lem P (B.Byte b next) outside f h k l = l b next h
-with_byte_lem P B.Outside outside f h k l = k
-
-with-half : {A : Type 0} (P : A → Type 0) (x : FetchedHalf) (outside : A) (f : ℕ → Cursor → A) → HalfBelow x → P outside
-    → ((v : ℕ) (next : Cursor) → v < 2 ^ 16 → P (f v next)) → P (with_half x outside f)
-with-half P (H.Half v next) outside f h k l = l v next h
-with-half P H.Outside outside f h k l = k
+with_read_lem : {A : Type 0} (P : A → Type 0) (bound : ℕ) (x : Option (ℕ × Cursor)) (outside : A) (f : ℕ → Cursor → A) → Below bound x → P outside
+    → ((v : ℕ) (next : Cursor) → v < bound → P (f v next)) → P (with_read x outside f)
+with_read_lem P bound (Some (v, next)) outside f h k l = l v next h
+with_read_lem P bound None outside f h k l = k
 
 module _ (code : List ℕ) (h : Bytes code) where
-  byte-below : (c : Cursor) → ByteBelow (fetch_byte code c)
+  byte-below : (c : Cursor) → Below (2 ^ 8) (fetch_byte code c)
   unfolding fetch_byte
   byte-below c = go (ltb c.at (length code))
     where
-      go : (b : Bool) → ByteBelow (cond b (B.Byte (byte_at code c.at) (cursor_at (c.at + 1))) B.Outside)
+      go : (b : Bool) → Below (2 ^ 8) (cond {A = Option (ℕ × Cursor)} b (Some (byte_at code c.at, cursor_at (c.at + 1))) None)
       go true = h c.at
       go false = tt
 
-  half-below : (c : Cursor) → HalfBelow (fetch_half code c)
+  half-below : (c : Cursor) → Below (2 ^ 16) (fetch_half code c)
   unfolding fetch_half
   half-below c =
-      with_byte_lem HalfBelow (fetch_byte code c) H.Outside _ (byte-below c) tt (λ high next k.
-      with_byte_lem HalfBelow (fetch_byte code next) H.Outside _ (byte-below next) tt (λ low after l. omega (arith, k, l)))
+      with_read_lem (Below (2 ^ 16)) (2 ^ 8) (fetch_byte code c) None _ (byte-below c) tt (λ high next k.
+      with_read_lem (Below (2 ^ 16)) (2 ^ 8) (fetch_byte code next) None _ (byte-below next) tt (λ low after l. omega (arith, k, l)))
 
-  word_below : (c : Cursor) → WordBelow (fetch_word code c)
+  word_below : (c : Cursor) → Below (2 ^ 32) (fetch_word code c)
   unfolding fetch_word
   word_below c =
-      with-half WordBelow (fetch_half code c) W.Outside _ (half-below c) tt (λ high next k.
-      with-half WordBelow (fetch_half code next) W.Outside _ (half-below next) tt (λ low after l. omega (arith, k, l)))
+      with_read_lem (Below (2 ^ 32)) (2 ^ 16) (fetch_half code c) None _ (half-below c) tt (λ high next k.
+      with_read_lem (Below (2 ^ 32)) (2 ^ 16) (fetch_half code next) None _ (half-below next) tt (λ low after l. omega (arith, k, l)))
 
 -- ---- decoding
 
-abbrev pub SmallDecoded : Decoded → Type 0
+abbrev pub SmallDecoded : Result Decoded Trap → Type 0
 SmallDecoded d = Decodes (λ w. w < 2 ^ 32) d
 
 pub decoded-small : (code : List ℕ) → Bytes code → (place : ℕ) → SmallDecoded (instruction_at code place)
-decoded-small code h place = instruction-decodes code (λ w. w < 2 ^ 32) (λ c w next e. subst WordBelow e (word_below code h c)) place
+decoded-small code h place = instruction-decodes code (λ w. w < 2 ^ 32) (λ c w next e. subst (Below (2 ^ 32)) e (word_below code h c)) place

@@ -6,8 +6,9 @@ use native.Mathlib.Omega.{arith}
 use lib.Dec.{eqb}
 use Rattle.descriptor.proofs.Truth.{bit_below}
 use Rattle.instruction.specs.declared.Instruction.{Instruction}
+use Rattle.std.proofs.Common.{Result, Ok, Err}
+use Rattle.trap.specs.declared.Trap.{Trap}
 use Rattle.instruction.specs.declared.Decoded.{Decoded}
-use Rattle.instruction.specs.declared.Decoded.TheVariants as D
 use Rattle.manual.specs.Values.{Value, rank, first}
 use Rattle.manual.specs.Effects.{Source, word, made}
 use Rattle.manual.specs.Seen.{Seen, variables_of}
@@ -74,7 +75,7 @@ module _ {s : List ℕ} {v : Seen} (f : Running) (h : Sees s (variables_of (head
         entered = λ arguments other number e c. (tt, (frame_small other (number % 2 ^ 11) (omega arith), tt));
       })
 
-  pub planned-small : (d : Decoded) → SmallDecoded d → Given AllSmall (plan_decoded f v d)
-  planned-small (D.Instruction i next) k =
-      plan-small (under_table f.program.table i) (reads-under (λ w. w < 2 ^ 32) f.program.table i k) next.0
-  planned-small (D.Trap class number) k = tt
+  pub planned-small : (d : Result Decoded Trap) → SmallDecoded d → Given AllSmall (plan_decoded f v d)
+  planned-small (Ok d) k =
+      plan-small (under_table f.program.table d.instruction) (reads-under (λ w. w < 2 ^ 32) f.program.table d.instruction k) d.next.0
+  planned-small (Err t) k = tt

@@ -1,4 +1,5 @@
 -- The results of the scalar operators fit where their operands do.
+use Rattle.std.proofs.Common.{Ok, Err}
 use Prim.Native.Nat.{ℕ, zero, suc, ◌≤◌}
 use mathlib.Core.Path.{◌≡◌, refl, sym, ◌∙◌, ap}
 use mathlib.Core.Bool.{Bool, true, false, cond, not, ◌&&◌}
@@ -10,8 +11,7 @@ use lib.ListN.{length, replicate, length-replicate}
 use borrow.Author.Tests.{eqb-true, eqb-false, eq-eqb, ne_eqb, not-false}
 use Rattle.operator.specs.declared.Monadic.{Monadic}
 use Rattle.operator.specs.declared.Dyadic.{Dyadic}
-use Rattle.scalar.specs.declared.Answer.{Answer}
-use Rattle.scalar.specs.declared.Answer.TheVariants.{Word, Trap}
+use Rattle.scalar.specs.Results.{Answer}
 use Rattle.scalar.specs.Operators.{monadic_of, dyadic_of}
 use Rattle.segment.specs.Blocks.{product}
 use Rattle.manual.specs.OrTrap.{OrTrap}
@@ -30,9 +30,9 @@ use Rattle.plan_theorems.proofs.Values.{Length, valid-length, ValueFits}
 abbrev pub Elements : (ℕ → Type 0) → ℕ → List ℕ → Type 0
 Elements P n ravel = All P ravel × (length ravel ≡ n)
 
-answered-fits : (P : ℕ → Type 0) (x : Answer) → ((w : ℕ) → x ≡ Word w → P w) → Given P (answered x)
-answered-fits P (Word w) h = h w refl
-answered-fits P (Trap class number) h = tt
+answered-fits : (P : ℕ → Type 0) (x : Answer) → ((w : ℕ) → x ≡ Ok w → P w) → Given P (answered x)
+answered-fits P (Ok w) h = h w refl
+answered-fits P (Err t) h = tt
 
 -- one more result before others
 collect-more : (P : ℕ → Type 0) (n : ℕ) (x : OrTrap ℕ) (xs : List (OrTrap ℕ)) → Given P x → Given (Elements P n) (collect xs) → Given (Elements P (suc n)) (collect (x ∷ xs))

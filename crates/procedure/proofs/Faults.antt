@@ -3,6 +3,7 @@
 use mathlib.Core.Path.{◌≡◌, refl, sym, ◌∙◌, ap}
 use mathlib.Core.Bool.{Bool, true, false, not, ◌&&◌, ◌||◌, not-not}
 use mathlib.Core.List.{List}
+use Rattle.std.specs.Prelude.{Result, Ok, Err, ⊤}
 use Prim.Native.Nat.{ℕ, zero, suc, ◌+◌, ◌-◌, ◌*◌, ◌≤◌, ◌<◌}
 use lib.ListN.{length}
 use lib.Dec.{leb, eqb}
@@ -24,7 +25,7 @@ told : (k : ℕ) (start end long bits arguments local variables : Bool)
     (unless long (F.Function k W.Length)
     (unless bits (F.Function k W.UnnamedBits)
     (unless arguments (F.Function k W.Arguments)
-    (unless local (F.Function k W.ResultLocal) (unless variables (F.Function k W.Variables) F.Nothing)))))))
+    (unless local (F.Function k W.ResultLocal) (unless variables (F.Function k W.Variables) (Ok tt))))))))
     ≡ not (start && end && (long && bits && arguments && local && variables))
 told k true true true true true true true = refl
 told k true true true true true true false = refl
@@ -47,14 +48,12 @@ function-told p k =
     (result_has_local (result_of p k) (nlocals_of p k))
     (leb (nargs_of p k + nlocals_of p k) 4096)
 
-first-told : (f others : Fault) (t u : Bool) → refuses f ≡ not t → refuses others ≡ not u → refuses (or_else f others) ≡ not (t && u)
+first-told : (f others : Result ⊤ Fault) (t u : Bool) → refuses f ≡ not t → refuses others ≡ not u → refuses (or_else f others) ≡ not (t && u)
 first-told f others t u e h = or-else f ∙ rw (e, h) (de-morgan t)
   where
-    or-else : (f : Fault) → refuses (or_else f others) ≡ (refuses f || refuses others)
-    or-else F.Nothing = refl
-    or-else F.SegmentLength = refl
-    or-else F.Entries = refl
-    or-else (F.Function k wrong) = refl
+    or-else : (f : Result ⊤ Fault) → refuses (or_else f others) ≡ (refuses f || refuses others)
+    or-else (Ok sound) = refl
+    or-else (Err wrong) = refl
 
     de-morgan : (t : Bool) → (not t || not u) ≡ not (t && u)
     de-morgan true = refl
@@ -73,44 +72,21 @@ contents-told p = directory (entries_test p)
     directory true = functions-told p (entries p - 1) 1
     directory false = refl
 
--- A fault that is not `Nothing`.
-abbrev pub Faulty : Fault → Type 0
-Faulty f = f ≡ F.Nothing → ⊥
-
-faulty-refuses : (f : Fault) → Faulty f → refuses f ≡ true
-faulty-refuses F.Nothing h = absurd (h refl)
-faulty-refuses F.SegmentLength h = refl
-faulty-refuses F.Entries h = refl
-faulty-refuses (F.Function k wrong) h = refl
-
-module _ (p : List ℕ) (f : Fault) (is : f ≡ contents_fault p) where
-  tested : (t : Bool) → refuses f ≡ t → contents_test p ≡ not t
-  tested t e = sym (not-not (contents_test p)) ∙ ap not (sym (contents-told p) ∙ ap refuses (sym is) ∙ e)
-
-  pub faulty-fails : Faulty f → contents_test p ≡ false
-  faulty-fails wrong = tested true (faulty-refuses f wrong)
-
-  pub sound-passes : f ≡ F.Nothing → contents_test p ≡ true
-  sound-passes e = tested false (ap refuses e)
-
-fault-first : (f others : Fault) → Faulty f → or_else f others ≡ f
-fault-first F.Nothing others h = absurd (h refl)
-fault-first F.SegmentLength others h = refl
-fault-first F.Entries others h = refl
-fault-first (F.Function k wrong) others h = refl
+pub contents_tested : (p : List ℕ) → contents_test p ≡ not (refuses (contents_fault p))
+contents_tested p = sym (not-not (contents_test p)) ∙ ap not (sym (contents-told p))
 
 module _ (p : List ℕ) (end k : ℕ) where
   left : k < end → functions_fault (end - k) p k ≡ or_else (function_fault p k) (functions_fault (end - (k + 1)) p (k + 1))
   unfolding functions_fault
   left h = let e : end - k ≡ suc (end - (k + 1)) = omega arith in rw e
 
-  pub at-fault : k < end → Faulty (function_fault p k) → functions_fault (end - k) p k ≡ function_fault p k
-  at-fault h wrong = left h ∙ fault-first (function_fault p k) (functions_fault (end - (k + 1)) p (k + 1)) wrong
+  pub at-fault : {wrong : Fault} → k < end → function_fault p k ≡ Err wrong → functions_fault (end - k) p k ≡ Err wrong
+  at-fault h e = left h ∙ (rw e)
 
-  pub past-sound : k < end → function_fault p k ≡ F.Nothing
+  pub past-sound : {sound : ⊤} → k < end → function_fault p k ≡ Ok sound
       → functions_fault (end - k) p k ≡ functions_fault (end - (k + 1)) p (k + 1)
-  past-sound h sound = left h ∙ (rw sound)
+  past-sound h e = left h ∙ (rw e)
 
-  pub none_left : end ≤ k → functions_fault (end - k) p k ≡ F.Nothing
+  pub none_left : end ≤ k → functions_fault (end - k) p k ≡ Ok tt
   unfolding functions_fault
   none_left h = let e : end - k ≡ zero = omega arith in rw e

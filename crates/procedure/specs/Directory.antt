@@ -1,9 +1,8 @@
 -- The directory of a procedure segment, and the functions in it: document 01's "Procedure segment", its first two sentences,
 -- with decision 8 of docs/DECISIONS.md. A reader must believe: where an entry stands and which half is which. Assumes nothing.
-use Rattle.std.specs.Prelude.{ℕ, ◌*◌, ◌/◌, ◌%◌, ◌^◌, Bool, false, cond, List, ltb, eqb}
+use Rattle.std.specs.Prelude.{ℕ, ◌*◌, ◌/◌, ◌%◌, ◌^◌, Bool, false, cond, List, ltb, eqb, Option, Some, None}
 use Rattle.procedure.specs.declared.header.Header.{Header}
-use Rattle.procedure.specs.declared.directory.Function.{Function}
-use Rattle.procedure.specs.declared.directory.Function.TheVariants as F
+use Rattle.procedure.specs.declared.header.Block.{Block}
 use Rattle.procedure.specs.Bytes.{word_at}
 use Rattle.procedure.specs.Headers.{header_at, block_at}
 
@@ -48,5 +47,5 @@ ncode_of p fn = (header_of_function p fn).ncode
 abbrev pub result_of : List ℕ → ℕ → Bool
 result_of p fn = (header_of_function p fn).result
 
-unfoldable pub function_of : List ℕ → ℕ → Function
-function_of p fn = cond (has_function p fn) (F.At (block_at p (start_of p fn))) F.Absent
+unfoldable pub function_of : List ℕ → ℕ → Option Block
+function_of p fn = cond (has_function p fn) (Some (block_at p (start_of p fn))) None

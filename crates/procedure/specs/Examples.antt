@@ -1,7 +1,6 @@
 -- A segment with one function, and what the definitions say of it; then the same segment with one thing wrong.
 -- Nothing rests on this file. Assumes nothing.
-use Rattle.std.specs.Prelude.{◌≡◌, refl, true, false, List, [], ◌∷◌, ℕ, set}
-use Rattle.procedure.specs.declared.header.Line.TheVariants as L
+use Rattle.std.specs.Prelude.{◌≡◌, refl, true, false, List, [], ◌∷◌, ℕ, set, Some}
 use Rattle.procedure.specs.Bytes.{half_at, word_at}
 use Rattle.procedure.specs.Headers.{header_at, block_at, line_of}
 use Rattle.procedure.specs.Directory.{has_function, in_directory, nargs_of, result_of}
@@ -38,7 +37,7 @@ result : result_of sample 1 ≡ true
 unfolding header_at word_at
 result = refl
 
-first-line : line_of sample (block_at sample 2) 1 ≡ L.At (record { 0 = 8 })
+first-line : line_of sample (block_at sample 2) 1 ≡ Some (record { 0 = 8 })
 unfolding line_of header_at word_at half_at
 first-line = refl
 

@@ -1,6 +1,6 @@
 -- The first fault of a procedure segment, by name, which the disassembler says. That a segment has one exactly when a test of
 -- Refusal fails is proved in proofs/Faults.antt, so no reader need believe this file for the tests. Assumes nothing.
-use Rattle.std.specs.Prelude.{ℕ, zero, suc, ◌+◌, ◌-◌, ◌*◌, Bool, true, false, cond, List, length, leb, eqb}
+use Rattle.std.specs.Prelude.{ℕ, zero, suc, ◌+◌, ◌-◌, ◌*◌, Bool, true, false, cond, List, length, leb, eqb, Result, Ok, Err, ⊤}
 use Rattle.procedure.specs.declared.header.Header.{Header}
 use Rattle.procedure.specs.declared.refusal.Fault.{Fault}
 use Rattle.procedure.specs.declared.refusal.Fault.TheVariants as F
@@ -11,44 +11,40 @@ use Rattle.procedure.specs.Directory.{start_of, length_of, entries}
 use Rattle.procedure.specs.Refusal.{segment_length_test, entries_test, block_length, result_has_local}
 
 -- A fault where a test fails, else what is found further on.
-abbrev pub unless : Bool → Fault → Fault → Fault
-unless test wrong next = cond test next wrong
+abbrev pub unless : Bool → Fault → Result ⊤ Fault → Result ⊤ Fault
+unless test wrong next = cond test next (Err wrong)
 
 -- Function k's header, beside its word 0 and the length in the directory.
-unfoldable pub header_fault : ℕ → Header → ℕ → ℕ → Fault
+unfoldable pub header_fault : ℕ → Header → ℕ → ℕ → Result ⊤ Fault
 header_fault k h word0 long =
     unless (eqb long (block_length h)) (F.Function k W.Length)
     (unless (eqb (unnamed_bits word0) 0) (F.Function k W.UnnamedBits)
     (unless (leb h.nargs 15) (F.Function k W.Arguments)
     (unless (result_has_local h.result h.nlocals) (F.Function k W.ResultLocal)
-    (unless (leb (h.nargs + h.nlocals) 4096) (F.Function k W.Variables) F.Nothing))))
+    (unless (leb (h.nargs + h.nlocals) 4096) (F.Function k W.Variables) (Ok tt)))))
 
-unfoldable pub function_fault : List ℕ → ℕ → Fault
+unfoldable pub function_fault : List ℕ → ℕ → Result ⊤ Fault
 function_fault p k =
     unless (leb (entries p) (start_of p k)) (F.Function k W.Start)
     (unless (leb (4 * (start_of p k + length_of p k)) (length p)) (F.Function k W.End)
     (header_fault k (header_at p (start_of p k)) (word_at p (4 * start_of p k)) (length_of p k)))
 
 -- The first of two faults, where there is one.
-abbrev pub or_else : Fault → Fault → Fault
-or_else F.Nothing next = next
-or_else F.SegmentLength next = F.SegmentLength
-or_else F.Entries next = F.Entries
-or_else (F.Function k wrong) next = F.Function k wrong
+abbrev pub or_else : Result ⊤ Fault → Result ⊤ Fault → Result ⊤ Fault
+or_else (Ok sound) next = next
+or_else (Err wrong) next = Err wrong
 
 -- The n functions from number k on.
-unfoldable pub functions_fault : ℕ → List ℕ → ℕ → Fault
-functions_fault zero p k = F.Nothing
+unfoldable pub functions_fault : ℕ → List ℕ → ℕ → Result ⊤ Fault
+functions_fault zero p k = Ok tt
 functions_fault (suc n) p k = let others = functions_fault n p (k + 1) in or_else (function_fault p k) others
 
-unfoldable pub contents_fault : List ℕ → Fault
+unfoldable pub contents_fault : List ℕ → Result ⊤ Fault
 contents_fault p = unless (entries_test p) F.Entries (functions_fault (entries p - 1) p 1)
 
-unfoldable pub fault_of : List ℕ → Fault
+unfoldable pub fault_of : List ℕ → Result ⊤ Fault
 fault_of p = unless (segment_length_test p) F.SegmentLength (contents_fault p)
 
-abbrev pub refuses : Fault → Bool
-refuses F.Nothing = false
-refuses F.SegmentLength = true
-refuses F.Entries = true
-refuses (F.Function k wrong) = true
+abbrev pub refuses : Result ⊤ Fault → Bool
+refuses (Ok sound) = false
+refuses (Err wrong) = true

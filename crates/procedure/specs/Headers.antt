@@ -1,10 +1,9 @@
 -- A function's block: document 01's "Procedure segment", from "Header word 0" to "7+4·NCODE". A block is named by its
 -- first word in the segment. A reader must believe: which bits each name stands for. Assumes nothing.
-use Rattle.std.specs.Prelude.{ℕ, ◌+◌, ◌-◌, ◌*◌, ◌/◌, ◌%◌, ◌^◌, Bool, cond, List, take, drop, ltb, eqb}
+use Rattle.std.specs.Prelude.{ℕ, ◌+◌, ◌-◌, ◌*◌, ◌/◌, ◌%◌, ◌^◌, Bool, cond, List, take, drop, ltb, eqb, Option, Some, None}
 use Rattle.procedure.specs.declared.header.Header.{Header}
 use Rattle.procedure.specs.declared.header.Block.{Block}
-use Rattle.procedure.specs.declared.header.Line.{Line}
-use Rattle.procedure.specs.declared.header.Line.TheVariants as L
+use Rattle.descriptor.specs.declared.address.CodeAddress.{CodeAddress}
 use Rattle.procedure.specs.Bytes.{half_at, word_at}
 
 abbrev pub bit_of : ℕ → ℕ → Bool
@@ -46,8 +45,8 @@ unfoldable pub code_of : List ℕ → Block → List ℕ
 code_of p b = take (code_end b.header) (drop (4 * b.start) p)
 
 -- Then the code and 16-bit line entries. Line entry i stands for 1 to NLINES.
-unfoldable pub line_of : List ℕ → Block → ℕ → Line
+unfoldable pub line_of : List ℕ → Block → ℕ → Option CodeAddress
 line_of p b i =
-    cond (ltb i 1) L.Absent
-    (cond (ltb b.header.nlines i) L.Absent
-    (L.At (record { 0 = half_at p (4 * b.start + code_end b.header + 2 * (i - 1)) })))
+    cond (ltb i 1) None
+    (cond (ltb b.header.nlines i) None
+    (Some (record { 0 = half_at p (4 * b.start + code_end b.header + 2 * (i - 1)) })))

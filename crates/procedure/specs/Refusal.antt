@@ -1,6 +1,6 @@
 -- Tests 11 and 12 of document 01's table, with decision 11 of docs/DECISIONS.md: whether a procedure segment passes.
 -- A reader must believe: each line is a sentence of "Procedure segment". Assumes nothing.
-use Rattle.std.specs.Prelude.{ℕ, zero, suc, ◌+◌, ◌-◌, ◌*◌, ◌/◌, ◌%◌, Bool, true, cond, ◌&&◌, List, length, leb, eqb}
+use Rattle.std.specs.Prelude.{ℕ, zero, suc, ◌+◌, ◌-◌, ◌*◌, ◌/◌, ◌%◌, Bool, true, cond, ◌&&◌, List, length, leb, eqb, Result, Ok, Err, ⊤}
 use Rattle.procedure.specs.declared.header.Header.{Header}
 use Rattle.procedure.specs.declared.refusal.Refusal.{Refusal}
 use Rattle.procedure.specs.declared.refusal.Refusal.TheVariants as R
@@ -54,7 +54,7 @@ procedure_refusal regular alternate =
     11
 
 -- The number of the answer.
-abbrev pub refusal_number : Refusal → ℕ
-refusal_number R.Nothing = 0
-refusal_number R.Length = 11
-refusal_number R.Contents = 12
+abbrev pub refusal_number : Result ⊤ Refusal → ℕ
+refusal_number (Ok passed) = 0
+refusal_number (Err R.Length) = 11
+refusal_number (Err R.Contents) = 12

@@ -5,12 +5,6 @@ ghost use Rattle.procedure.specs.Directory.{entries, start_of, length_of, has_fu
 use crate::bytes::word_at;
 use crate::header::{Block, Header, header_at};
 
-#[derive(Clone, Copy)]
-pub enum Function {
-    At(Block),
-    Absent,
-}
-
 // The number of entries, entry 0 among them.
 pub fn entries(p: &[u8]) -> u16
     ensures { result ≡ entries p.now }
@@ -32,55 +26,53 @@ pub fn length_of(p: &[u8], number: u16) -> u16
     (word_at(p, 4 * number as u32) % 0x1_0000) as u16
 }
 
+#[tactic(auto, unfolding(crate::specs::Directory::has_function))]
 pub fn has_function(p: &[u8], number: u16) -> bool
     ensures { result ≡ has_function p.now number }
 {
-    if number == 0 {
-        return false;
-    }
-    number < entries(p)
+    number != 0 && number < entries(p)
 }
 
 // The block of function `number`.
-pub fn find(p: &[u8], number: u16) -> Function
+#[tactic(auto, unfolding(crate::specs::Directory::function_of))]
+pub fn find(p: &[u8], number: u16) -> Option<Block>
     ensures { result ≡ function_of p.now number }
 {
-    if has_function(p, number) {
-        let start = start_of(p, number);
-        return Function::At(Block {
-            start: start,
-            header: header_at(p, start),
-        });
+    if !has_function(p, number) {
+        return None;
     }
-    Function::Absent
+    let start = start_of(p, number);
+    Some(Block {
+        start,
+        header: header_at(p, start),
+    })
+}
+
+// The segment that P names: clear the regular one, set the alternate one.
+pub fn selected<'a>(selector: bool, regular: &'a [u8], alternate: &'a [u8]) -> &'a [u8]
+    ensures { result.now ≡ selected selector regular.now alternate.now }
+{
+    if selector { alternate } else { regular }
 }
 
 // Whether the segment that P names has the function.
 pub fn in_directory(selector: bool, regular: &[u8], alternate: &[u8], number: u16) -> bool
     ensures { result ≡ in_directory selector regular.now alternate.now number }
 {
-    if selector {
-        return has_function(alternate, number);
-    }
-    has_function(regular, number)
+    has_function(selected(selector, regular, alternate), number)
 }
 
 // Its block there.
-pub fn find_in(selector: bool, regular: &[u8], alternate: &[u8], number: u16) -> Function
+pub fn find_in(selector: bool, regular: &[u8], alternate: &[u8], number: u16) -> Option<Block>
     ensures { result ≡ function_of (selected selector regular.now alternate.now) number }
 {
-    if selector {
-        return find(alternate, number);
-    }
-    find(regular, number)
+    find(selected(selector, regular, alternate), number)
 }
 
 // What its header there says.
 pub fn header_in(selector: bool, regular: &[u8], alternate: &[u8], number: u16) -> Header
     ensures { result ≡ header_of_function (selected selector regular.now alternate.now) number }
 {
-    if selector {
-        return header_at(alternate, start_of(alternate, number));
-    }
-    header_at(regular, start_of(regular, number))
+    let p = selected(selector, regular, alternate);
+    header_at(p, start_of(p, number))
 }

@@ -23,13 +23,6 @@ pub struct Block {
     pub header: Header,
 }
 
-// The place of a line's first instruction.
-#[derive(Clone, Copy)]
-pub enum Line {
-    At(CodeAddress),
-    Absent,
-}
-
 // The header of the block that starts at word `start`.
 pub fn header_at(p: &[u8], start: u16) -> Header
     ensures { result ≡ header_at p.now start }
@@ -87,17 +80,15 @@ impl Block {
         &p[all..all]
     }
 
-    // Line entry `number`, for 1 to NLINES.
-    pub fn line(self, p: &[u8], number: u32) -> Line
+    // Line entry `number`, for 1 to NLINES: the place of the line's first instruction.
+    #[tactic(auto, unfolding(crate::specs::Headers::line_of))]
+    pub fn line(self, p: &[u8], number: u32) -> Option<CodeAddress>
         ensures { result ≡ line_of p.now self number }
     {
-        if number < 1 {
-            return Line::Absent;
-        }
-        if (self.header.nlines as u32) < number {
-            return Line::Absent;
+        if number < 1 || (self.header.nlines as u32) < number {
+            return None;
         }
         let at = self.first_byte() + self.code_end() + 2 * (number - 1);
-        Line::At(CodeAddress::of(half_at(p, at) as u32))
+        Some(CodeAddress::of(half_at(p, at) as u32))
     }
 }

@@ -8,7 +8,7 @@ use crate::directory::{entries, length_of, start_of};
 use crate::header::{Header, header_at};
 
 // What is wrong with a function: where its block starts or ends, how long it is, or its header.
-#[derive(Clone, Copy)]
+#[derive(Clone, Copy, PartialEq, Eq, Debug)]
 pub enum FunctionFault {
     Start,
     End,
@@ -20,142 +20,117 @@ pub enum FunctionFault {
 }
 
 // The first thing that is wrong with a segment; of a function, with its number.
-#[derive(Clone, Copy)]
+#[derive(Clone, Copy, PartialEq, Eq, Debug)]
 pub enum Fault {
-    Nothing,
     SegmentLength,
     Entries,
     Function(u16, FunctionFault),
 }
 
 // Which test refuses two segments.
-#[derive(Clone, Copy)]
+#[derive(Clone, Copy, PartialEq, Eq, Debug)]
 pub enum Refusal {
-    Nothing,
     Length,
     Contents,
 }
 
 // Both segments: their lengths, then their contents, the regular one first.
-pub fn judge(regular: &[u8], alternate: &[u8]) -> Refusal
+#[tactic(auto, using(crate::proofs::Faults::contents_tested), unfolding(crate::specs::Refusal::procedure_refusal))]
+pub fn judge(regular: &[u8], alternate: &[u8]) -> Result<(), Refusal>
     ensures { refusal_number result ≡ procedure_refusal regular.now alternate.now }
 {
-    if !length_passes(regular) {
-        return Refusal::Length;
+    if !length_passes(regular) || !length_passes(alternate) {
+        return Err(Refusal::Length);
     }
-    if !length_passes(alternate) {
-        return Refusal::Length;
+    if contents_fault(regular).is_err() || contents_fault(alternate).is_err() {
+        return Err(Refusal::Contents);
     }
-    let Fault::Nothing = contents_fault(regular) else {
-        return Refusal::Contents;
-    };
-    let Fault::Nothing = contents_fault(alternate) else {
-        return Refusal::Contents;
-    };
-    Refusal::Nothing
+    Ok(())
 }
 
 // What is wrong with one segment.
-pub fn fault_of(p: &[u8]) -> Fault
+#[tactic(auto, unfolding(crate::specs::Faults::fault_of))]
+pub fn fault_of(p: &[u8]) -> Result<(), Fault>
     ensures { result ≡ fault_of p.now }
 {
-    if length_passes(p) {
-        return contents_fault(p);
+    if !length_passes(p) {
+        return Err(Fault::SegmentLength);
     }
-    Fault::SegmentLength
+    contents_fault(p)
 }
 
+#[tactic(auto, unfolding(crate::specs::Refusal::segment_length_test))]
 fn length_passes(p: &[u8]) -> bool
     ensures { result ≡ segment_length_test p.now }
 {
-    if p.len() < 4 {
-        return false;
-    }
-    if 32768 < p.len() {
-        return false;
-    }
-    p.len() % 4 == 0
+    4 <= p.len() && p.len() <= 32768 && p.len() % 4 == 0
 }
 
 // The directory, then function after function.
-fn contents_fault(p: &[u8]) -> Fault
+#[tactic(auto, unfolding(crate::specs::Faults::contents_fault))]
+fn contents_fault(p: &[u8]) -> Result<(), Fault>
     ensures { result ≡ contents_fault p.now }
 {
     if !entries_pass(p) {
-        return Fault::Entries;
+        return Err(Fault::Entries);
     }
-    let end = entries(p);
-    let mut k = 1;
-    while k < end {
-        let found = function_fault(p, k);
-        let Fault::Nothing = found else {
-            return found;
-        };
-        k += 1;
+    for k in 1..entries(p) {
+        function_fault(p, k)?;
     }
-    Fault::Nothing
+    Ok(())
 }
 
+#[tactic(auto, unfolding(crate::specs::Refusal::entries_test))]
 fn entries_pass(p: &[u8]) -> bool
     ensures { result ≡ entries_test p.now }
 {
     let word = word_at(p, 0);
     let n = word % 0x1_0000;
-    if word / 0x1_0000 != 0 {
-        return false;
-    }
-    if n < 1 {
-        return false;
-    }
-    if 2048 < n {
-        return false;
-    }
-    4 * n as usize <= p.len()
+    word / 0x1_0000 == 0 && 1 <= n && n <= 2048 && 4 * n as usize <= p.len()
 }
 
 // Function k: it lies in the segment after the directory.
-fn function_fault(p: &[u8], k: u16) -> Fault
+#[tactic(auto, unfolding(crate::specs::Faults::function_fault))]
+fn function_fault(p: &[u8], k: u16) -> Result<(), Fault>
     ensures { result ≡ function_fault p.now k }
 {
     let start = start_of(p, k);
     let length = length_of(p, k);
     if start < entries(p) {
-        return Fault::Function(k, FunctionFault::Start);
+        return Err(Fault::Function(k, FunctionFault::Start));
     }
     if p.len() < 4 * (start as usize + length as usize) {
-        return Fault::Function(k, FunctionFault::End);
+        return Err(Fault::Function(k, FunctionFault::End));
     }
     header_fault(k, header_at(p, start), word_at(p, 4 * start as u32), length)
 }
 
 // Function k's header, beside its word 0 and the length in the directory.
-fn header_fault(k: u16, h: Header, word0: u32, length: u16) -> Fault
+#[tactic(auto, unfolding(crate::specs::Faults::header_fault))]
+fn header_fault(k: u16, h: Header, word0: u32, length: u16) -> Result<(), Fault>
     ensures { result ≡ header_fault k h word0 length }
 {
     if length as u32 != 2 + h.ncode as u32 + (h.nlines as u32 + 1) / 2 {
-        return Fault::Function(k, FunctionFault::Length);
+        return Err(Fault::Function(k, FunctionFault::Length));
     }
     if word0 / 0x100_0000 % 0x20 != 0 {
-        return Fault::Function(k, FunctionFault::UnnamedBits);
+        return Err(Fault::Function(k, FunctionFault::UnnamedBits));
     }
     if 15 < h.nargs {
-        return Fault::Function(k, FunctionFault::Arguments);
+        return Err(Fault::Function(k, FunctionFault::Arguments));
     }
     if !result_has_local(h.result, h.nlocals) {
-        return Fault::Function(k, FunctionFault::ResultLocal);
+        return Err(Fault::Function(k, FunctionFault::ResultLocal));
     }
     if 4096 < h.nargs as u32 + h.nlocals as u32 {
-        return Fault::Function(k, FunctionFault::Variables);
+        return Err(Fault::Function(k, FunctionFault::Variables));
     }
-    Fault::Nothing
+    Ok(())
 }
 
 // RESULT needs a local to take the result from.
 fn result_has_local(res: bool, nlocals: u16) -> bool
     ensures { result ≡ result_has_local res nlocals }
 {
-    if res {
-        return 1 <= nlocals;
-    }
-    true
+    !res || 1 <= nlocals
 }

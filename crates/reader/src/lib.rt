@@ -7,6 +7,7 @@ ghost use Rattle.reader.specs.Walking.{at_start, place_after, read_once};
 use descriptor::address::CodeAddress;
 use instruction::Decoded;
 use instruction::decode::instruction_at;
+use trap::Trap;
 
 // `code` is the function's block up to the end of its code, as `Block::code` lends it.
 #[derive(Drop)]
@@ -27,22 +28,21 @@ impl<'a> Reader<'a> {
     }
 
     // The instruction where the reader stands. The reader moves to its end, and stays where it traps.
-    pub fn next<'s>(&'s mut self) -> Decoded
+    pub fn next<'s>(&'s mut self) -> Result<Decoded, Trap>
         ensures { (result, self.new) ≡ read_once self.old }
     {
-        let place = self.place;
-        let found = instruction_at(self.code, place);
-        self.place = place_after(place, found);
+        let found = instruction_at(self.code, self.place);
+        self.place = place_after(self.place, found);
         found
     }
 }
 
 // The place after what was found at a place.
-pub fn place_after(place: CodeAddress, found: Decoded) -> CodeAddress
+pub fn place_after(place: CodeAddress, found: Result<Decoded, Trap>) -> CodeAddress
     ensures { result ≡ place_after place found }
 {
     match found {
-        Decoded::Instruction(_, next) => next,
-        Decoded::Trap(_, _) => place,
+        Ok(decoded) => decoded.next,
+        Err(_) => place,
     }
 }

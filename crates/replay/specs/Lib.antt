@@ -1,2 +1,2 @@
--- What the loop over the records knows of the segment.
+-- What the loop over the records knows of the segment, and of what a record returned.
 pub mod Tested

@@ -6,10 +6,11 @@ ghost use Rattle.std.specs.Prelude.{◌≡◌};
 ghost use Rattle.std.proofs.lemmas.List.Edits.{sets};
 ghost use Rattle.tally.specs.Counts.{added, counts_of, none_counted, tally_of};
 ghost use Rattle.manual.specs.Program.{program};
+ghost use Rattle.operations.specs.Answers.{stopped};
 ghost use Rattle.operations.specs.Replay as meaning;
 ghost use Rattle.audit.specs.Replays.{PromisedReplay};
 
-use operations::Replayed;
+use operations::Halt;
 use records::replay_records;
 use tally::Tally;
 
@@ -18,7 +19,7 @@ mod records;
 // What a whole file comes to.
 #[derive(Drop)]
 pub struct Week {
-    pub answer: Replayed,
+    pub answer: Result<(), Halt>,
     pub tally: Tally,
 }
 
@@ -30,11 +31,11 @@ pub fn replay(
     table: &[u8],
     file: &[u8],
     tally: &mut Tally,
-) -> Replayed
-    ensures tally_after { meaning.replay result seg.new (counts_of tally.new)
+) -> Result<(), Halt>
+    ensures tally_after { meaning.replay (stopped result) seg.new (counts_of tally.new)
         ≡ meaning.replayed seg.old (program regular.now alternate.now table.now) file.now }
     ensures promised_replay { PromisedReplay seg.old (program regular.now alternate.now table.now) file.now
-        result seg.new (counts_of tally.new) }
+        (stopped result) seg.new (counts_of tally.new) }
 {
     let week = replay_all(seg, regular, alternate, table, file);
     *tally = Tally::zero();
@@ -50,8 +51,8 @@ pub fn replay_into(
     table: &[u8],
     file: &[u8],
     counts: &mut [u32],
-) -> Replayed
-    ensures value { result ≡ (meaning.replayed seg.old (program regular.now alternate.now table.now) file.now).answer }
+) -> Result<(), Halt>
+    ensures value { stopped result ≡ (meaning.replayed seg.old (program regular.now alternate.now table.now) file.now).answer }
     ensures seg_after { seg.new
         ≡ (meaning.replayed seg.old (program regular.now alternate.now table.now) file.now).words }
     ensures counts_after { counts.new ≡ sets counts.old 0
@@ -64,7 +65,7 @@ pub fn replay_into(
 }
 
 fn replay_all(seg: &mut [u32], regular: &[u8], alternate: &[u8], table: &[u8], file: &[u8]) -> Week
-    ensures { meaning.replay result.answer seg.new (counts_of (added (tally_of none_counted) result.tally))
+    ensures { meaning.replay (stopped result.answer) seg.new (counts_of (added (tally_of none_counted) result.tally))
         ≡ meaning.replayed seg.old (program regular.now alternate.now table.now) file.now }
 {
     let mut counts = [0u32; 8];

@@ -2,16 +2,17 @@
 ghost use Rattle.std.specs.Prelude.{◌≡◌, length};
 ghost use Rattle.imports.specs.Records.{records_of};
 ghost use Rattle.manual.specs.Program.{program};
-ghost use Rattle.operations.specs.Answers.{status_of};
+ghost use Rattle.operations.specs.Answers.{numbered, status_of, stopped};
 ghost use Rattle.operations.specs.Load.{load_refusal, loaded};
 ghost use Rattle.operations.specs.Run.{ran};
 ghost use Rattle.operations.specs.Replay as meaning;
-ghost use Rattle.replay.specs.Tested.{Tested};
+ghost use Rattle.replay.specs.Tested.{HaltsAt, Tested};
 
+use effects::Ran;
 use engine::load::{load, load_accepted};
 use engine::run::run_tallied;
-use imports::parse::{Parsed, record_at};
-use operations::{Answer, Replayed, Run};
+use imports::parse::{Record, record_at};
+use operations::{Halt, Refusal};
 
 pub fn replay_records(
     seg: &mut [u32],
@@ -20,8 +21,8 @@ pub fn replay_records(
     table: &[u8],
     file: &[u8],
     counts: &mut [u32],
-) -> Replayed
-    ensures { meaning.replay result seg.new counts.new
+) -> Result<(), Halt>
+    ensures { meaning.replay (stopped result) seg.new counts.new
         ≡ meaning.replay_from (program regular.now alternate.now table.now) (records_of file.now) seg.old counts.old }
 {
     let mut lengths = [0u32; 15];
@@ -49,33 +50,30 @@ fn one_by_one(
     counts: &mut [u32],
     lengths: &mut [u32],
     ravel: &mut [u32],
-) -> Replayed
+) -> Result<(), Halt>
     requires { (length lengths.old ≡ 15) × (length ravel.old ≡ 16384) }
-    ensures { meaning.replay result seg.new counts.new
+    ensures { meaning.replay (stopped result) seg.new counts.new
         ≡ meaning.replay_from (program regular.now alternate.now table.now) (records_of file.now) seg.old counts.old }
 {
     let mut tested = false;
     let mut place = 0;
     while place < file.len() {
-        match record_at(file, place, lengths, ravel) {
-            Parsed::Malformed => {
-                return Replayed::Malformed(place);
-            }
-            Parsed::Run { budget, next } => {
-                let halt = run_record(seg, regular, alternate, table, budget, counts);
-                if halt != 0 {
-                    return Replayed::Halted(halt, place);
-                }
+        let Some(record) = record_at(file, place, lengths, ravel) else {
+            return Err(Halt::Malformed(place));
+        };
+        match record {
+            Record::Run { budget, next } => {
+                run_record(seg, regular, alternate, table, budget, counts, place)?;
                 tested = false;
                 place = next;
             }
-            Parsed::Load {
+            Record::Load {
                 global,
                 rank,
                 count,
                 next,
             } => {
-                let halt = load_record(
+                load_record(
                     seg,
                     regular,
                     alternate,
@@ -83,19 +81,17 @@ fn one_by_one(
                     global,
                     &lengths[..rank],
                     &ravel[..count],
-                );
-                if halt != 0 {
-                    return Replayed::Halted(halt, place);
-                }
+                    place,
+                )?;
                 tested = true;
                 place = next;
             }
         }
     }
-    Replayed::Done
+    Ok(())
 }
 
-// The number that halts a replay; 0 where it goes on.
+// The run of a record at this place.
 fn run_record(
     seg: &mut [u32],
     regular: &[u8],
@@ -103,20 +99,21 @@ fn run_record(
     table: &[u8],
     budget: u32,
     counts: &mut [u32],
-) -> u8
-    ensures value { result ≡ meaning.run_halt (ran seg.old (program regular.now alternate.now table.now) budget).answer }
+    place: usize,
+) -> Result<(), Halt>
+    ensures value { HaltsAt place (meaning.run_halt (ran seg.old (program regular.now alternate.now table.now) budget).answer) result }
     ensures seg_after { seg.new ≡ (ran seg.old (program regular.now alternate.now table.now) budget).words }
     ensures counts_after { counts.new
         ≡ meaning.tallied seg.old (program regular.now alternate.now table.now) budget counts.old }
 {
     match run_tallied(seg, regular, alternate, table, budget, counts) {
-        Run::Done(_) => 0,
-        Run::Trapped(_) => 3,
-        Run::Refused(number) => number,
+        Ok(Ran::Done(_)) => Ok(()),
+        Ok(Ran::Trapped(_)) => Err(Halt::Trapped(place)),
+        Err(refusal) => Err(Halt::Refused(refusal, place)),
     }
 }
 
-// Are tests 10 to 18 known to pass?
+// The load of a record at this place. Are tests 10 to 18 known to pass?
 fn load_record(
     seg: &mut [u32],
     regular: &[u8],
@@ -125,24 +122,22 @@ fn load_record(
     global: u32,
     lengths: &[u32],
     ravel: &[u32],
-) -> u8
+    place: usize,
+) -> Result<(), Halt>
     requires { Tested tested seg.old regular.now alternate.now }
-    ensures value { result ≡ load_refusal seg.old regular.now alternate.now
-        global lengths.now ravel.now }
+    ensures value { HaltsAt place (load_refusal seg.old regular.now alternate.now
+        global lengths.now ravel.now) result }
     ensures seg_after { seg.new ≡ loaded seg.old regular.now alternate.now
         global lengths.now ravel.now }
 {
     if tested {
-        return number(load_accepted(seg, global, lengths, ravel));
+        return refused_at(place, load_accepted(seg, global, lengths, ravel));
     }
-    number(load(seg, regular, alternate, global, lengths, ravel))
+    refused_at(place, load(seg, regular, alternate, global, lengths, ravel))
 }
 
-fn number(answer: Answer) -> u8
-    ensures { result ≡ status_of answer }
+fn refused_at(place: usize, answer: Result<(), Refusal>) -> Result<(), Halt>
+    ensures { HaltsAt place (status_of (numbered answer)) result }
 {
-    match answer {
-        Answer::Done => 0,
-        Answer::Refused(number) => number,
-    }
+    answer.map_err(|refusal| Halt::Refused(refusal, place))
 }

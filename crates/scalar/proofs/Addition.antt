@@ -3,11 +3,10 @@
 --     plus-near             two multiples of one power of two: the sum is exact
 --     plus-far              a magnitude and a far smaller one: the sum is given up to a sticky bit
 --     plus_comm, plus-zero-left, plus-zero-right, plus-integers
-use Rattle.std.proofs.Common.{◌≡◌, ℕ, ◌+◌, ◌-◌, ◌*◌, ◌/◌, ◌%◌, ◌^◌, ◌<◌, ◌≤◌, Bool, true, false, sym, refl, ap, ◌∙◌, subst, ap₂, ⊎_elim, lt_trans, lt_of_lt_of_le, le_of_lt, mul-le-mul_right, mod-eq_of_lt, mul_assoc, mul_comm, add-mul, eq-zero-or-pos, add_comm, eq-or-lt_of_le, mul-lt-mul_of_pos_right, mul-pos, zero-add, zero-mul, mul-one, sub-add_cancel, div-one, mul-div_cancel, arith, lit<, pow_pos, pow_mono, pow-add, le-ltb, lt-ltb, eq-eqb, ne_eqb}
+use Rattle.std.proofs.Common.{◌≡◌, ℕ, ◌+◌, ◌-◌, ◌*◌, ◌/◌, ◌%◌, ◌^◌, ◌<◌, ◌≤◌, Bool, true, false, sym, refl, ap, ◌∙◌, subst, ap₂, ⊎_elim, lt_trans, lt_of_lt_of_le, le_of_lt, mul-le-mul_right, mod-eq_of_lt, mul_assoc, mul_comm, add-mul, eq-zero-or-pos, add_comm, eq-or-lt_of_le, mul-lt-mul_of_pos_right, mul-pos, zero-add, zero-mul, mul-one, sub-add_cancel, div-one, mul-div_cancel, arith, lit<, pow_pos, pow_mono, pow-add, le-ltb, lt-ltb, eq-eqb, ne_eqb, Ok}
 use native.Mathlib.Nat.{sub-zero, mul-sub}
 use native.Mathlib.Decide.{ℕ_discrete, dec_lt}
-use Rattle.scalar.specs.declared.Answer.{Answer}
-use Rattle.scalar.specs.declared.Answer.TheVariants.{Word}
+use Rattle.scalar.specs.Results.{Answer}
 use Rattle.scalar.specs.Results.{rounded, integer, result}
 use Rattle.scalar.specs.Operators.{sum_sign, sum_size, plus, minus}
 use Rattle.descriptor.specs.Fields.{sign, magnitude}
@@ -65,7 +64,7 @@ plus_comm s n t m = cases s n t m (plus true s n t m ≡ plus true t m s n)
     (λ (q : m < n). plus-by s n t m s (n - m) (more s n t m e l) ∙ sym (plus-by t m s n s (n - m) (less t m s n (λ i. e (sym i)) q)))
     (eq-or-lt_of_le l))
   where
-    nothing : (x a b : ℕ) → b ≡ a → rounded x (a - b) 1 ≡ Word 0
+    nothing : (x a b : ℕ) → b ≡ a → rounded x (a - b) 1 ≡ Ok 0
     nothing x a b q = ap (λ (y : ℕ). rounded x y 1) (let z : a - b ≡ 0 = omega arith in z) ∙ rounded-none x 1
 
 pub plus-zero-left : (s t m : ℕ) → plus true s 0 t m ≡ rounded t m 1
@@ -277,7 +276,7 @@ module _ (s n t m g d : ℕ) (k : SignedSum s n t m g d) where
   pub added-near : (e : ℕ) → rounded g (d * 2 ^ (e + 150)) one ≡ plus true s (n * 2 ^ e) t (m * 2 ^ e)
   added-near e = same (λ x y. rounded x (y * 2 ^ (e + 150)) one) (λ x y. nothing x ∙ sym (nothing y)) ∙ sym (plus-near s n t m e)
     where
-      nothing : (x : ℕ) → rounded x (0 * 2 ^ (e + 150)) one ≡ Word 0
+      nothing : (x : ℕ) → rounded x (0 * 2 ^ (e + 150)) one ≡ Ok 0
       nothing x = ap (λ (y : ℕ). rounded x y one) (zero-mul (2 ^ (e + 150))) ∙ rounded-none x one
 
 -- ---- the sum of two words

@@ -1,5 +1,5 @@
 -- Laws of rounding to a whole number of ones, down or up.
-use Rattle.std.proofs.Common.{◌≡◌, ℕ, ◌+◌, ◌-◌, ◌*◌, ◌/◌, ◌%◌, ◌^◌, ◌<◌, ◌≤◌, sym, refl, ap, ◌∙◌, subst, lt_of_lt_of_le, lt_irrefl, mul-le-mul_right, mod-lt, mod-eq_of_lt, mul-le-mul, pos_of_ne-zero, mul-pos, one-mul, div-add-mod', zero-mul, mul-div_cancel, arith, lit<, pow_pos, pow_mono, le-ltb, lt-ltb, eq-eqb, ne_eqb}
+use Rattle.std.proofs.Common.{◌≡◌, ℕ, ◌+◌, ◌-◌, ◌*◌, ◌/◌, ◌%◌, ◌^◌, ◌<◌, ◌≤◌, sym, refl, ap, ◌∙◌, subst, lt_of_lt_of_le, lt_irrefl, mul-le-mul_right, mod-lt, mod-eq_of_lt, mul-le-mul, pos_of_ne-zero, mul-pos, one-mul, div-add-mod', zero-mul, mul-div_cancel, arith, lit<, pow_pos, pow_mono, le-ltb, lt-ltb, eq-eqb, ne_eqb, Ok}
 use native.Mathlib.Nat.{mul-div-mul_right, div-eq_of_lt}
 use lib.Arith.{digits_div}
 use lib.Pow.{pow-lt}
@@ -8,7 +8,6 @@ use Rattle.descriptor.specs.Fields.{sign}
 use Rattle.scalar.specs.Results.{integer}
 use Rattle.scalar.specs.Operators.{ones, whole_near}
 use Rattle.scalar.specs.Parts.{Unpacked}
-use Rattle.scalar.specs.declared.Answer.TheVariants.{Word}
 use Rattle.scalar.proofs.Units.{units-integer, units-float}
 use Rattle.scalar.proofs.Rounding.{join, up_lt}
 use Rattle.scalar.proofs.Addition.{either}
@@ -91,7 +90,7 @@ module _ (w up g e : ℕ) (u : Unpacked w g e) where
       pos_of_ne-zero (λ (z : g ≡ 0). lt_irrefl 0
       (subst (λ (x : ℕ). 0 < x) (sym (units-float w n) ∙ u.value ∙ ap (λ (x : ℕ). x * 2 ^ e) z ∙ zero-mul (2 ^ e)) (mul-pos {m = 2 ^ 22 + w % 2 ^ 22} (omega arith) (pow_pos (w / 2 ^ 22 % 2 ^ 8)))))
 
-  pub whole-large : 150 < e → (w / 2 ^ 30 % 2 ≡ 0 → ⊥) → Word w ≡ whole_near up w
+  pub whole-large : 150 < e → (w / 2 ^ 30 % 2 ≡ 0 → ⊥) → Ok w ≡ whole_near up w
   unfolding whole_near
   whole-large h n =
       let p = digits-pos n in

@@ -7,7 +7,7 @@ use Rattle.scalar.specs.Value.{one_float}
 use Rattle.scalar.specs.Results.{type_error}
 use Rattle.scalar.specs.Operators.{number, numbers}
 use Rattle.scalar.specs.Parts.{both_small, one_character}
-use Rattle.scalar.specs.declared.Answer.{Answer}
+use Rattle.scalar.specs.Results.{Answer}
 
 -- ---- floats
 

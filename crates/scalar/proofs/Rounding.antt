@@ -1,7 +1,7 @@
 -- Laws of the definitions of `specs/Scalar.antt`. Assumes nothing.
 --     closest-cases      what holds of `closest` by how the remainder compares with a half
 --     rounded-none, rounded-under, rounded-at      `rounded` at zero, below 2 ^ 22 units, and with its exponent known
-use Rattle.std.proofs.Common.{◌≡◌, ℕ, suc, ◌+◌, ◌-◌, ◌*◌, ◌/◌, ◌%◌, ◌^◌, ◌<◌, ◌≤◌, Bool, cond, not, T, eqb, ltb, sym, refl, ap, ◌∙◌, subst, ap₂, ⊎_elim, le_trans, le_of_eq, lt_of_lt_of_le, le_of_suc-le-suc, lt_of_le_of_lt, lt_irrefl, mul-le-mul_right, mod-eq_of_lt, mul_assoc, div-lt_iff_lt-mul, eq-zero-or-pos, mul-le-mul, le_antisymm, lt_of_mul-lt-mul_right, eq-or-lt_of_le, mul-le-mul_left, mul-lt-mul_of_pos_right, mul-pos, lt_of_not-le, le-div_iff_mul-le, zero-mul, mul_right_comm, not-le_of_lt, le_of_mul-le-mul_right, arith, lit<, eqb→eq, leb→le, pow_pos, pow_mono, pow-add, le-ltb, lt-ltb, eq-eqb, ne_eqb}
+use Rattle.std.proofs.Common.{◌≡◌, ℕ, suc, ◌+◌, ◌-◌, ◌*◌, ◌/◌, ◌%◌, ◌^◌, ◌<◌, ◌≤◌, Bool, cond, not, T, eqb, ltb, sym, refl, ap, ◌∙◌, subst, ap₂, ⊎_elim, le_trans, le_of_eq, lt_of_lt_of_le, le_of_suc-le-suc, lt_of_le_of_lt, lt_irrefl, mul-le-mul_right, mod-eq_of_lt, mul_assoc, div-lt_iff_lt-mul, eq-zero-or-pos, mul-le-mul, le_antisymm, lt_of_mul-lt-mul_right, eq-or-lt_of_le, mul-le-mul_left, mul-lt-mul_of_pos_right, mul-pos, lt_of_not-le, le-div_iff_mul-le, zero-mul, mul_right_comm, not-le_of_lt, le_of_mul-le-mul_right, arith, lit<, eqb→eq, leb→le, pow_pos, pow_mono, pow-add, le-ltb, lt-ltb, eq-eqb, ne_eqb, Ok, Err}
 use Prim.Native.Nat.{compare, Ordering}
 use native.Mathlib.Nat.{eq_of_mul-eq-mul_right}
 use native.Mathlib.Decide.{dec_lt}
@@ -11,8 +11,8 @@ use lib.Arith.{lt_of_le-ne}
 use lib.Ieee.{nearest, size}
 use lib.Ieee.Digits.{size-lt, size-le}
 use lib.Ieee.Nearest.{closest, closest_same, div_same}
-use Rattle.scalar.specs.declared.Answer.TheVariants.{Word, Trap}
 use Rattle.descriptor.specs.Fields.{integer_word}
+use Rattle.trap.specs.Trap.{trap_of}
 use Rattle.scalar.specs.Results.{rounded, float, integer, integer_overflow}
 
 -- ---- `closest`
@@ -31,11 +31,11 @@ closest-is a b x l e g = closest-cases (λ (m : ℕ). x ≡ m) a b l e g
 
 -- ---- `rounded`
 
-pub rounded-none : (s den : ℕ) → rounded s 0 den ≡ Word 0
+pub rounded-none : (s den : ℕ) → rounded s 0 den ≡ Ok 0
 unfolding rounded
 rounded-none s den = refl
 
-pub rounded-under : (s num den : ℕ) → 0 < num → num < 2 ^ 22 * den → rounded s num den ≡ Trap 8 2
+pub rounded-under : (s num den : ℕ) → 0 < num → num < 2 ^ 22 * den → rounded s num den ≡ Err (trap_of 8 2)
 unfolding rounded
 rounded-under s num den p h = simp (ne_eqb num 0 (omega arith), lt-ltb num (2 ^ 22 * den) h)
 
@@ -55,11 +55,11 @@ rounded-at s num den e p lo hi =
 -- ---- `float`: whether it passes 2 ^ 278 units is seen in the bits below bit 30
 
 module _ (s m e : ℕ) (lo : 2 ^ 22 ≤ m) (hi : m ≤ 2 ^ 23) where
-  pub float_fits : e * 2 ^ 22 + (m - 2 ^ 22) < 2 ^ 30 → float s m e ≡ Word (s * 2 ^ 31 + 2 ^ 30 + (e * 2 ^ 22 + (m - 2 ^ 22)))
+  pub float_fits : e * 2 ^ 22 + (m - 2 ^ 22) < 2 ^ 30 → float s m e ≡ Ok (s * 2 ^ 31 + 2 ^ 30 + (e * 2 ^ 22 + (m - 2 ^ 22)))
   unfolding float
   float_fits b =
       simp (lt-ltb (m * 2 ^ e) (2 ^ 278) (⊎_elim (λ (q : m ≡ 2 ^ 23). even q) (λ (q : m < 2 ^ 23). odd q) (eq-or-lt_of_le hi)))
-      (ap (λ (w : ℕ). Word w) (omega arith))
+      (ap (λ (w : ℕ). Ok w) (omega arith))
     where
       even : m ≡ 2 ^ 23 → m * 2 ^ e < 2 ^ 278
       even q = lt_of_le_of_lt (mul-le-mul {n₁ = m} {m₁ = 2 ^ e} {n₂ = 2 ^ 23} {m₂ = 2 ^ 254} hi (pow_mono {i = e} {j = 254} (omega arith))) (lit< tt)
@@ -67,7 +67,7 @@ module _ (s m e : ℕ) (lo : 2 ^ 22 ≤ m) (hi : m ≤ 2 ^ 23) where
       odd : m < 2 ^ 23 → m * 2 ^ e < 2 ^ 278
       odd q = lt_of_lt_of_le (mul-lt-mul_of_pos_right {m = m} {n = 2 ^ 23} {k = 2 ^ e} q (pow_pos e)) (mul-le-mul_left {m = 2 ^ e} {n = 2 ^ 255} (2 ^ 23) (pow_mono {i = e} {j = 255} (omega arith)))
 
-  pub float-over : 2 ^ 30 ≤ e * 2 ^ 22 + (m - 2 ^ 22) → float s m e ≡ Trap 8 3
+  pub float-over : 2 ^ 30 ≤ e * 2 ^ 22 + (m - 2 ^ 22) → float s m e ≡ Err (trap_of 8 3)
   unfolding float
   float-over b = simp (le-ltb (m * 2 ^ e) (2 ^ 278) (⊎_elim (λ (q : m ≡ 2 ^ 23). even q) (λ (q : m < 2 ^ 23). odd q) (eq-or-lt_of_le hi)))
     where
@@ -117,7 +117,7 @@ module _ (s q e : ℕ) (p : 0 < q) (f : q < 2 ^ 64) where
   pub digits_le : digits ≤ 2 ^ 23
   digits_le = let k = normal-kept in let g = normal-lt in closest-cases (λ (m : ℕ). m ≤ 2 ^ 23) ((q * 2 ^ zeros q) % 2 ^ 64) (2 ^ 41) (λ h. omega arith) (λ h. omega arith) (λ h. omega arith)
 
-  pub shifted-under : e < zeros q + 109 → rounded s (q * 2 ^ e) (2 ^ 150) ≡ Trap 8 2
+  pub shifted-under : e < zeros q + 109 → rounded s (q * 2 ^ e) (2 ^ 150) ≡ Err (trap_of 8 2)
   shifted-under h =
       let t = leading_top 64 q p f in
       rounded-under s (q * 2 ^ e) (2 ^ 150) (mul-pos p (pow_pos e))
@@ -140,15 +140,15 @@ module _ (s q e : ℕ) (p : 0 < q) (f : q < 2 ^ 64) where
           ∙ sym (mul_assoc q (2 ^ zeros q) (2 ^ 150 * 2 ^ x))
 
   -- what `round_at` returns for the digits m
-  pub returned : (m : ℕ) → m ≡ digits → zeros q + 109 ≤ e → (e - (zeros q + 109)) * 2 ^ 22 + (m - 2 ^ 22) < 2 ^ 30 → Word (s * 2 ^ 31 + 2 ^ 30 + ((e - (zeros q + 109)) * 2 ^ 22 + (m - 2 ^ 22))) ≡ rounded s (q * 2 ^ e) (2 ^ 150)
+  pub returned : (m : ℕ) → m ≡ digits → zeros q + 109 ≤ e → (e - (zeros q + 109)) * 2 ^ 22 + (m - 2 ^ 22) < 2 ^ 30 → Ok (s * 2 ^ 31 + 2 ^ 30 + ((e - (zeros q + 109)) * 2 ^ 22 + (m - 2 ^ 22))) ≡ rounded s (q * 2 ^ e) (2 ^ 150)
   returned m k h b =
       sym (shifted_at h ∙ ap (λ (y : ℕ). float s y (e - (zeros q + 109))) (sym k) ∙ float_fits s m (e - (zeros q + 109)) (subst (λ (y : ℕ). 2 ^ 22 ≤ y) (sym k) digits-ge) (subst (λ (y : ℕ). y ≤ 2 ^ 23) (sym k) digits_le) b)
 
-  pub returned-over : (m : ℕ) → m ≡ digits → zeros q + 109 ≤ e → 2 ^ 30 ≤ (e - (zeros q + 109)) * 2 ^ 22 + (m - 2 ^ 22) → Trap 8 3 ≡ rounded s (q * 2 ^ e) (2 ^ 150)
+  pub returned-over : (m : ℕ) → m ≡ digits → zeros q + 109 ≤ e → 2 ^ 30 ≤ (e - (zeros q + 109)) * 2 ^ 22 + (m - 2 ^ 22) → Err (trap_of 8 3) ≡ rounded s (q * 2 ^ e) (2 ^ 150)
   returned-over m k h b =
       sym (shifted_at h ∙ ap (λ (y : ℕ). float s y (e - (zeros q + 109))) (sym k) ∙ float-over s m (e - (zeros q + 109)) (subst (λ (y : ℕ). 2 ^ 22 ≤ y) (sym k) digits-ge) (subst (λ (y : ℕ). y ≤ 2 ^ 23) (sym k) digits_le) b)
 
-pub returned-none : (s q e den : ℕ) → q ≡ 0 → Word 0 ≡ rounded s (q * 2 ^ e) den
+pub returned-none : (s q e den : ℕ) → q ≡ 0 → Ok 0 ≡ rounded s (q * 2 ^ e) den
 returned-none s q e den h = sym (ap (λ (x : ℕ). rounded s (x * 2 ^ e) den) h ∙ ap (λ (x : ℕ). rounded s x den) (zero-mul (2 ^ e)) ∙ rounded-none s den)
 
 -- ---- equal fractions round alike
@@ -160,10 +160,10 @@ pub rounded-same : (s a b c d : ℕ) → 0 < b → 0 < d → a * d ≡ c * b →
 unfolding rounded
 rounded-same s a b c d p q e =
     let k : ℕ = size (c / d) - 23 in
-    ap (λ (n : ℕ). cond (eqb a 0) (Word 0) (cond (ltb a (2 ^ 22 * b)) (Trap 8 2) (float s (closest a (b * 2 ^ (size n - 23))) (size n - 23)))) (div_same a b c d p q e)
-    ∙ ap (λ (m : ℕ). cond (eqb a 0) (Word 0) (cond (ltb a (2 ^ 22 * b)) (Trap 8 2) (float s m k)))
+    ap (λ (n : ℕ). cond (eqb a 0) (Ok 0) (cond (ltb a (2 ^ 22 * b)) (Err (trap_of 8 2)) (float s (closest a (b * 2 ^ (size n - 23))) (size n - 23)))) (div_same a b c d p q e)
+    ∙ ap (λ (m : ℕ). cond (eqb a 0) (Ok 0) (cond (ltb a (2 ^ 22 * b)) (Err (trap_of 8 2)) (float s m k)))
     (closest_same a (b * 2 ^ k) c (d * 2 ^ k) (mul-pos p (pow_pos k)) (mul-pos q (pow_pos k)) (sym (mul_assoc a d (2 ^ k)) ∙ ap (λ (x : ℕ). x * 2 ^ k) e ∙ mul_assoc c b (2 ^ k)))
-    ∙ ap₂ (λ (t u : Bool). cond t (Word 0) (cond u (Trap 8 2) (float s (closest c (d * 2 ^ k)) k))) none under
+    ∙ ap₂ (λ (t u : Bool). cond t (Ok 0) (cond u (Err (trap_of 8 2)) (float s (closest c (d * 2 ^ k)) k))) none under
   where
     -- a is 0 when c is, and below 2 ^ 22 b when c is below 2 ^ 22 d
     none : eqb a 0 ≡ eqb c 0
@@ -178,14 +178,14 @@ rounded-same s a b c d p q e =
 -- ---- integers
 
 module _ (s n : ℕ) where
-  pub integer-none : n ≡ 0 → Word 0 ≡ integer s n
+  pub integer-none : n ≡ 0 → Ok 0 ≡ integer s n
   unfolding integer
   integer-none h = ap (integer s) (sym h)
 
-  pub integer-fits : (n ≡ 0 → ⊥) → n < 2 ^ 23 → Word (s * 2 ^ 31 + n) ≡ integer s n
+  pub integer-fits : (n ≡ 0 → ⊥) → n < 2 ^ 23 → Ok (s * 2 ^ 31 + n) ≡ integer s n
   unfolding integer
-  integer-fits h l = sym (ap₂ (λ (t u : Bool). cond t (Word (cond u 0 (s * 2 ^ 31 + n))) integer_overflow) (lt-ltb n (2 ^ 23) l) (ne_eqb n 0 h))
+  integer-fits h l = sym (ap₂ (λ (t u : Bool). cond t (Ok (cond u 0 (s * 2 ^ 31 + n))) integer_overflow) (lt-ltb n (2 ^ 23) l) (ne_eqb n 0 h))
 
   pub integer-over : 2 ^ 23 ≤ n → integer_overflow ≡ integer s n
   unfolding integer
-  integer-over l = sym (ap (λ (t : Bool). cond t (Word (integer_word s n)) integer_overflow) (le-ltb n (2 ^ 23) l))
+  integer-over l = sym (ap (λ (t : Bool). cond t (Ok (integer_word s n)) integer_overflow) (le-ltb n (2 ^ 23) l))

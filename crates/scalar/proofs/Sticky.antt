@@ -1,12 +1,12 @@
 -- A number that lies strictly between 2 h and 2 h + 2 of some power of two rounds as 2 h + 1 of it does, if h has at least 24 binary digits (`rounded-sticky`).
 -- So an operation need keep only its result's first digits, h, and one bit that says whether anything was left out. Assumes nothing.
-use Rattle.std.proofs.Common.{◌≡◌, ℕ, suc, ◌+◌, ◌-◌, ◌*◌, ◌/◌, ◌%◌, ◌^◌, ◌<◌, ◌≤◌, Bool, true, false, not, T, ltb, sym, ap, ◌∙◌, subst, zero-le, le_trans, le_of_eq, lt_of_lt_of_le, lt_of_le_of_lt, le_of_lt, mul-le-mul_right, mod-lt, mul_assoc, mul_comm, lt_of_mul-lt-mul_right, mul-lt-mul_of_pos_right, mul-pos, lt_of_not-le, div-add-mod', mul_right_comm, not-le_of_lt, le_of_mul-le-mul_right, arith, lit<, ltb→lt, nltb→le, pow_pos, pow_mono, pow-add}
+use Rattle.std.proofs.Common.{◌≡◌, ℕ, suc, ◌+◌, ◌-◌, ◌*◌, ◌/◌, ◌%◌, ◌^◌, ◌<◌, ◌≤◌, Bool, true, false, not, T, ltb, sym, ap, ◌∙◌, subst, zero-le, le_trans, le_of_eq, lt_of_lt_of_le, lt_of_le_of_lt, le_of_lt, mul-le-mul_right, mod-lt, mul_assoc, mul_comm, lt_of_mul-lt-mul_right, mul-lt-mul_of_pos_right, mul-pos, lt_of_not-le, div-add-mod', mul_right_comm, not-le_of_lt, le_of_mul-le-mul_right, arith, lit<, ltb→lt, nltb→le, pow_pos, pow_mono, pow-add, Err}
 use native.Mathlib.Nat.{pow-succ'}
 use lib.Arith.{digits_div, digits_mod}
 use lib.Ieee.{size}
 use lib.Ieee.Digits.{size-lt, size_reaches}
 use lib.Ieee.Nearest.{closest, closest_same}
-use Rattle.scalar.specs.declared.Answer.TheVariants.{Trap}
+use Rattle.trap.specs.Trap.{trap_of}
 use Rattle.scalar.specs.Results.{rounded, float}
 use Rattle.scalar.proofs.Rounding.{closest-cases, rounded-under, rounded-at, join}
 
@@ -80,7 +80,7 @@ module _ (n m h v : ℕ) (p : 0 < v) (lo : 2 * h * m < n) (hi : n < (2 * h + 2) 
 -- ---- a fraction from 2 ^ i up to 2 ^ (i + 1), in units over 2 ^ 150
 
 module _ (s num den i : ℕ) (p : 0 < den) (lo : 2 ^ i * den ≤ num * 2 ^ 150) (hi : num * 2 ^ 150 < 2 ^ suc i * den) where
-  pub decade-under : 0 < num → i < 172 → rounded s num den ≡ Trap 8 2
+  pub decade-under : 0 < num → i < 172 → rounded s num den ≡ Err (trap_of 8 2)
   decade-under g h =
       rounded-under s num den g
       (lt_of_mul-lt-mul_right (2 ^ 150) {m = num} {n = 2 ^ 22 * den} (lt_of_lt_of_le hi (le_trans (mul-le-mul_right den (pow_mono {i = suc i} {j = 172} h)) (le_of_eq (mul_right_comm (2 ^ 22) (2 ^ 150) den)))))

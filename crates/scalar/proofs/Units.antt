@@ -1,10 +1,9 @@
 -- What `units` is of an integer and of a float, and an integer's magnitude with its top bit brought to bit 22.
-use Rattle.std.proofs.Common.{◌≡◌, ℕ, suc, ◌+◌, ◌-◌, ◌*◌, ◌/◌, ◌%◌, ◌^◌, ◌<◌, ◌≤◌, Bool, true, false, cond, eqb, sym, refl, ap, ◌∙◌, subst, lt_trans, lt_of_le_of_lt, lt_irrefl, mod-eq_of_lt, mul_assoc, pos_of_ne-zero, mul-pos, lt_of_not-le, zero-mul, not-le_of_lt, arith, lit<, pow_pos, pow_mono, eq-eqb, ne_eqb, eqb-true}
+use Rattle.std.proofs.Common.{◌≡◌, ℕ, suc, ◌+◌, ◌-◌, ◌*◌, ◌/◌, ◌%◌, ◌^◌, ◌<◌, ◌≤◌, Bool, true, false, cond, eqb, sym, refl, ap, ◌∙◌, subst, lt_trans, lt_of_le_of_lt, lt_irrefl, mod-eq_of_lt, mul_assoc, pos_of_ne-zero, mul-pos, lt_of_not-le, zero-mul, not-le_of_lt, arith, lit<, pow_pos, pow_mono, eq-eqb, ne_eqb, eqb-true, Ok}
 use lib.Count.{count_leading_zeros, leading_top}
 use Rattle.scalar.specs.Value.{one, units}
 use Rattle.descriptor.specs.Fields.{integer_word}
 use Rattle.scalar.specs.Operators.{with_sign}
-use Rattle.scalar.specs.declared.Answer.TheVariants.{Word}
 use Rattle.scalar.specs.Parts.{Unpacked, Normal}
 use Rattle.scalar.proofs.Operands.{not_float, is-float}
 use Rattle.scalar.proofs.Rounding.{join, up_le, up_lt}
@@ -60,19 +59,19 @@ module _ (m : ℕ) (p : 0 < m) (f : m < 2 ^ 23) where
 -- ---- a number with another sign
 
 module _ (s w : ℕ) where
-  signed : (t : Bool) → eqb (units w) 0 ≡ t → Word (cond t 0 (s * 2 ^ 31 + w % 2 ^ 31)) ≡ with_sign s w
-  signed t h = ap (λ (x : Bool). Word (cond x 0 (s * 2 ^ 31 + w % 2 ^ 31))) (sym h)
+  signed : (t : Bool) → eqb (units w) 0 ≡ t → Ok (cond t 0 (s * 2 ^ 31 + w % 2 ^ 31)) ≡ with_sign s w
+  signed t h = ap (λ (x : Bool). Ok (cond x 0 (s * 2 ^ 31 + w % 2 ^ 31))) (sym h)
 
-  pub sign-none : w / 2 ^ 30 % 2 ≡ 0 → w % 2 ^ 23 ≡ 0 → Word 0 ≡ with_sign s w
+  pub sign-none : w / 2 ^ 30 % 2 ≡ 0 → w % 2 ^ 23 ≡ 0 → Ok 0 ≡ with_sign s w
   sign-none h z = signed true (eq-eqb (units w) 0 (units-integer w h ∙ ap (λ (x : ℕ). x * one) z ∙ zero-mul one))
 
-  some : (n e : ℕ) → units w ≡ n * 2 ^ e → 0 < n → Word (s * 2 ^ 31 + w % 2 ^ 31) ≡ with_sign s w
+  some : (n e : ℕ) → units w ≡ n * 2 ^ e → 0 < n → Ok (s * 2 ^ 31 + w % 2 ^ 31) ≡ with_sign s w
   some n e q p = signed false (ne_eqb (units w) 0 (λ (z : units w ≡ 0). lt_irrefl 0 (subst (λ (x : ℕ). 0 < x) (sym q ∙ z) (mul-pos p (pow_pos e)))))
 
-  pub sign-integer : w / 2 ^ 30 % 2 ≡ 0 → (w % 2 ^ 23 ≡ 0 → ⊥) → Word (s * 2 ^ 31 + w % 2 ^ 31) ≡ with_sign s w
+  pub sign-integer : w / 2 ^ 30 % 2 ≡ 0 → (w % 2 ^ 23 ≡ 0 → ⊥) → Ok (s * 2 ^ 31 + w % 2 ^ 31) ≡ with_sign s w
   sign-integer h z = some (w % 2 ^ 23) 150 (units-integer w h) (pos_of_ne-zero z)
 
-  pub sign-float : (w / 2 ^ 30 % 2 ≡ 0 → ⊥) → Word (s * 2 ^ 31 + w % 2 ^ 31) ≡ with_sign s w
+  pub sign-float : (w / 2 ^ 30 % 2 ≡ 0 → ⊥) → Ok (s * 2 ^ 31 + w % 2 ^ 31) ≡ with_sign s w
   sign-float h = some (2 ^ 22 + w % 2 ^ 22) (w / 2 ^ 22 % 2 ^ 8) (units-float w h) (omega arith)
 
 pub unpacked-normal : {w g e : ℕ} → Unpacked w g e → (g ≡ 0 → ⊥) → Normal g e

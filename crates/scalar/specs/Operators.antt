@@ -1,7 +1,7 @@
 -- The sixteen operators of the GENSCALAR family on scalars, in the manual's order and words. Operand a is the first.
 -- A reader must believe: each is the manual's, with document 01's zero and the order of decision 17 (each line of a trap
 -- list is judged over both operands before the next), but for LESS and EQUAL of numbers, which are paper 4's. Assumes nothing.
-use Rattle.std.specs.Prelude.{ℕ, ◌+◌, ◌-◌, ◌*◌, ◌/◌, ◌%◌, ◌^◌, Bool, true, false, cond, not, ◌&&◌, ◌||◌, ◌==◌, nat_lt}
+use Rattle.std.specs.Prelude.{ℕ, ◌+◌, ◌-◌, ◌*◌, ◌/◌, ◌%◌, ◌^◌, Bool, true, false, cond, not, ◌&&◌, ◌||◌, ◌==◌, nat_lt, Ok}
 use Rattle.descriptor.specs.Fields.{sign, is_character, integer_word, character_word}
 use Rattle.descriptor.specs.Kinds.{bit}
 use Rattle.operator.specs.declared.Monadic.{Monadic}
@@ -16,8 +16,7 @@ use Rattle.scalar.specs.declared.Whole.{Whole}
 use Rattle.scalar.specs.declared.Whole.TheVariants as W
 use Rattle.scalar.specs.declared.Truth.{Truth}
 use Rattle.scalar.specs.declared.Truth.TheVariants as T
-use Rattle.scalar.specs.declared.Answer.{Answer}
-use Rattle.scalar.specs.declared.Answer.TheVariants.{Word}
+use Rattle.scalar.specs.Results.{Answer}
 
 -- "(7,0) -- Type error if the operand is of character type", or either of them.
 abbrev pub number : ℕ → Answer → Answer
@@ -29,11 +28,11 @@ numbers a b answer = cond (is_character a || is_character b) type_error answer
 -- ---- of one operand
 
 unfoldable pub identity : ℕ → Answer
-identity a = number a (Word a)
+identity a = number a (Ok a)
 
 -- The number of a with the sign s; zero has none.
 abbrev pub with_sign : ℕ → ℕ → Answer
-with_sign s a = Word (cond (units a == 0) 0 (s * 2 ^ 31 + a % 2 ^ 31))
+with_sign s a = Ok (cond (units a == 0) 0 (s * 2 ^ 31 + a % 2 ^ 31))
 
 unfoldable pub negative : ℕ → Answer
 negative a = number a (with_sign (1 - sign a) a)
@@ -45,7 +44,7 @@ ones up n = cond (up == 0) (n / one) ((n + (one - 1)) / one)
 -- "of integer type unless the operand is a floating-point number greater than or equal to 2 ^ 23 in magnitude" (2 ^ 173 units)
 unfoldable pub whole_near : ℕ → ℕ → Answer
 unfolding ones
-whole_near up a = cond (nat_lt (units a) (2 ^ 173)) (integer (sign a) (ones up (units a))) (Word a)
+whole_near up a = cond (nat_lt (units a) (2 ^ 173)) (integer (sign a) (ones up (units a))) (Ok a)
 
 -- "the greatest integer not larger": a negative number's magnitude goes up.
 unfoldable pub floor : ℕ → Answer
@@ -62,21 +61,21 @@ magnitude_of a = number a (with_sign 0 a)
 abbrev pub not_truth : Truth → Answer
 not_truth T.Character = type_error
 not_truth T.Other = domain_error
-not_truth (T.Value p) = Word (bit (not p))
+not_truth (T.Value p) = Ok (bit (not p))
 
 unfoldable pub not_of : ℕ → Answer
 not_of a = not_truth (truth_of a)
 
 unfoldable pub test_number : ℕ → Answer
-test_number a = Word (bit (not (is_character a)))
+test_number a = Ok (bit (not (is_character a)))
 
 -- A character gives its code, a whole number from 0 to 255 the character of that code.
 abbrev pub character_of : Bool → ℕ → Answer
 character_of true n = domain_error
-character_of false n = cond (nat_lt n (2 ^ 8)) (Word (character_word n)) domain_error
+character_of false n = cond (nat_lt n (2 ^ 8)) (Ok (character_word n)) domain_error
 
 abbrev pub converted : ℕ → Whole → Answer
-converted a W.Character = Word (integer_word 0 (character_code a))
+converted a W.Character = Ok (integer_word 0 (character_code a))
 converted a W.Fraction = domain_error
 converted a (W.Number negative n) = character_of negative n
 
@@ -130,7 +129,7 @@ logical f T.Other T.Other = domain_error
 logical f T.Other (T.Value q) = domain_error
 logical f (T.Value p) T.Character = type_error
 logical f (T.Value p) T.Other = domain_error
-logical f (T.Value p) (T.Value q) = Word (bit (f p q))
+logical f (T.Value p) (T.Value q) = Ok (bit (f p q))
 
 unfoldable pub logical_product : ℕ → ℕ → Answer
 logical_product a b = logical ◌&&◌ (truth_of a) (truth_of b)
@@ -140,13 +139,13 @@ logical_sum a b = logical ◌||◌ (truth_of a) (truth_of b)
 
 -- Of two numbers, by their exact values: LESS traps for a character alone, EQUAL never.
 unfoldable pub less : ℕ → ℕ → Answer
-less a b = numbers a b (Word (bit (is_below a b)))
+less a b = numbers a b (Ok (bit (is_below a b)))
 
 -- "A character scalar is equal only to another character scalar possessing the same character code."
 unfoldable pub equal : ℕ → ℕ → Answer
 equal a b =
-    cond (is_character a) (Word (bit (is_character b && character_code a == character_code b)))
-    (cond (is_character b) (Word 0) (Word (bit (is_equal a b))))
+    cond (is_character a) (Ok (bit (is_character b && character_code a == character_code b)))
+    (cond (is_character b) (Ok 0) (Ok (bit (is_equal a b))))
 
 -- ---- all of them
 

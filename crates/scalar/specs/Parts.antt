@@ -1,7 +1,9 @@
 -- What the contracts of the inner functions say. Nothing here need be believed: the operators' contracts do not cite it.
 -- Assumes nothing.
-use Rattle.std.specs.Prelude.{◌≡◌, ℕ, ◌+◌, ◌-◌, ◌*◌, ◌/◌, ◌%◌, ◌^◌, ◌<◌, ◌≤◌, Bool, cond, ◌&&◌, ◌||◌, ◌⊎◌, ◌==◌, nat_lt}
+use Rattle.std.specs.Prelude.{◌≡◌, ℕ, ◌+◌, ◌-◌, ◌*◌, ◌/◌, ◌%◌, ◌^◌, ◌<◌, ◌≤◌, Bool, cond, ◌&&◌, ◌||◌, ◌⊎◌, ◌==◌, nat_lt, Result, Ok, Err}
+use Rattle.trap.specs.declared.Trap.{Trap}
 use Rattle.descriptor.specs.Fields.{sign, is_character}
+use Rattle.descriptor.specs.Kinds.{bit}
 use Rattle.scalar.specs.Value.{units}
 use Rattle.scalar.specs.Operators.{sum_sign, sum_size}
 
@@ -53,3 +55,8 @@ pub record SignedSum (s n t m sign size : ℕ) : Type 0 where
   pub signed : 0 < size → sign ≡ sum_sign s n t m
   pub bit : sign < 2
   pub short : size < 2 ^ 63
+
+-- What becomes of two operands that were read as zero or one.
+abbrev pub combined : (Bool → Bool → Bool) → Result (Bool × Bool) Trap → Result ℕ Trap
+combined f (Ok operands) = Ok (bit (f operands.0 operands.1))
+combined f (Err t) = Err t

@@ -3,40 +3,44 @@
 -- 1, and a magnitude num / den in units of 2 ^ -150. The traps are those of the manual's appendix.
 -- A reader must believe: the limits, and that `closest` and `size` are the nearest whole number and the count of binary
 -- digits (the theorems `Rounding` say what `rounded` is without them). Assumes nothing.
-use Rattle.std.specs.Prelude.{ℕ, ◌+◌, ◌-◌, ◌*◌, ◌/◌, ◌^◌, Bool, cond, ◌==◌, nat_lt}
+use Rattle.std.specs.Prelude.{ℕ, ◌+◌, ◌-◌, ◌*◌, ◌/◌, ◌^◌, Bool, cond, ◌==◌, nat_lt, Result, Ok, Err}
 use Rattle.std.specs.Float.Ieee.{size}
 use Rattle.std.specs.Float.Ieee.Nearest.{closest}
 use Rattle.descriptor.specs.Fields.{integer_limit, integer_word, float_word}
+use Rattle.trap.specs.declared.Trap.{Trap}
+use Rattle.trap.specs.Trap.{trap_of}
 use Rattle.scalar.specs.Value.{one}
-use Rattle.scalar.specs.declared.Answer.{Answer}
-use Rattle.scalar.specs.declared.Answer.TheVariants.{Word, Trap}
+
+-- A scalar's word, or a trap.
+abbrev pub Answer : Type 0
+Answer = Result ℕ Trap
 
 abbrev pub type_error : Answer
-type_error = Trap 7 0
+type_error = Err (trap_of 7 0)
 
 abbrev pub integer_overflow : Answer
-integer_overflow = Trap 8 1
+integer_overflow = Err (trap_of 8 1)
 
 abbrev pub underflow : Answer
-underflow = Trap 8 2
+underflow = Err (trap_of 8 2)
 
 abbrev pub overflow : Answer
-overflow = Trap 8 3
+overflow = Err (trap_of 8 3)
 
 abbrev pub zero_divisor : Answer
-zero_divisor = Trap 8 4
+zero_divisor = Err (trap_of 8 4)
 
 abbrev pub domain_error : Answer
-domain_error = Trap 8 5
+domain_error = Err (trap_of 8 5)
 
 -- The integer of magnitude n, which is at most the integer limit.
 unfoldable pub integer : ℕ → ℕ → Answer
-integer s n = cond (nat_lt n (integer_limit + 1)) (Word (integer_word s n)) integer_overflow
+integer s n = cond (nat_lt n (integer_limit + 1)) (Ok (integer_word s n)) integer_overflow
 
 -- The float of m * 2 ^ e units, for an m of 23 digits: below 2 ^ 128, which is 2 ^ 278 units. Rounding may have made m
 -- 2 ^ 23; the fraction's carry then makes the exponent one more and the fraction 0.
 unfoldable pub float : ℕ → ℕ → ℕ → Answer
-float s m e = cond (nat_lt (m * 2 ^ e) (2 ^ 278)) (Word (float_word s e (m - 2 ^ 22))) overflow
+float s m e = cond (nat_lt (m * 2 ^ e) (2 ^ 278)) (Ok (float_word s e (m - 2 ^ 22))) overflow
 
 -- The float nearest to num / den units, a tie to the even one. Underflow is below 2 ^ -128, which is 2 ^ 22 units. A float
 -- has 23 digits, so it is a whole number of 2 ^ e units, where e is how many more digits the whole part has.
@@ -44,7 +48,7 @@ unfoldable pub rounded : ℕ → ℕ → ℕ → Answer
 unfolding float
 rounded s num den =
     let e = size (num / den) - 23 in
-    cond (num == 0) (Word 0) (cond (nat_lt num (2 ^ 22 * den)) underflow (float s (closest num (den * 2 ^ e)) e))
+    cond (num == 0) (Ok 0) (cond (nat_lt num (2 ^ 22 * den)) underflow (float s (closest num (den * 2 ^ e)) e))
 
 -- "of integer type if both operands are of integer type, or if the result is zero. In every other case .. floating-point"
 unfoldable pub result : Bool → ℕ → ℕ → ℕ → Answer

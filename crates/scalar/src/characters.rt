@@ -2,24 +2,22 @@
 ghost use Rattle.std.specs.Prelude.{◌≡◌};
 ghost use Rattle.scalar.specs.Operators as S;
 
-use crate::{Answer, Whole, reading};
+use crate::{Whole, reading};
 use descriptor::Descriptor;
+use trap::Trap;
 
-pub fn test_number(a: u32) -> Answer
+pub fn test_number(a: u32) -> Result<u32, Trap>
     ensures { result ≡ S.test_number a }
 {
-    if reading::is_character(a) {
-        return Answer::Word(0);
-    }
-    Answer::Word(1)
+    Ok(!reading::is_character(a) as u32)
 }
 
-pub fn convert(a: u32) -> Answer
+pub fn convert(a: u32) -> Result<u32, Trap>
     ensures { result ≡ S.convert a }
 {
     match reading::whole(a) {
-        Whole::Character => Answer::Word(a % 0x100),
-        Whole::Fraction => Answer::Trap(8, 5),
+        Whole::Character => Ok(a % 0x100),
+        Whole::Fraction => Err(Trap::DOMAIN_ERROR),
         Whole::Number {
             negative,
             magnitude,
@@ -28,14 +26,11 @@ pub fn convert(a: u32) -> Answer
 }
 
 // The character whose code is a whole number.
-fn character(negative: bool, magnitude: u32) -> Answer
+fn character(negative: bool, magnitude: u32) -> Result<u32, Trap>
     ensures { result ≡ S.character_of negative magnitude }
 {
-    if negative {
-        return Answer::Trap(8, 5);
+    if negative || 0xff < magnitude {
+        return Err(Trap::DOMAIN_ERROR);
     }
-    if 0xff < magnitude {
-        return Answer::Trap(8, 5);
-    }
-    Answer::Word(Descriptor::character(magnitude as u8).word())
+    Ok(Descriptor::character(magnitude as u8).word())
 }

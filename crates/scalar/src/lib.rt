@@ -23,17 +23,11 @@ use operator::{Dyadic, Monadic};
 pub use products::{product, quotient};
 pub use signs::{identity, magnitude, negative};
 pub use sums::{difference, sum};
+use trap::Trap;
 pub use wholes::{ceiling, floor};
 
-// A scalar's word, or a trap's class and number.
-#[derive(Clone, Copy)]
-pub enum Answer {
-    Word(u32),
-    Trap(u8, u8),
-}
-
 // A scalar read as a whole number; a magnitude from 2^23 on is given as 2^23.
-#[derive(Clone, Copy)]
+#[derive(Clone, Copy, Debug, PartialEq, Eq)]
 pub enum Whole {
     Number { negative: bool, magnitude: u32 },
     Fraction,
@@ -41,7 +35,7 @@ pub enum Whole {
 }
 
 // A scalar read as zero or one.
-#[derive(Clone, Copy)]
+#[derive(Clone, Copy, Debug, PartialEq, Eq)]
 pub enum Truth {
     Value(bool),
     Other,
@@ -49,7 +43,7 @@ pub enum Truth {
 }
 
 // What an operator of one operand gives. A word that is no scalar is a character by its type 1, and else an integer.
-pub fn monadic(operator: Monadic, a: u32) -> Answer
+pub fn monadic(operator: Monadic, a: u32) -> Result<u32, Trap>
     ensures { result ≡ S.monadic_of operator a }
 {
     match operator {
@@ -65,7 +59,7 @@ pub fn monadic(operator: Monadic, a: u32) -> Answer
 }
 
 // What an operator of two operands gives; `a` is the first, the top of the stack.
-pub fn dyadic(operator: Dyadic, a: u32, b: u32) -> Answer
+pub fn dyadic(operator: Dyadic, a: u32, b: u32) -> Result<u32, Trap>
     ensures { result ≡ S.dyadic_of operator a b }
 {
     match operator {

@@ -1,80 +1,43 @@
 // NOT, LOGICAL_PRODUCT and LOGICAL_SUM.
-ghost use Rattle.std.specs.Prelude.{◌≡◌, Bool, ◌&&◌, ◌||◌};
-ghost use Rattle.descriptor.specs.Kinds.{bit};
+ghost use Rattle.std.specs.Prelude.{◌≡◌, Bool};
 ghost use Rattle.scalar.specs.Reading.{truth_of};
-ghost use Rattle.scalar.specs.declared.Truth.TheVariants as T;
+ghost use Rattle.scalar.specs.Parts.{combined};
 ghost use Rattle.scalar.specs.Operators as S;
 
-use crate::{Answer, Truth, reading};
+use crate::{Truth, reading};
+use trap::Trap;
 
-pub fn not(a: u32) -> Answer
+pub fn not(a: u32) -> Result<u32, Trap>
     ensures { result ≡ S.not_of a }
 {
     match reading::truth(a) {
-        Truth::Character => Answer::Trap(7, 0),
-        Truth::Other => Answer::Trap(8, 5),
-        Truth::Value(p) => { if p { Answer::Word(0) } else { Answer::Word(1) } },
+        Truth::Character => Err(Trap::TYPE_ERROR),
+        Truth::Other => Err(Trap::DOMAIN_ERROR),
+        Truth::Value(p) => Ok(!p as u32),
     }
 }
 
-pub fn logical_product(a: u32, b: u32) -> Answer
+pub fn logical_product(a: u32, b: u32) -> Result<u32, Trap>
     ensures { result ≡ S.logical_product a b }
 {
-    match reading::truth(a) {
-        Truth::Character => Answer::Trap(7, 0),
-        Truth::Other => refused(b),
-        Truth::Value(p) => match reading::truth(b) {
-            Truth::Character => Answer::Trap(7, 0),
-            Truth::Other => Answer::Trap(8, 5),
-            Truth::Value(q) => both(p, q),
-        },
-    }
+    let (p, q) = truths(a, b)?;
+    Ok((p && q) as u32)
 }
 
-pub fn logical_sum(a: u32, b: u32) -> Answer
+pub fn logical_sum(a: u32, b: u32) -> Result<u32, Trap>
     ensures { result ≡ S.logical_sum a b }
 {
-    match reading::truth(a) {
-        Truth::Character => Answer::Trap(7, 0),
-        Truth::Other => refused(b),
-        Truth::Value(p) => match reading::truth(b) {
-            Truth::Character => Answer::Trap(7, 0),
-            Truth::Other => Answer::Trap(8, 5),
-            Truth::Value(q) => either(p, q),
-        },
-    }
+    let (p, q) = truths(a, b)?;
+    Ok((p || q) as u32)
 }
 
-// The answer where the first operand is a number other than zero and one: the second's type error goes before.
-fn refused(b: u32) -> Answer
-    ensures { (f : Bool → Bool → Bool) → result ≡ S.logical f T.Other (truth_of b) }
+// What two operands are read as. A type error of either goes before a domain error.
+fn truths(a: u32, b: u32) -> Result<(bool, bool), Trap>
+    ensures { (f : Bool → Bool → Bool) → combined f result ≡ S.logical f (truth_of a) (truth_of b) }
 {
-    match reading::truth(b) {
-        Truth::Character => Answer::Trap(7, 0),
-        Truth::Other => Answer::Trap(8, 5),
-        Truth::Value(_) => Answer::Trap(8, 5),
+    match (reading::truth(a), reading::truth(b)) {
+        (Truth::Character, _) | (_, Truth::Character) => Err(Trap::TYPE_ERROR),
+        (Truth::Value(p), Truth::Value(q)) => Ok((p, q)),
+        _ => Err(Trap::DOMAIN_ERROR),
     }
-}
-
-fn both(p: bool, q: bool) -> Answer
-    ensures { result ≡ Answer.Word (bit (p && q)) }
-{
-    if p {
-        if q {
-            return Answer::Word(1);
-        }
-    }
-    Answer::Word(0)
-}
-
-fn either(p: bool, q: bool) -> Answer
-    ensures { result ≡ Answer.Word (bit (p || q)) }
-{
-    if p {
-        return Answer::Word(1);
-    }
-    if q {
-        return Answer::Word(1);
-    }
-    Answer::Word(0)
 }

@@ -31,7 +31,7 @@ pub fn whole(w: u32) -> Whole
         };
     }
     Whole::Number {
-        negative: negative,
+        negative,
         magnitude: m,
     }
 }
@@ -43,7 +43,7 @@ fn whole_float(negative: bool, sig: u32, exp: u32) -> Whole
 {
     if 150 < exp {
         return Whole::Number {
-            negative: negative,
+            negative,
             magnitude: 0x80_0000,
         };
     }
@@ -54,7 +54,7 @@ fn whole_float(negative: bool, sig: u32, exp: u32) -> Whole
     let n = sig >> k;
     if n << k == sig {
         Whole::Number {
-            negative: negative,
+            negative,
             magnitude: n,
         }
     } else {
@@ -78,10 +78,8 @@ pub fn truth(w: u32) -> Truth
     if m == 0 {
         return Truth::Value(false);
     }
-    if m == 1 {
-        if w / 0x8000_0000 == 0 {
-            return Truth::Value(true);
-        }
+    if m == 1 && w / 0x8000_0000 == 0 {
+        return Truth::Value(true);
     }
     Truth::Other
 }

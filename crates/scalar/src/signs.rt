@@ -2,22 +2,23 @@
 ghost use Rattle.std.specs.Prelude.{◌≡◌, ◌<◌};
 ghost use Rattle.scalar.specs.Operators as S;
 
-use crate::{Answer, reading};
+use crate::reading;
+use trap::Trap;
 
-pub fn identity(a: u32) -> Answer
+pub fn identity(a: u32) -> Result<u32, Trap>
     ensures { result ≡ S.identity a }
 {
     if reading::is_character(a) {
-        return Answer::Trap(7, 0);
+        return Err(Trap::TYPE_ERROR);
     }
-    Answer::Word(a)
+    Ok(a)
 }
 
-pub fn negative(a: u32) -> Answer
+pub fn negative(a: u32) -> Result<u32, Trap>
     ensures { result ≡ S.negative a }
 {
     if reading::is_character(a) {
-        return Answer::Trap(7, 0);
+        return Err(Trap::TYPE_ERROR);
     }
     if a / 0x8000_0000 == 0 {
         return with_sign(1, a);
@@ -25,24 +26,22 @@ pub fn negative(a: u32) -> Answer
     with_sign(0, a)
 }
 
-pub fn magnitude(a: u32) -> Answer
+pub fn magnitude(a: u32) -> Result<u32, Trap>
     ensures { result ≡ S.magnitude_of a }
 {
     if reading::is_character(a) {
-        return Answer::Trap(7, 0);
+        return Err(Trap::TYPE_ERROR);
     }
     with_sign(0, a)
 }
 
 // The number of a with the sign s; zero, which is no float, has none.
-fn with_sign(s: u32, a: u32) -> Answer
+fn with_sign(s: u32, a: u32) -> Result<u32, Trap>
     requires { s < 2 }
     ensures { result ≡ S.with_sign s a }
 {
-    if a / 0x4000_0000 % 2 == 0 {
-        if a % 0x80_0000 == 0 {
-            return Answer::Word(0);
-        }
+    if a / 0x4000_0000 % 2 == 0 && a % 0x80_0000 == 0 {
+        return Ok(0);
     }
-    Answer::Word(s * 0x8000_0000 + a % 0x8000_0000)
+    Ok(s * 0x8000_0000 + a % 0x8000_0000)
 }

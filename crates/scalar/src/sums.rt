@@ -1,11 +1,12 @@
 // SUM and DIFFERENCE: exact sums of signed magnitudes.
-ghost use Rattle.std.specs.Prelude.{◌≡◌, ℕ, ◌-◌, ◌*◌, ◌^◌, ◌<◌, ◌≤◌, min, true, false};
+ghost use Rattle.std.specs.Prelude.{◌≡◌, ℕ, ◌-◌, ◌*◌, ◌^◌, ◌<◌, ◌≤◌, true, false};
 ghost use Rattle.descriptor.specs.Fields.{sign, magnitude};
 ghost use Rattle.scalar.specs.Value.{one, units, one_float};
 ghost use Rattle.scalar.specs.Operators as S;
 ghost use Rattle.scalar.specs.Parts.{SignedSum, signed_place, distance_of};
 
-use crate::{Answer, results, words};
+use crate::{results, words};
+use trap::Trap;
 
 // A sum's sign and magnitude.
 #[derive(Clone, Copy)]
@@ -14,7 +15,7 @@ struct Signed {
     size: u64,
 }
 
-pub fn sum(a: u32, b: u32) -> Answer
+pub fn sum(a: u32, b: u32) -> Result<u32, Trap>
     ensures { result ≡ S.sum a b }
 {
     if words::both_small(a, b) {
@@ -26,32 +27,32 @@ pub fn sum(a: u32, b: u32) -> Answer
         );
     }
     if words::one_character(a, b) {
-        return Answer::Trap(7, 0);
+        return Err(Trap::TYPE_ERROR);
     }
     plus(a / 0x8000_0000, a, b / 0x8000_0000, b)
 }
 
-pub fn difference(a: u32, b: u32) -> Answer
+pub fn difference(a: u32, b: u32) -> Result<u32, Trap>
     ensures { result ≡ S.difference a b }
 {
     if words::both_small(a, b) {
         return integer_difference(a, b);
     }
     if words::one_character(a, b) {
-        return Answer::Trap(7, 0);
+        return Err(Trap::TYPE_ERROR);
     }
     minus(a, b)
 }
 
 // The difference of two numbers.
-fn minus(a: u32, b: u32) -> Answer
+fn minus(a: u32, b: u32) -> Result<u32, Trap>
     ensures { result ≡ S.minus a b }
 {
     plus(a / 0x8000_0000, a, 1 - b / 0x8000_0000, b)
 }
 
 // The difference of two integers.
-fn integer_difference(a: u32, b: u32) -> Answer
+fn integer_difference(a: u32, b: u32) -> Result<u32, Trap>
     ensures { result ≡ S.plus false (sign a) (magnitude a * one) (1 - sign b) (magnitude b * one) }
 {
     integer_sum(
@@ -63,7 +64,7 @@ fn integer_difference(a: u32, b: u32) -> Answer
 }
 
 // The sum of two integers.
-fn integer_sum(s: u32, n: u32, t: u32, m: u32) -> Answer
+fn integer_sum(s: u32, n: u32, t: u32, m: u32) -> Result<u32, Trap>
     requires { (s < 2) × (t < 2) × (n < 2 ^ 23) × (m < 2 ^ 23) }
     ensures { result ≡ S.plus false s (n * one) t (m * one) }
 {
@@ -72,19 +73,17 @@ fn integer_sum(s: u32, n: u32, t: u32, m: u32) -> Answer
 }
 
 // The numbers of a and b, with the signs s and t in place of theirs.
-fn plus(s: u32, a: u32, t: u32, b: u32) -> Answer
+fn plus(s: u32, a: u32, t: u32, b: u32) -> Result<u32, Trap>
     requires { (s < 2) × (t < 2) }
     ensures { result ≡ S.plus (one_float a b) s (units a) t (units b) }
 {
-    if a / 0x4000_0000 % 2 == 0 {
-        if b / 0x4000_0000 % 2 == 0 {
-            return integer_sum(s, a % 0x80_0000, t, b % 0x80_0000);
-        }
+    if a / 0x4000_0000 % 2 == 0 && b / 0x4000_0000 % 2 == 0 {
+        return integer_sum(s, a % 0x80_0000, t, b % 0x80_0000);
     }
     float_sum(s, a, t, b)
 }
 
-fn float_sum(s: u32, a: u32, t: u32, b: u32) -> Answer
+fn float_sum(s: u32, a: u32, t: u32, b: u32) -> Result<u32, Trap>
     requires { (s < 2) × (t < 2) }
     ensures { result ≡ S.plus true s (units a) t (units b) }
 {
@@ -96,7 +95,7 @@ fn float_sum(s: u32, a: u32, t: u32, b: u32) -> Answer
     if q.sig == 0 {
         return results::rounded(s, p.sig, p.exp + 150);
     }
-    let e = lesser(p.exp, q.exp);
+    let e = p.exp.min(q.exp);
     let d = p.exp - e;
     let f = q.exp - e;
     if 38 < d {
@@ -108,14 +107,8 @@ fn float_sum(s: u32, a: u32, t: u32, b: u32) -> Answer
     near_sum(s, p.sig << d, t, q.sig << f, e)
 }
 
-fn lesser(x: u32, y: u32) -> u32
-    ensures { result ≡ min x y }
-{
-    if x < y { x } else { y }
-}
-
 // s n 2^e + t m 2^e units.
-fn near_sum(s: u32, n: u64, t: u32, m: u64, e: u32) -> Answer
+fn near_sum(s: u32, n: u64, t: u32, m: u64, e: u32) -> Result<u32, Trap>
     requires { (s < 2) × (t < 2) × (n < 2 ^ 62) × (m < 2 ^ 62) × (e < 256) }
     ensures { result ≡ S.plus true s (n * 2 ^ e) t (m * 2 ^ e) }
 {
@@ -124,7 +117,7 @@ fn near_sum(s: u32, n: u64, t: u32, m: u64, e: u32) -> Answer
 }
 
 // s n 2^e plus any magnitude of sign t that is above 0 and far below: three more digits, the last of them sticky.
-fn far_sum(s: u32, n: u64, t: u32, e: u32) -> Answer
+fn far_sum(s: u32, n: u64, t: u32, e: u32) -> Result<u32, Trap>
     requires { (s < 2) × (2 ^ 22 ≤ n) × (n < 2 ^ 23) × (e < 256) }
     ensures { (m : ℕ) → 0 < m → m * 4 < 2 ^ e → result ≡ S.plus true s (n * 2 ^ e) t m }
 {

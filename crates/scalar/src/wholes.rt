@@ -2,28 +2,29 @@
 ghost use Rattle.std.specs.Prelude.{◌≡◌, ◌*◌, ◌^◌, ◌<◌};
 ghost use Rattle.scalar.specs.Operators as S;
 
-use crate::{Answer, reading, results, words};
+use crate::{reading, results, words};
+use trap::Trap;
 
-pub fn floor(a: u32) -> Answer
+pub fn floor(a: u32) -> Result<u32, Trap>
     ensures { result ≡ S.floor a }
 {
     if reading::is_character(a) {
-        return Answer::Trap(7, 0);
+        return Err(Trap::TYPE_ERROR);
     }
     whole_near((a / 0x8000_0000) as u64, a)
 }
 
-pub fn ceiling(a: u32) -> Answer
+pub fn ceiling(a: u32) -> Result<u32, Trap>
     ensures { result ≡ S.ceiling a }
 {
     if reading::is_character(a) {
-        return Answer::Trap(7, 0);
+        return Err(Trap::TYPE_ERROR);
     }
     whole_near((1 - a / 0x8000_0000) as u64, a)
 }
 
 // The whole number next to a, its magnitude not larger if up is 0 and else not smaller.
-fn whole_near(up: u64, a: u32) -> Answer
+fn whole_near(up: u64, a: u32) -> Result<u32, Trap>
     requires { up < 2 }
     ensures { result ≡ S.whole_near up a }
 {
@@ -32,7 +33,7 @@ fn whole_near(up: u64, a: u32) -> Answer
     }
     let p = words::unpack(a);
     if 150 < p.exp {
-        return Answer::Word(a);
+        return Ok(a);
     }
     results::integer(a / 0x8000_0000, ones(up, p.sig, p.exp))
 }

@@ -1,5 +1,6 @@
 -- LESS and EQUAL by the places on the line, and by the word of the difference, which has the sign of the exact difference and
 -- is 0 only where that is.
+use Rattle.std.proofs.Common.{Ok}
 use Prim.Native.Nat.{ℕ, ◌+◌, ◌-◌, ◌*◌, ◌/◌, ◌%◌, ◌^◌, ◌≤◌, ◌<◌}
 use mathlib.Core.Path.{◌≡◌, refl, sym, ap, ap₂, ◌∙◌, subst}
 use mathlib.Core.Bool.{Bool, true, false, cond, ◌&&◌, ◌||◌}
@@ -18,7 +19,6 @@ use Rattle.scalar.specs.Results.{rounded, type_error}
 use Rattle.scalar.specs.Order.{side, is_below, is_equal}
 use Rattle.scalar.specs.Operators.{sum_sign, sum_size, plus, minus, difference, less, equal}
 use Rattle.scalar.specs.Parts.{one_character}
-use Rattle.scalar.specs.declared.Answer.TheVariants.{Word}
 use Rattle.scalar.proofs.Operands.{numbers-plain, numbers-character, first-float, second-float}
 use Rattle.scalar.proofs.Rounding.{rounded-none}
 use Rattle.scalar.proofs.Addition.{like, less as lower, more, cases, sign-lt, scaled, plus-float, plus-integers, minus-integers, either}
@@ -39,29 +39,29 @@ module _ (a b : ℕ) (p : is_character a ≡ false) (q : is_character b ≡ fals
   unfolding line_place side
   on_line = placed middle (sign a) (sign b) (le_of_lt (below-middle a)) (le_of_lt (below-middle b)) itself itself itself
 
-  less-line : less a b ≡ Word (bit (ltb (line_place a) (line_place b)))
+  less-line : less a b ≡ Ok (bit (ltb (line_place a) (line_place b)))
   unfolding is_below
-  less-line = sym (ap (λ (t : Bool). Word (bit t)) (follows-ltb on_line) ∙ less-numbers a b p q)
+  less-line = sym (ap (λ (t : Bool). Ok (bit t)) (follows-ltb on_line) ∙ less-numbers a b p q)
 
-  equal-line : equal a b ≡ Word (bit (eqb (line_place a) (line_place b)))
+  equal-line : equal a b ≡ Ok (bit (eqb (line_place a) (line_place b)))
   unfolding is_equal
-  equal-line = sym (ap (λ (t : Bool). Word (bit t)) (follows-eqb on_line) ∙ equal-numbers a b p q)
+  equal-line = sym (ap (λ (t : Bool). Ok (bit t)) (follows-eqb on_line) ∙ equal-numbers a b p q)
 
 -- ---- characters
 
 less-of-character : (a b : ℕ) → (is_character a || is_character b) ≡ true → less a b ≡ type_error
 unfolding less
-less-of-character a b h = numbers-character a b (Word (bit (is_below a b))) h
+less-of-character a b h = numbers-character a b (Ok (bit (is_below a b))) h
 
-equal-of-characters : (a b : ℕ) → is_character a ≡ true → is_character b ≡ true → equal a b ≡ Word (bit (eqb (character_code a) (character_code b)))
-equal-of-characters a b h k = sym (equal-first a b h) ∙ ap (λ (t : Bool). Word (bit (t && eqb (character_code a) (character_code b)))) k
+equal-of-characters : (a b : ℕ) → is_character a ≡ true → is_character b ≡ true → equal a b ≡ Ok (bit (eqb (character_code a) (character_code b)))
+equal-of-characters a b h k = sym (equal-first a b h) ∙ ap (λ (t : Bool). Ok (bit (t && eqb (character_code a) (character_code b)))) k
 
-equal-of-kinds : (a b : ℕ) → is_character a ≢ is_character b → equal a b ≡ Word 0
+equal-of-kinds : (a b : ℕ) → is_character a ≢ is_character b → equal a b ≡ Ok 0
 equal-of-kinds a b h = go (is_character a) (is_character b) refl refl
   where
-    go : (t u : Bool) → is_character a ≡ t → is_character b ≡ u → equal a b ≡ Word 0
+    go : (t u : Bool) → is_character a ≡ t → is_character b ≡ u → equal a b ≡ Ok 0
     go true true p q = absurd (h (p ∙ sym q))
-    go true false p q = sym (equal-first a b p) ∙ ap (λ (t : Bool). Word (bit (t && eqb (character_code a) (character_code b)))) q
+    go true false p q = sym (equal-first a b p) ∙ ap (λ (t : Bool). Ok (bit (t && eqb (character_code a) (character_code b)))) q
     go false true p q = sym (equal-second a b p q)
     go false false p q = absurd (h (p ∙ sym q))
 
@@ -163,7 +163,7 @@ told-scaled w g d x y k p e f t =
     pos : 0 < d → 0 < y
     pos z = ⊎_elim (λ (q : y ≡ 0). absurd (lost d z (f ∙ ap (λ (n : ℕ). n * k) q ∙ zero-mul k))) (λ (q : 0 < y). q) (eq-zero-or-pos y)
 
-module _ (a b w : ℕ) (fa : a < 2 ^ 32) (fb : b < 2 ^ 32) (h : difference a b ≡ Word w) where
+module _ (a b w : ℕ) (fa : a < 2 ^ 32) (fb : b < 2 ^ 32) (h : difference a b ≡ Ok w) where
   typed : one_character a b ≡ true → difference a b ≡ type_error
   unfolding difference
   typed e = numbers-character a b (minus a b) e
@@ -175,7 +175,7 @@ module _ (a b w : ℕ) (fa : a < 2 ^ 32) (fb : b < 2 ^ 32) (h : difference a b �
       go false e = e
       go true e = absurd (never h (typed e))
 
-  given : minus a b ≡ Word w
+  given : minus a b ≡ Ok w
   unfolding difference
   given = sym (numbers-plain a b (minus a b) plain) ∙ h
 
@@ -193,7 +193,7 @@ module _ (a b w : ℕ) (fa : a < 2 ^ 32) (fb : b < 2 ^ 32) (h : difference a b �
   floating : one_float a b ≡ true → Told w g d
   unfolding minus g d
   floating e =
-      let r : rounded (sum_sign (sign a) (units a) (1 - sign b) (units b)) (sum_size (sign a) (units a) (1 - sign b) (units b)) 1 ≡ Word w = sym (plus-float (sign a) (units a) (1 - sign b) (units b)) ∙ sym (ap (λ (x : Bool). plus x (sign a) (units a) (1 - sign b) (units b)) e) ∙ given in
+      let r : rounded (sum_sign (sign a) (units a) (1 - sign b) (units b)) (sum_size (sign a) (units a) (1 - sign b) (units b)) 1 ≡ Ok w = sym (plus-float (sign a) (units a) (1 - sign b) (units b)) ∙ sym (ap (λ (x : Bool). plus x (sign a) (units a) (1 - sign b) (units b)) e) ∙ given in
       record {
         none = λ z. sym (same_word r (ap (λ (x : ℕ). rounded (sum_sign (sign a) (units a) (1 - sign b) (units b)) x 1) z ∙ rounded-none (sum_sign (sign a) (units a) (1 - sign b) (units b)) 1));
         some = λ z. float-pos w (rounded-word _ _ 1 w g-lt (lit< tt) z r).float;
@@ -257,13 +257,13 @@ module _ (a b w : ℕ) (fa : a < 2 ^ 32) (fb : b < 2 ^ 32) (h : difference a b �
   second-number : is_character b ≡ false
   second-number = (neither (is_character a) (is_character b) plain).1
 
-  less_by : less a b ≡ Word (sign w)
+  less_by : less a b ≡ Ok (sign w)
   unfolding Agrees
-  less_by = sym (less-numbers a b first-number second-number) ∙ ap Word agrees.0
+  less_by = sym (less-numbers a b first-number second-number) ∙ ap Ok agrees.0
 
-  equal_by : equal a b ≡ Word (bit (eqb w 0))
+  equal_by : equal a b ≡ Ok (bit (eqb w 0))
   unfolding Agrees
-  equal_by = sym (equal-numbers a b first-number second-number) ∙ ap Word agrees.1
+  equal_by = sym (equal-numbers a b first-number second-number) ∙ ap Ok agrees.1
 
 pub compares : Compares
 compares =

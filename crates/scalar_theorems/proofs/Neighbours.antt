@@ -1,5 +1,6 @@
 -- FLOOR and CEILING give the neighbouring whole numbers: the magnitude is rounded down or up by the sign, and a float from
 -- 2 ^ 23 on is whole.
+use Rattle.std.proofs.Common.{Ok}
 use Prim.Native.Nat.{ℕ, ◌+◌, ◌-◌, ◌*◌, ◌/◌, ◌%◌, ◌^◌, ◌≤◌, ◌<◌}
 use mathlib.Core.Path.{◌≡◌, refl, sym, ap, ◌∙◌, subst}
 use mathlib.Core.Bool.{Bool, false, cond}
@@ -14,7 +15,6 @@ use Rattle.descriptor.specs.Fields.{sign, is_character, integer_word}
 use Rattle.scalar.specs.Value.{one, units}
 use Rattle.scalar.specs.Results.{integer, integer_overflow}
 use Rattle.scalar.specs.Operators.{ones, whole_near, floor, ceiling}
-use Rattle.scalar.specs.declared.Answer.TheVariants.{Word}
 use Rattle.scalar.proofs.Operands.{number-plain}
 use Rattle.scalar.proofs.Rounding.{not-lt-le, join}
 use Rattle.scalar.proofs.Units.{units-integer, units-float}
@@ -97,11 +97,11 @@ module _ (a : ℕ) (fits : a < 2 ^ 32) where
         room : (x o : ℕ) → 0 < o → x ≤ (2 ^ 23 - 1) * o → x + (o - 1) < 2 ^ 23 * o
         room x o c h = omega arith
 
-    near : (up : ℕ) → up < 2 → whole_near up a ≡ Word (integer_word (sign a) (ones up (units a)))
+    near : (up : ℕ) → up < 2 → whole_near up a ≡ Ok (integer_word (sign a) (ones up (units a)))
     unfolding whole_near integer
     near up p =
-        ap (λ (t : Bool). cond t (integer (sign a) (ones up (units a))) (Word a)) (lt-ltb (units a) (2 ^ 173) l)
-        ∙ ap (λ (t : Bool). cond t (Word (integer_word (sign a) (ones up (units a)))) integer_overflow) (lt-ltb (ones up (units a)) (2 ^ 23) (ones_lt up p))
+        ap (λ (t : Bool). cond t (integer (sign a) (ones up (units a))) (Ok a)) (lt-ltb (units a) (2 ^ 173) l)
+        ∙ ap (λ (t : Bool). cond t (Ok (integer_word (sign a) (ones up (units a)))) integer_overflow) (lt-ltb (ones up (units a)) (2 ^ 23) (ones_lt up p))
 
     few : (up : ℕ) → up < 2 → ones up (units a) ≤ 2 ^ 128
     few up p = le_of_lt (lt_trans (ones_lt up p) (lit< tt))
@@ -140,9 +140,9 @@ module _ (a : ℕ) (fits : a < 2 ^ 32) where
   -- ---- from 2 ^ 23 on
 
   module _ (l : 2 ^ 173 ≤ units a) where
-    far : (up : ℕ) → whole_near up a ≡ Word a
+    far : (up : ℕ) → whole_near up a ≡ Ok a
     unfolding whole_near
-    far up = ap (λ (t : Bool). cond t (integer (sign a) (ones up (units a))) (Word a)) (le-ltb (units a) (2 ^ 173) l)
+    far up = ap (λ (t : Bool). cond t (integer (sign a) (ones up (units a))) (Ok a)) (le-ltb (units a) (2 ^ 173) l)
 
     place-whole : line_place a % one ≡ 0
     place-whole =
@@ -159,14 +159,14 @@ module _ (a : ℕ) (fits : a < 2 ^ 32) where
   least b = record { whole = b.multiple; over = b.over; fewest = b.fewest }
 
   module _ (plain : is_character a ≡ false) where
-    floor-is : (r : ℕ) × (floor a ≡ Word r) × Greatest a r
+    floor-is : (r : ℕ) × (floor a ≡ Ok r) × Greatest a r
     unfolding floor result
     floor-is = elim (dec_lt (units a) (2 ^ 173)) [
       | yes l ↦ (integer_word (sign a) (ones (sign a) (units a)), number-plain a (whole_near (sign a) a) plain ∙ near l (sign a) (omega arith), greatest (floor-below l))
       | no l ↦ (a, number-plain a (whole_near (sign a) a) plain ∙ far (not-lt-le l) (sign a), greatest (itself-below one (pow_pos 150) (line_place a) (place-whole (not-lt-le l))))
     ]
 
-    ceiling-is : (r : ℕ) × (ceiling a ≡ Word r) × Least a r
+    ceiling-is : (r : ℕ) × (ceiling a ≡ Ok r) × Least a r
     unfolding ceiling result
     ceiling-is = elim (dec_lt (units a) (2 ^ 173)) [
       | yes l ↦ (integer_word (sign a) (ones (1 - sign a) (units a)), number-plain a (whole_near (1 - sign a) a) plain ∙ near l (1 - sign a) (omega arith), least (ceiling-above l))

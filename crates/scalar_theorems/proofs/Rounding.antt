@@ -1,4 +1,5 @@
 -- `rounded` gives the nearest float, and its traps are where the statement has them.
+use Rattle.std.proofs.Common.{Ok}
 use Prim.Native.Nat.{ℕ, ◌+◌, ◌-◌, ◌*◌, ◌/◌, ◌%◌, ◌^◌, ◌≤◌, ◌<◌}
 use mathlib.Core.Path.{◌≡◌, sym, ◌∙◌, subst}
 use mathlib.Core.Bool.{true}
@@ -14,7 +15,6 @@ use lib.Ieee.Nearest.{closest_mono}
 use Rattle.descriptor.specs.Fields.{is_float, exponent, fraction}
 use Rattle.scalar.specs.Value.{units}
 use Rattle.scalar.specs.Results.{overflow, rounded}
-use Rattle.scalar.specs.declared.Answer.TheVariants.{Word}
 use Rattle.scalar.proofs.Units.{units-float}
 use Rattle.scalar.proofs.Rounding.{rounded-none, rounded-under, float_fits, float-over, not-lt-le}
 use Rattle.scalar_theorems.specs.Line.{gap}
@@ -74,7 +74,7 @@ module _ (num den : ℕ) (p : 0 < den) (l : 2 ^ 22 * den ≤ num) where
       w : ℕ
       w = made s (digits num den p l) e
 
-      gives : rounded s num den ≡ Word w
+      gives : rounded s num den ≡ Ok w
       unfolding w e
       gives = rounded-is num den p l s ∙ float_fits s (digits num den p l) (size (num / den) - 23) (digits-ge num den p l) (digits_le num den p l) fits
 

@@ -1,4 +1,5 @@
 -- Every result is a scalar: an integer, a float and a character are made with no stray bit, and zero with no sign.
+use Rattle.std.proofs.Common.{Ok}
 use Prim.Native.Nat.{ℕ, ◌+◌, ◌-◌, ◌*◌, ◌/◌, ◌%◌, ◌^◌, ◌≤◌, ◌<◌}
 use mathlib.Core.Path.{◌≡◌, refl, sym, ap, ◌∙◌, subst}
 use mathlib.Core.Bool.{Bool, true, false, cond, not, ◌&&◌, ◌||◌}
@@ -17,7 +18,7 @@ use Rattle.operator.specs.declared.Monadic.TheVariants as M
 use Rattle.operator.specs.declared.Dyadic.{Dyadic}
 use Rattle.operator.specs.declared.Dyadic.TheVariants as D
 use Rattle.scalar.specs.Value.{one, units, one_float, character_code}
-use Rattle.scalar.specs.Results.{type_error, zero_divisor, domain_error, integer, rounded, result}
+use Rattle.scalar.specs.Results.{type_error, zero_divisor, domain_error, integer, rounded, result, Answer}
 use Rattle.scalar.specs.Reading.{whole_of, truth_of}
 use Rattle.scalar.specs.Order.{is_below, is_equal}
 use Rattle.scalar.specs.Operators.{number, numbers, identity, negative, with_sign, ones, whole_near, floor, ceiling, magnitude_of, not_truth, not_of, test_number, character_of, converted, convert, sum_sign, sum_size, plus, sum, minus, difference, product_sign, times, product, ratio_of, quotient, logical, logical_product, logical_sum, less, equal, monadic_of, dyadic_of}
@@ -26,8 +27,6 @@ use Rattle.scalar.specs.declared.Whole.{Whole}
 use Rattle.scalar.specs.declared.Whole.TheVariants as W
 use Rattle.scalar.specs.declared.Truth.{Truth}
 use Rattle.scalar.specs.declared.Truth.TheVariants as T
-use Rattle.scalar.specs.declared.Answer.{Answer}
-use Rattle.scalar.specs.declared.Answer.TheVariants.{Word}
 use Rattle.scalar.proofs.Operands.{character-bits}
 use Rattle.scalar.proofs.Rounding.{not-lt-le, rounded-none}
 use Rattle.scalar.proofs.Units.{units-integer}
@@ -36,7 +35,7 @@ use Rattle.scalar_theorems.specs.Validity.{Valid, ValidResults}
 use Rattle.scalar_theorems.proofs.Words.{never, same_word, integer-word, rounded-word}
 
 -- a word that an answer gives is valid if the answer's own word is
-at-word : {x : Answer} {v w : ℕ} → x ≡ Word w → x ≡ Word v → Valid v → Valid w
+at-word : {x : Answer} {v w : ℕ} → x ≡ Ok w → x ≡ Ok v → Valid v → Valid w
 at-word {x} {v} {w} h e k = subst (λ (y : ℕ). Valid y) (same_word h e) k
 
 -- ---- the kinds of words
@@ -84,68 +83,68 @@ valid-signed t a p v plain z = elim (ℕ_discrete (a / 2 ^ 30 % 2) 1) [
 
 -- ---- the results
 
-integer-valid : (s n w : ℕ) → s < 2 → integer s n ≡ Word w → Valid w
+integer-valid : (s n w : ℕ) → s < 2 → integer s n ≡ Ok w → Valid w
 integer-valid s n w p h = let k = integer-word s n w h in subst (λ (y : ℕ). Valid y) k.1 (valid-integer s n p k.0)
 
-rounded-valid : (s num den w : ℕ) → s < 2 → 0 < den → rounded s num den ≡ Word w → Valid w
+rounded-valid : (s num den w : ℕ) → s < 2 → 0 < den → rounded s num den ≡ Ok w → Valid w
 rounded-valid s num den w p c h = ⊎_elim
     (λ (z : num ≡ 0). at-word h (ap (λ (x : ℕ). rounded s x den) z ∙ rounded-none s den) (valid-bit false))
     (λ (z : 0 < num). let k = rounded-word s num den w p c z h in valid-float w k.word k.float)
     (eq-zero-or-pos num)
 
-result-valid : (floating : Bool) (s num den w : ℕ) → s < 2 → 0 < den → result floating s num den ≡ Word w → Valid w
+result-valid : (floating : Bool) (s num den w : ℕ) → s < 2 → 0 < den → result floating s num den ≡ Ok w → Valid w
 unfolding result
 result-valid true s num den w p c h = rounded-valid s num den w p c h
 result-valid false s num den w p c h = integer-valid s (num / den / one) w p h
 
-plus-valid : (floating : Bool) (s n t m w : ℕ) → s < 2 → t < 2 → plus floating s n t m ≡ Word w → Valid w
+plus-valid : (floating : Bool) (s n t m w : ℕ) → s < 2 → t < 2 → plus floating s n t m ≡ Ok w → Valid w
 unfolding plus
 plus-valid floating s n t m w p q h = result-valid floating (sum_sign s n t m) (sum_size s n t m) 1 w (sign-lt s n t m p q) (lit< tt) h
 
 -- past the type errors
-past : (t : Bool) (x : Answer) (w : ℕ) → cond t type_error x ≡ Word w → (t ≡ false) × (x ≡ Word w)
+past : (t : Bool) (x : Answer) (w : ℕ) → cond t type_error x ≡ Ok w → (t ≡ false) × (x ≡ Ok w)
 past true x w h = absurd (never h refl)
 past false x w h = (refl, h)
 
 -- ---- of one operand
 
 module _ (a w : ℕ) (v : Valid a) where
-  sign-valid : (t : ℕ) → t < 2 → number a (with_sign t a) ≡ Word w → Valid w
+  sign-valid : (t : ℕ) → t < 2 → number a (with_sign t a) ≡ Ok w → Valid w
   sign-valid t p h = let k = past (is_character a) (with_sign t a) w h in go k.0 k.1 (eqb (units a) 0) refl
     where
-      go : is_character a ≡ false → with_sign t a ≡ Word w → (b : Bool) → eqb (units a) 0 ≡ b → Valid w
-      go plain e true z = at-word e (ap (λ (x : Bool). Word (cond x 0 (t * 2 ^ 31 + a % 2 ^ 31))) z) (valid-bit false)
-      go plain e false z = at-word e (ap (λ (x : Bool). Word (cond x 0 (t * 2 ^ 31 + a % 2 ^ 31))) z) (valid-signed t a p v plain (eqb-false (units a) 0 z))
+      go : is_character a ≡ false → with_sign t a ≡ Ok w → (b : Bool) → eqb (units a) 0 ≡ b → Valid w
+      go plain e true z = at-word e (ap (λ (x : Bool). Ok (cond x 0 (t * 2 ^ 31 + a % 2 ^ 31))) z) (valid-bit false)
+      go plain e false z = at-word e (ap (λ (x : Bool). Ok (cond x 0 (t * 2 ^ 31 + a % 2 ^ 31))) z) (valid-signed t a p v plain (eqb-false (units a) 0 z))
 
-  near-valid : (up : ℕ) → number a (whole_near up a) ≡ Word w → Valid w
+  near-valid : (up : ℕ) → number a (whole_near up a) ≡ Ok w → Valid w
   unfolding whole_near
   near-valid up h = go (ltb (units a) (2 ^ 173)) (past (is_character a) (whole_near up a) w h).1
     where
-      go : (b : Bool) → cond b (integer (sign a) (ones up (units a))) (Word a) ≡ Word w → Valid w
+      go : (b : Bool) → cond b (integer (sign a) (ones up (units a))) (Ok a) ≡ Ok w → Valid w
       go true e = let f = v.word in integer-valid (sign a) (ones up (units a)) w (omega arith) e
       go false e = at-word e refl v
 
-  not_valid : (t : Truth) → not_truth t ≡ Word w → Valid w
+  not_valid : (t : Truth) → not_truth t ≡ Ok w → Valid w
   not_valid T.Character h = absurd (never h refl)
   not_valid T.Other h = absurd (never h refl)
   not_valid (T.Value p) h = at-word h refl (valid-bit (not p))
 
-  character-valid : (negative : Bool) (n : ℕ) → character_of negative n ≡ Word w → Valid w
+  character-valid : (negative : Bool) (n : ℕ) → character_of negative n ≡ Ok w → Valid w
   character-valid true n h = absurd (never h refl)
   character-valid false n h = go (ltb n (2 ^ 8)) refl h
     where
-      go : (b : Bool) → ltb n (2 ^ 8) ≡ b → cond b (Word (character_word n)) domain_error ≡ Word w → Valid w
+      go : (b : Bool) → ltb n (2 ^ 8) ≡ b → cond b (Ok (character_word n)) domain_error ≡ Ok w → Valid w
       go true e k = at-word k refl (valid-character n (ltb-true n (2 ^ 8) e))
       go false e k = absurd (never k refl)
 
-  convert-valid : (x : Whole) → converted a x ≡ Word w → Valid w
+  convert-valid : (x : Whole) → converted a x ≡ Ok w → Valid w
   convert-valid W.Character h = at-word h refl (valid-integer 0 (character_code a) (lit< tt) (omega arith))
   convert-valid W.Fraction h = absurd (never h refl)
   convert-valid (W.Number negative n) h = character-valid negative n h
 
-  monadic-valid : (o : Monadic) → monadic_of o a ≡ Word w → Valid w
+  monadic-valid : (o : Monadic) → monadic_of o a ≡ Ok w → Valid w
   unfolding identity negative floor ceiling magnitude_of not_of test_number convert
-  monadic-valid M.Identity h = at-word (past (is_character a) (Word a) w h).1 refl v
+  monadic-valid M.Identity h = at-word (past (is_character a) (Ok a) w h).1 refl v
   monadic-valid M.Negative h = sign-valid (1 - sign a) (omega arith) h
   monadic-valid M.Floor h = near-valid (sign a) h
   monadic-valid M.Ceiling h = near-valid (1 - sign a) h
@@ -158,7 +157,7 @@ module _ (a w : ℕ) (v : Valid a) where
 
 module _ (a b w : ℕ) (va : Valid a) (vb : Valid b) where
   -- past the type errors of both
-  both : (x : Answer) → numbers a b x ≡ Word w → x ≡ Word w
+  both : (x : Answer) → numbers a b x ≡ Ok w → x ≡ Ok w
   both x h = (past (one_character a b) x w h).1
 
   sign-a : sign a < 2
@@ -167,26 +166,26 @@ module _ (a b w : ℕ) (va : Valid a) (vb : Valid b) where
   sign-b : sign b < 2
   sign-b = let f = vb.word in omega arith
 
-  minus-valid : (u : ℕ) → minus a b ≡ Word u → Valid u
+  minus-valid : (u : ℕ) → minus a b ≡ Ok u → Valid u
   unfolding minus
   minus-valid u h = plus-valid (one_float a b) (sign a) (units a) (1 - sign b) (units b) u sign-a (omega arith) h
 
-  times-valid : times a b ≡ Word w → Valid w
+  times-valid : times a b ≡ Ok w → Valid w
   unfolding times
   times-valid h = result-valid (one_float a b) (product_sign a b) (units a * units b) one w (omega arith) (pow_pos 150) h
 
-  ratio-valid : ratio_of a b ≡ Word w → Valid w
+  ratio-valid : ratio_of a b ≡ Ok w → Valid w
   unfolding ratio_of
   ratio-valid h = go (eqb (units b) 0) refl h
     where
-      go : (t : Bool) → eqb (units b) 0 ≡ t → cond t zero_divisor (rounded (product_sign a b) (units a * one) (units b)) ≡ Word w → Valid w
+      go : (t : Bool) → eqb (units b) 0 ≡ t → cond t zero_divisor (rounded (product_sign a b) (units a * one) (units b)) ≡ Ok w → Valid w
       go true e k = absurd (never k refl)
       go false e k = rounded-valid (product_sign a b) (units a * one) (units b) w (omega arith) (pos (units b) (eqb-false (units b) 0 e)) k
         where
           pos : (n : ℕ) → (n ≡ 0 → ⊥) → 0 < n
           pos n z = omega (arith, z)
 
-  logical-valid : (f : Bool → Bool → Bool) (p q : Truth) → logical f p q ≡ Word w → Valid w
+  logical-valid : (f : Bool → Bool → Bool) (p q : Truth) → logical f p q ≡ Ok w → Valid w
   logical-valid f T.Character q h = absurd (never h refl)
   logical-valid f T.Other T.Character h = absurd (never h refl)
   logical-valid f T.Other T.Other h = absurd (never h refl)
@@ -195,16 +194,16 @@ module _ (a b w : ℕ) (va : Valid a) (vb : Valid b) where
   logical-valid f (T.Value p) T.Other h = absurd (never h refl)
   logical-valid f (T.Value p) (T.Value q) h = at-word h refl (valid-bit (f p q))
 
-  equal-valid : equal a b ≡ Word w → Valid w
+  equal-valid : equal a b ≡ Ok w → Valid w
   unfolding equal
   equal-valid h = go (is_character a) (is_character b) h
     where
-      go : (t u : Bool) → cond t (Word (bit (u && eqb (character_code a) (character_code b)))) (cond u (Word 0) (Word (bit (is_equal a b)))) ≡ Word w → Valid w
+      go : (t u : Bool) → cond {A = Answer} t (Ok (bit (u && eqb (character_code a) (character_code b)))) (cond u (Ok 0) (Ok (bit (is_equal a b)))) ≡ Ok w → Valid w
       go true u k = at-word k refl (valid-bit (u && eqb (character_code a) (character_code b)))
       go false true k = at-word k refl (valid-bit false)
       go false false k = at-word k refl (valid-bit (is_equal a b))
 
-  dyadic-valid : (o : Dyadic) → dyadic_of o a b ≡ Word w → Valid w
+  dyadic-valid : (o : Dyadic) → dyadic_of o a b ≡ Ok w → Valid w
   unfolding sum difference product quotient logical_product logical_sum less
   dyadic-valid D.Sum h = plus-valid (one_float a b) (sign a) (units a) (sign b) (units b) w sign-a sign-b (both _ h)
   dyadic-valid D.Difference h = minus-valid w (both _ h)

@@ -1,4 +1,5 @@
 -- What is known of the word that an answer gives.
+use Rattle.std.proofs.Common.{Ok, Err}
 use Prim.Native.Nat.{ℕ, ◌+◌, ◌-◌, ◌*◌, ◌/◌, ◌%◌, ◌^◌, ◌<◌}
 use mathlib.Core.Path.{◌≡◌, sym, ap, subst}
 use mathlib.Core.Bool.{Bool, true, cond}
@@ -8,11 +9,10 @@ use native.Mathlib.Omega.{arith}
 use borrow.Author.Tests.{lt-ltb, eqb-true}
 use lib.Dec.{lit<}
 use lib.Pow.{pow_pos, pow_mono}
+use Rattle.trap.specs.declared.Trap.{Trap}
 use Rattle.descriptor.specs.Fields.{is_float, integer_word, magnitude}
 use Rattle.scalar.specs.Value.{one, units}
-use Rattle.scalar.specs.Results.{integer, integer_overflow, rounded}
-use Rattle.scalar.specs.declared.Answer.{Answer}
-use Rattle.scalar.specs.declared.Answer.TheVariants.{Word, Trap}
+use Rattle.scalar.specs.Results.{integer, integer_overflow, rounded, Answer}
 use Rattle.scalar.proofs.Rounding.{not-lt-le, integer-over}
 use Rattle.scalar.proofs.Units.{units-integer, units-float}
 use Rattle.scalar_theorems.specs.Line.{middle}
@@ -20,20 +20,20 @@ use Rattle.scalar_theorems.specs.Rounding.{Nearest}
 use Rattle.scalar_theorems.proofs.Rounding.{rounds}
 
 -- an answer is not both a word and a trap
-pub never : {x : Answer} {w c n : ℕ} → x ≡ Word w → x ≡ Trap c n → ⊥
+pub never : {x : Answer} {w : ℕ} {t : Trap} → x ≡ Ok w → x ≡ Err t → ⊥
 never p q = let k : ◌≡◌ {A = ℕ} 0 1 = cc in omega arith
 
-pub same_word : {x : Answer} {w v : ℕ} → x ≡ Word w → x ≡ Word v → v ≡ w
+pub same_word : {x : Answer} {w v : ℕ} → x ≡ Ok w → x ≡ Ok v → v ≡ w
 same_word p q = cc
 
-pub integer-word : (s n w : ℕ) → integer s n ≡ Word w → (n < 2 ^ 23) × (integer_word s n ≡ w)
+pub integer-word : (s n w : ℕ) → integer s n ≡ Ok w → (n < 2 ^ 23) × (integer_word s n ≡ w)
 unfolding integer
 integer-word s n w h = elim (dec_lt n (2 ^ 23)) [
-  | yes l ↦ (l, same_word h (ap (λ (t : Bool). cond t (Word (integer_word s n)) integer_overflow) (lt-ltb n (2 ^ 23) l)))
+  | yes l ↦ (l, same_word h (ap (λ (t : Bool). cond t (Ok (integer_word s n)) integer_overflow) (lt-ltb n (2 ^ 23) l)))
   | no l ↦ absurd (never h (sym (integer-over s n (not-lt-le l))))
 ]
 
-pub rounded-word : (s num den w : ℕ) → s < 2 → 0 < den → 0 < num → rounded s num den ≡ Word w → Nearest s num den w
+pub rounded-word : (s num den w : ℕ) → s < 2 → 0 < den → 0 < num → rounded s num den ≡ Ok w → Nearest s num den w
 rounded-word s num den w q p z h = elim (dec_lt num (2 ^ 22 * den)) [
   | yes l ↦ absurd (never h (rounds.under s num den z l))
   | no l ↦ elim (dec_lt num ((2 ^ 24 - 1) * 2 ^ 254 * den)) [

@@ -1,8 +1,7 @@
 -- FLOOR gives the greatest whole number not larger, CEILING the least not smaller, and neither traps on a number. Assumes nothing.
-use Rattle.std.specs.Prelude.{ℕ, ◌^◌, ◌≤◌, ◌<◌, ◌≡◌, false}
+use Rattle.std.specs.Prelude.{ℕ, ◌^◌, ◌≤◌, ◌<◌, ◌≡◌, false, Ok}
 use Rattle.descriptor.specs.Fields.{is_character}
 use Rattle.scalar.specs.Operators.{floor, ceiling}
-use Rattle.scalar.specs.declared.Answer.TheVariants.{Word}
 use Rattle.scalar_theorems.specs.Line.{line_place, IsWhole}
 
 -- r is the greatest whole number not larger than a.
@@ -18,5 +17,5 @@ pub record Least (a r : ℕ) : Type 0 where
   pub fewest : (p : ℕ) → IsWhole p → line_place a ≤ p → line_place r ≤ p
 
 pub record Neighbours : Type 0 where
-  pub floor : (a : ℕ) → a < 2 ^ 32 → is_character a ≡ false → (r : ℕ) × (floor a ≡ Word r) × Greatest a r
-  pub ceiling : (a : ℕ) → a < 2 ^ 32 → is_character a ≡ false → (r : ℕ) × (ceiling a ≡ Word r) × Least a r
+  pub floor : (a : ℕ) → a < 2 ^ 32 → is_character a ≡ false → (r : ℕ) × (floor a ≡ Ok r) × Greatest a r
+  pub ceiling : (a : ℕ) → a < 2 ^ 32 → is_character a ≡ false → (r : ℕ) × (ceiling a ≡ Ok r) × Least a r

@@ -1,39 +1,16 @@
 -- Runs of words written: a loop that copies word by word, and a part of a segment that a copy has filled.
-use Prim.Native.Nat.{ℕ, zero, suc, ◌+◌, ◌-◌, ◌≤◌, ◌<◌}
-use native.Mathlib.Nat.{le_of_lt}
-use native.Mathlib.Numerals.{add-one}
+use Prim.Native.Nat.{min, ℕ, zero, suc, ◌+◌, ◌-◌, ◌≤◌, ◌<◌}
 use native.Mathlib.Omega.{arith}
-use mathlib.Core.Path.{◌≡◌, refl, sym, ap, ◌∙◌}
-use mathlib.Core.List.{List, [], ◌∷◌, ◌++◌, append_assoc, append-nil}
+use mathlib.Core.Path.{◌≡◌, refl, sym, ◌∙◌}
+use mathlib.Core.List.{List, [], ◌∷◌, ◌++◌, append_assoc}
 use mathlib.Core.Logic.{◌≢◌, ◌⊎◌, inl, inr, ⊎_elim}
 use lib.ListN.{length, get_or, take, drop, set, length-set, length-drop}
-use lib.Seq.{sets, sets-eq, set_out, set_at, get_or-set_other, take-suc, drop-cons, append_snoc, length-take-le, take-length, drop-length}
+use lib.Seq.{sets, sets-eq, set_out, get_or-set_other, length-take-le, take-length}
 use borrow.Rule.Slice.PartMut.{put_mid, Post-is}
+use Rattle.std.specs.List.{copy_within}
+use Rattle.descriptor.proofs.Truth.{by_le}
 use Rattle.segment.specs.Blocks.{part}
-use Rattle.segment.proofs.Runs.{part_length}
 use Rattle.segment.proofs.Parts.{part-take}
-
--- the first i words of `now` are those of `goal`, and the rest are those of `before`
-pub record Copied (goal before now : List ℕ) (i : ℕ) : Type 0 where
-  pub so_far : now ≡ take i goal ++ drop i before
-
-pub copied_none : {goal before : List ℕ} → Copied goal before before 0
-copied_none = record { so_far = refl }
-
-pub copied_on : {goal before now : List ℕ} {i : ℕ} → Copied goal before now i → i < length goal → i < length before → Copied goal before (set now i (get_or goal i 0)) (i + 1)
-copied_on {goal} {before} {now} {i} copied g b =
-    record {
-      so_far =
-          rw (copied.so_far, add-one i)
-          (ap (λ (r : List ℕ). set (take i goal ++ r) i (get_or goal i 0)) (drop-cons before i 0 b)
-          ∙ set_at (take i goal) (get_or before i 0) (drop (suc i) before) (get_or goal i 0) i (length-take-le i goal (le_of_lt g))
-          ∙ sym (append_snoc (take i goal) (get_or goal i 0) (drop (suc i) before))
-          ∙ ap (λ (r : List ℕ). r ++ drop (suc i) before) (sym (take-suc goal i 0 g)));
-    }
-
-pub copied_all : {goal before now : List ℕ} {i : ℕ} → Copied goal before now i → length goal ≡ i → length before ≡ i → now ≡ goal
-copied_all {goal} {before} {now} {i} copied g b =
-    copied.so_far ∙ rw (← g, take-length goal, g, ← b, drop-length before) (append-nil goal)
 
 -- words outside a run are left as they were, and a run may be written in two parts
 pub sets-other : (vs s : List ℕ) (i j : ℕ) → (j < i) ⊎ (i + length vs ≤ j) → get_or (sets s i vs) j 0 ≡ get_or s j 0
@@ -65,12 +42,12 @@ list_on i words o to = let z : 0 + i ≡ i = omega arith in rw z at (run_on i wo
 pub list_all : (i : ℕ) (words o : List ℕ) (to : ℕ) → i ≡ length words → sets o to (part words 0 i) ≡ sets o to words
 list_all i words o to all = rw (all, part-take (length words) words 0 (omega arith), take-length words)
 
--- the same within one segment, whose words from `from` up are apart from those that are written
-pub moved_on : (s now : List ℕ) (from to n i : ℕ) → now ≡ sets s to (part s from i) → i < n → (from + n ≤ to) ⊎ (to + n ≤ from)
-    → set now (to + i) (get_or now (from + i) 0) ≡ sets s to (part s from (i + 1))
-moved_on s now from to n i so_far more apart =
-    rw (so_far, sets-other (part s from i) s to (from + i) (⊎_elim (λ q. inl (omega (arith, q))) (λ q. inr (omega (arith, q, part_length s from i))) apart))
-    (run_on i s s from to)
+-- the same by the library's copy within a list
+pub copied_within : (n : ℕ) (s : List ℕ) (from to : ℕ) → from + n ≤ length s → to + n ≤ length s → copy_within s from (from + n) to ≡ sets s to (part s from n)
+copied_within n s from to inside room =
+    let m : from + n - from ≡ n = omega arith in
+    let k : length (take n (drop from s)) ≡ n = length-take-le n (drop from s) (omega (arith, length-drop from s)) in
+    rw (m, part-take n s from inside) (sym (sets-eq (take n (drop from s)) s to (omega (arith, k)) ∙ rw k))
 
 -- a run that starts past the end, or goes past it, writes only what lies before it
 pub sets-out : (vs s : List ℕ) (i : ℕ) → length s ≤ i → sets s i vs ≡ s
@@ -88,14 +65,10 @@ filled s ys vs i e same ends fits =
     rw (same, Post-is i e s (omega arith))
     (sym (sets-eq vs s i (omega arith) ∙ append_assoc (take i s) vs (drop (i + length vs) s) ∙ rw ends))
 
--- the same of all that lies from i on, where there are more words than that
-module _ (s vs : List ℕ) (i : ℕ) (more : length s - i < length vs) where
-  pub rest-length : length (take (length s - i) vs) ≡ length (take (length s - i) (drop i s))
-  rest-length =
-      length-take-le (length s - i) vs (omega arith)
-      ∙ sym (length-take-le (length s - i) (drop i s) (omega (arith, length-drop i s)))
-
-  pub filled-rest : (ys : List ℕ) → ys ≡ take (length s - i) vs → i < length s → put_mid i (length s - i) s ys ≡ sets s i vs
-  filled-rest ys same inside =
-      filled s ys (take (length s - i) vs) i (length s) same (omega (arith, length-take-le (length s - i) vs (omega arith))) (omega arith)
-      ∙ sets-past (length s - i) vs s i (omega arith)
+-- the part from i up filled with the first n of the words `vs`: all of them, or as many as there is room for
+pub filled-first : (s ys vs : List ℕ) (i n : ℕ) → ys ≡ take n vs → n ≡ min (length vs) (length s - i) → i < length s → put_mid i (i + n - i) s ys ≡ sets s i vs
+filled-first s ys vs i n same first inside =
+    filled s ys (take n vs) i (i + n) same (omega (arith, length-take-le n vs (omega arith))) (omega arith)
+    ∙ by_le (length vs) (length s - i)
+    (λ fits. let all : n ≡ length vs = omega arith in rw (all, take-length vs))
+    (λ past. sets-past n vs s i (omega arith))

@@ -1,9 +1,9 @@
 // The blocks of array storage: the tags and links of the block at a word, and what an array's block holds.
-ghost use Rattle.std.specs.Prelude.{◌≡◌, ◌<◌, ◌^◌};
+ghost use Rattle.std.specs.Prelude.{◌≡◌, ◌+◌, ◌<◌, ◌^◌};
 ghost use Rattle.segment.specs.Blocks as layout;
 ghost use Rattle.segment.specs.Parts as parts;
 
-use super::{high, low, minus, word};
+use super::{high, low, word};
 use descriptor::address::SegmentAddress;
 
 // So many words of the segment from an address up.
@@ -64,7 +64,7 @@ pub fn dummy(seg: &[u32]) -> SegmentAddress
     ensures result_value { result.0 ≡ layout.dummy seg.now }
     ensures result_bound { result.0 < 2 ^ 16 }
 {
-    SegmentAddress::of(minus(high(word(seg, 0)) as u32, 3))
+    SegmentAddress::of((high(word(seg, 0)) as u32).saturating_sub(3))
 }
 
 // How many cells point to the array.
@@ -96,18 +96,13 @@ pub fn elements(seg: &[u32], block: SegmentAddress) -> &[u32]
     within(
         seg,
         block.index() + 2 + rank,
-        minus(size as u32, rank as u32 + 2) as usize,
+        (size as usize).saturating_sub(rank + 2),
     )
 }
 
 fn within(seg: &[u32], start: usize, count: usize) -> &[u32]
+    requires { start + count < 2 ^ 64 }
     ensures { result.now ≡ parts.within seg.now start count }
 {
-    if seg.len() < start {
-        return &seg[..0];
-    }
-    if seg.len() - start < count {
-        return &seg[..0];
-    }
-    &seg[start..start + count]
+    seg.get(start..start + count).unwrap_or(&[])
 }

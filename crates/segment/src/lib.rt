@@ -2,7 +2,7 @@
 // storage. Access is total: a read past the end is 0, and a write there does nothing.
 #![tactic(auto)]
 
-ghost use Rattle.std.specs.Prelude.{◌≡◌, ◌⊎◌, ◌+◌, ◌-◌, ◌*◌, ◌^◌, ◌≤◌, get_or, set, length};
+ghost use Rattle.std.specs.Prelude.{◌≡◌, ◌+◌, ◌*◌, ◌^◌, ◌≤◌, get_or, set, length};
 ghost use Rattle.std.proofs.lemmas.List.Edits.{sets};
 ghost use Rattle.segment.specs.State as fields;
 ghost use Rattle.segment.specs.Blocks.{part};
@@ -14,7 +14,7 @@ pub mod state;
 pub fn word(seg: &[u32], i: usize) -> u32
     ensures { result ≡ get_or seg.now i 0 }
 {
-    if i < seg.len() { seg[i] } else { 0 }
+    seg.get(i).copied().unwrap_or(0)
 }
 
 pub fn put(seg: &mut [u32], i: usize, v: u32)
@@ -32,35 +32,16 @@ pub fn put_all(seg: &mut [u32], i: usize, words: &[u32])
     if seg.len() <= i {
         return;
     }
-    let room = seg.len() - i;
-    if words.len() <= room {
-        copy(words, &mut seg[i..i + words.len()]);
-    } else {
-        copy(&words[..room], &mut seg[i..]);
-    }
+    let n = words.len().min(seg.len() - i);
+    seg[i..i + n].copy_from_slice(&words[..n]);
 }
 
-fn copy(from: &[u32], to: &mut [u32])
-    requires { length from.now ≡ length to.old }
-    ensures { to.new ≡ from.now }
-{
-    let mut i = 0;
-    while i < from.len() {
-        to[i] = from[i];
-        i += 1;
-    }
-}
-
-// The n words from `from` up are copied to those from `to` up. Neither run has a word of the other.
+// The n words from `from` up are copied to those from `to` up.
 pub fn copy_part(seg: &mut [u32], from: usize, to: usize, n: usize)
-    requires { (from + n ≤ length seg.old) × (to + n ≤ length seg.old) × ((from + n ≤ to) ⊎ (to + n ≤ from)) }
+    requires { (from + n ≤ length seg.old) × (to + n ≤ length seg.old) }
     ensures { seg.new ≡ sets seg.old to (part seg.old from n) }
 {
-    let mut i = 0;
-    while i < n {
-        seg[to + i] = seg[from + i];
-        i += 1;
-    }
+    seg.copy_within(from..from + n, to);
 }
 
 // The halves of a word, and the word of two halves.
@@ -80,11 +61,4 @@ pub fn halves(high: u16, low: u16) -> u32
     ensures { result ≡ high * 2 ^ 16 + low }
 {
     high as u32 * 0x1_0000 + low as u32
-}
-
-// What is left of a without b, 0 where b is greater.
-pub fn minus(a: u32, b: u32) -> u32
-    ensures { result ≡ a - b }
-{
-    if b <= a { a - b } else { 0 }
 }

@@ -23,10 +23,8 @@ fn put_words(bytes: &[u8], words: &mut [u32]) -> usize
     if words.len() < n {
         return 0;
     }
-    let mut i = 0;
-    while i < n {
-        words[i] = word_at(bytes, (4 * i) as u32);
-        i += 1;
+    for (i, word) in words[..n].iter_mut().enumerate() {
+        *word = word_at(bytes, (4 * i) as u32);
     }
     n
 }

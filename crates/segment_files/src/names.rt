@@ -9,20 +9,17 @@ use std::rt::{Env, Files};
 
 // The texts are those from 1 up to this number, which is none of them.
 pub fn texts_end(rt: &impl Env) -> usize {
-    let count = arg_count(rt);
-    if count < 2 { 2 } else { count }
+    arg_count(rt).max(2)
 }
 
 // How many arguments the program was started with, its own name among them.
 fn arg_count(rt: &impl Env) -> usize {
-    let mut count = 0;
-    while count < usize::MAX {
+    for count in 0..usize::MAX {
         if let Err(FillError::NotPresent) = rt.arg(count, &mut []) {
             return count;
         }
-        count += 1;
     }
-    count
+    usize::MAX
 }
 
 // Text k: how many bytes were put at the front of the buffer, none where it cannot be read. A text that is longer than the buffer

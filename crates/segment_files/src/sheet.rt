@@ -2,11 +2,12 @@
 use crate::buffers;
 use crate::files::read_bytes;
 use line_tool::tables::line;
-use operations::Sheeted;
+use operations::Refusal;
 use std::rt::Files;
+use storage_sheet::Sheet;
 
 // The procedure segments stand in the files that lines 1 and 2 name, line 0 being the first.
-pub fn sheet_of(rt: &impl Files, seg: &[u32], text: &[u8]) -> Sheeted {
+pub fn sheet_of(rt: &impl Files, seg: &[u32], text: &[u8]) -> Result<Sheet, Refusal> {
     let mut regular = buffers::procedure();
     let mut alternate = buffers::procedure();
     let r = read_bytes(rt, line(text, 1), &mut regular);

@@ -1,6 +1,6 @@
 // The answer to one call.
 use line_tool::tables::line;
-use operations::Sheeted;
+use operations::Refusal;
 use segment_files::answers::{give, put_count};
 use segment_files::buffers;
 use segment_files::files::read_words;
@@ -17,10 +17,10 @@ pub fn answer(rt: &impl Files, text: &[u8]) -> bool {
     give(&out, end, b"sheet: cannot write the answer")
 }
 
-fn put_answer(out: &mut [u8], sheeted: Sheeted) -> usize {
+fn put_answer(out: &mut [u8], sheeted: Result<Sheet, Refusal>) -> usize {
     match sheeted {
-        Sheeted::Refused(test) => put_count(out, 0, b"refused ", test as u32),
-        Sheeted::Summed(sheet) => put_sheet(out, sheet),
+        Ok(sheet) => put_sheet(out, sheet),
+        Err(refusal) => put_count(out, 0, b"refused ", refusal.number() as u32),
     }
 }
 

@@ -13,12 +13,10 @@ use std::rt::{Env, Files};
 // After an answer that could not be written there are no others.
 fn main(rt: HostRuntime) {
     let end = texts_end(&rt);
-    let mut k = 1;
-    while k < end {
+    for k in 1..end {
         if !answer_text(&rt, k) {
             return;
         }
-        k += 1;
     }
 }
 

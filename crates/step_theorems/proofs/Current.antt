@@ -1,5 +1,6 @@
 -- The current frame, by the words and by the view: the function that runs is the same, and what is planned from the one is
 -- planned from the other.
+use Rattle.std.proofs.Common.{Some}
 use Prim.Native.Nat.{ℕ, ◌+◌, ◌-◌, ◌/◌, ◌^◌}
 use mathlib.Core.Path.{◌≡◌, refl, sym, ◌∙◌}
 use mathlib.Core.Bool.{Bool, true, false, cond}
@@ -7,12 +8,12 @@ use mathlib.Core.List.{List, [], ◌∷◌}
 use native.Mathlib.Omega.{arith}
 use lib.Dec.{leb, ltb}
 use lib.ListN.{length}
-use Rattle.procedure.specs.declared.directory.Function.TheVariants as F
 use Rattle.procedure.specs.Headers.{block_at}
 use Rattle.procedure.specs.Directory.{start_of, has_function, function_of}
 use Rattle.instruction.specs.declared.Instruction.{Instruction}
+use Rattle.std.proofs.Common.{Result, Ok, Err}
+use Rattle.trap.specs.declared.Trap.{Trap}
 use Rattle.instruction.specs.declared.Decoded.{Decoded}
-use Rattle.instruction.specs.declared.Decoded.TheVariants as D
 use Rattle.instruction.specs.Decoding.{instruction_at}
 use Rattle.segment.specs.State.{sbase, lbase}
 use Rattle.segment.specs.Stack.{last_lbase_at, code_word_at, function_number, pctr}
@@ -74,7 +75,7 @@ header-seen regular alternate s = rw ((current s).frames, same-selector s, same-
 
 found : (regular alternate : List ℕ) (w : ℕ) → known regular alternate w ≡ true
     → function_of (frame_segment regular alternate w) (function_number w)
-    ≡ F.At (block_at (frame_segment regular alternate w) (start_of (frame_segment regular alternate w) (function_number w)))
+    ≡ Some (block_at (frame_segment regular alternate w) (start_of (frame_segment regular alternate w) (function_number w)))
 unfolding function_of known
 found regular alternate w h = rw (both (ltb w (2 ^ 28)) (has_function (frame_segment regular alternate w) (function_number w)) h).1
 
@@ -105,7 +106,7 @@ module _ (s : List ℕ) (p : Program) (h : Accepted s p.regular p.alternate) whe
   abbrev f : Running
   f = current-function s p
 
-  function-there : function_of (frame_segment regular alternate (code_word_at s (lbase s))) (current_function s) ≡ F.At f.block
+  function-there : function_of (frame_segment regular alternate (code_word_at s (lbase s))) (current_function s) ≡ Some f.block
   function-there = found regular alternate (code_word_at s (lbase s)) (function-known s regular alternate h.older (lbase s) h.chain)
 
   pub runs : HasFrame s (variables_of (header_of f)) (header_of f).result
@@ -146,6 +147,6 @@ module _ (s : List ℕ) (p : Program) (h : Accepted s p.regular p.alternate) whe
   unfolding plan_at
   decodes g es e = go (instruction_at (code_in f) place) (sym (plan-is g) ∙ e) (sym plan-seen ∙ e)
     where
-      go : (d : Decoded) → plan_decoded f (seen s) d ≡ gives es → plan_decoded f (seen_of (length s - sbase s) (view s)) d ≡ gives es → Decodes s f es
-      go (D.Instruction i next) by_words by_cells = record { instruction = under_table p.table i; next = next.0; by_words = by_words; by_cells = by_cells }
-      go (D.Trap class number) by_words by_cells = let z : ◌≡◌ {A = ℕ} 0 1 = cc in absurd (omega arith)
+      go : (d : Result Decoded Trap) → plan_decoded f (seen s) d ≡ gives es → plan_decoded f (seen_of (length s - sbase s) (view s)) d ≡ gives es → Decodes s f es
+      go (Ok d) by_words by_cells = record { instruction = under_table p.table d.instruction; next = d.next.0; by_words = by_words; by_cells = by_cells }
+      go (Err t) by_words by_cells = let z : ◌≡◌ {A = ℕ} 0 1 = cc in absurd (omega arith)

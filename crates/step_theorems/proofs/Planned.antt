@@ -1,11 +1,11 @@
 -- What is known of the effects that are planned on an accepted segment.
+use Rattle.std.proofs.Common.{Option, Some, None}
 use Prim.Native.Nat.{ℕ, ◌-◌}
 use mathlib.Core.Path.{◌≡◌, refl, sym, ◌∙◌}
 use mathlib.Core.Bool.{true}
 use mathlib.Core.List.{List, [], ◌∷◌}
 use lib.ListN.{length}
-use Rattle.procedure.specs.declared.directory.Function.{Function}
-use Rattle.procedure.specs.declared.directory.Function.TheVariants as F
+use Rattle.procedure.specs.declared.header.Block.{Block}
 use Rattle.procedure.specs.Directory.{function_of}
 use Rattle.segment.specs.State.{sbase, lbase}
 use Rattle.segment.specs.Stack.{code_word_at, function_number, pctr}
@@ -77,10 +77,10 @@ module _ (p : Program) (words : ℕ) (m : Machine Cell) (class number : ℕ) whe
   unfolding listed
   no_code = trap-same 3 1 class number refl
 
-  found-listed : (r : Frame Cell) (f : Function) → Listed (plan_in p words m r f)
-  found-listed r (F.At block) =
+  found-listed : (r : Frame Cell) (f : Option Block) → Listed (plan_in p words m r f)
+  found-listed r (Some block) =
       (traps-listed.at_place (running p (frame_selector r) block) (seen_of words m) (traps-listed.machines words m) r.pctr).in_table class number
-  found-listed r F.Absent = no_code
+  found-listed r None = no_code
 
   frames-listed : (l : List (Frame Cell)) → Listed (plan_from p words m l)
   frames-listed [] = no_code

@@ -1,9 +1,8 @@
 -- The plan of the next instruction of a machine, told by its cells: the current frame says which function runs, and where.
 -- Nothing here speaks of storage. Assumes nothing.
-use Rattle.std.specs.Prelude.{ℕ, ◌-◌, Bool, List, [], ◌∷◌, eqb, length}
+use Rattle.std.specs.Prelude.{ℕ, ◌-◌, Bool, List, [], ◌∷◌, eqb, length, Option, Some, None}
 use Rattle.procedure.specs.declared.header.Header.{Header}
-use Rattle.procedure.specs.declared.directory.Function.{Function}
-use Rattle.procedure.specs.declared.directory.Function.TheVariants as F
+use Rattle.procedure.specs.declared.header.Block.{Block}
 use Rattle.procedure.specs.Directory.{function_of, header_of_function}
 use Rattle.segment.specs.State.{sbase}
 use Rattle.segment.specs.Stack as stack
@@ -23,9 +22,9 @@ use Rattle.legality.specs.Legal.{function_word}
 abbrev pub frame_selector : Frame Cell → Bool
 frame_selector r = eqb (stack.alternate_bit (function_word r)) 1
 
-abbrev pub plan_in : Program → ℕ → Machine Cell → Frame Cell → Function → Plan
-plan_in p words m r (F.At block) = plan_at (running p (frame_selector r) block) (seen_of words m) r.pctr
-plan_in p words m r F.Absent = trap 3 1
+abbrev pub plan_in : Program → ℕ → Machine Cell → Frame Cell → Option Block → Plan
+plan_in p words m r (Some block) = plan_at (running p (frame_selector r) block) (seen_of words m) r.pctr
+plan_in p words m r None = trap 3 1
 
 abbrev pub plan_from : Program → ℕ → Machine Cell → List (Frame Cell) → Plan
 plan_from p words m [] = trap 3 1

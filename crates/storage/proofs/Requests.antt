@@ -1,13 +1,44 @@
 -- The search along the ring, and a request, by their ways.
-use Rattle.std.proofs.Common.{◌≡◌, ℕ, zero, suc, ◌+◌, ◌-◌, ◌^◌, ◌<◌, ◌≤◌, Bool, true, false, cond, eqb, leb, List, sym, refl, ◌∙◌, arith, eq-eqb, ne_eqb, eqb-true, le-leb, leb-true}
+use Rattle.std.proofs.Common.{◌≡◌, ℕ, zero, suc, ◌+◌, ◌-◌, ◌^◌, ◌<◌, ◌≤◌, Bool, true, false, cond, eqb, leb, List, sym, refl, ap, ◌∙◌, arith, eq-eqb, ne_eqb, eqb-true, le-leb, leb-true}
 use borrow.Author.Tests.{eqb-false, lt-leb}
 use Rattle.descriptor.proofs.Truth.{by_le}
+use Rattle.descriptor.specs.Kinds.{segment}
 use Rattle.descriptor.specs.declared.address.SegmentAddress.{SegmentAddress}
 use Rattle.segment.specs.State.{set_rover}
 use Rattle.segment.specs.Blocks.{size_at, next_at}
-use Rattle.storage.specs.declared.request.Found.TheVariants.{At, Full}
+use Rattle.std.specs.Prelude.{Option, Some, None, IfSome}
 use Rattle.storage.specs.Request.{find_from, find, split, given_whole, give, given, request, request_at}
 use Rattle.storage.specs.Found.{found}
+
+-- the two answers told apart
+pub full-zero : (a : ℕ) → found a ≡ None → a ≡ 0
+unfolding found
+full-zero a full = by-test (eqb a 0) refl full
+  where
+    by-test : (b : Bool) → eqb a 0 ≡ b → cond b None (Some (segment a)) ≡ None → a ≡ 0
+    by-test true e full = eqb-true a 0 e
+    by-test false e full = let never : ◌≡◌ {A = ℕ} 0 1 = cc in omega arith
+
+pub at_some : (a : ℕ) (block : SegmentAddress) → found a ≡ Some block → (a ≡ 0 → ⊥) × (a ≡ block.0)
+unfolding found
+at_some a block at = by-test (eqb a 0) refl at
+  where
+    by-test : (b : Bool) → eqb a 0 ≡ b → cond b None (Some (segment a)) ≡ Some block → (a ≡ 0 → ⊥) × (a ≡ block.0)
+    by-test true e at = let never : ◌≡◌ {A = ℕ} 0 1 = cc in absurd (omega arith)
+    by-test false e at = (eqb-false a 0 e, let same : segment a ≡ block = cc in ap (λ (b : SegmentAddress). b.0) same)
+
+-- where it is none, and what stands before it keeps within 16 bits
+pub none_found : (a : ℕ) → a ≡ 0 → None ≡ found a
+unfolding found
+none_found a none = rw none
+
+pub found-below : (a : ℕ) {r : Option SegmentAddress} → r ≡ found a → a < 2 ^ 16 → IfSome r (λ f. f.0 < 2 ^ 16)
+unfolding found
+found-below a e below = rw e (by-test (eqb a 0))
+  where
+    by-test : (b : Bool) → IfSome (cond b None (Some (segment a))) (λ f. f.0 < 2 ^ 16)
+    by-test true = tt
+    by-test false = below
 
 -- a turn of the search
 find_from-turn : (n : ℕ) (s : List ℕ) (size stop at : ℕ) → 0 < n
@@ -47,6 +78,12 @@ find_from-fits (suc n) s size stop at some =
 pub find-room : (s : List ℕ) (size f : ℕ) → f ≡ find s size → (f ≡ 0 → ⊥) → size ≤ size_at s f
 unfolding find
 find-room s size f e some = rw e (find_from-fits _ s size _ _ (λ z. some (e ∙ z)))
+
+pub find-some : (s : List ℕ) (size : ℕ) (f : SegmentAddress) → Some f ≡ found (find s size) → (f.0 ≡ find s size) × (f.0 ≡ 0 → ⊥) × (size ≤ size_at s f.0)
+find-some s size f e =
+    let some = at_some _ f (sym e) in
+    let zero : f.0 ≡ 0 → ⊥ = λ z. some.0 (some.1 ∙ z) in
+    (sym some.1, zero, find-room s size f.0 (sym some.1) zero)
 
 -- a block given: its high end, or all of it
 module _ (s : List ℕ) (f size : ℕ) where
@@ -113,11 +150,11 @@ module _ (s : List ℕ) (size : ℕ) where
   request-small given = omega (arith, find-room s size (find s size) refl (λ none. given (request_at-none none)))
 
   -- the answer as the code gives it
-  pub found_none : find s size ≡ 0 → Full ≡ found (request_at s size)
+  pub found_none : find s size ≡ 0 → None ≡ found (request_at s size)
   unfolding found
   found_none none = rw (request_at-none none)
 
-  pub found_some : (block : SegmentAddress) → (find s size ≡ 0 → ⊥) → block.0 ≡ given s (find s size) size → At block ≡ found (request_at s size)
+  pub found_some : (block : SegmentAddress) → (find s size ≡ 0 → ⊥) → block.0 ≡ given s (find s size) size → Some block ≡ found (request_at s size)
   unfolding found
   found_some block some e =
       rw (request_at-some some, ← e)

@@ -1,9 +1,8 @@
 -- The answer of a request as the code gives it: the block's address, where 0 says that no free block is long enough.
 -- Assumes nothing.
-use Rattle.std.specs.Prelude.{ℕ, cond, ◌==◌}
+use Rattle.std.specs.Prelude.{ℕ, cond, ◌==◌, Option, Some, None}
 use Rattle.descriptor.specs.Kinds.{segment}
-use Rattle.storage.specs.declared.request.Found.{Found}
-use Rattle.storage.specs.declared.request.Found.TheVariants.{At, Full}
+use Rattle.descriptor.specs.declared.address.SegmentAddress.{SegmentAddress}
 
-unfoldable pub found : ℕ → Found
-found a = cond (a == 0) Full (At (segment a))
+unfoldable pub found : ℕ → Option SegmentAddress
+found a = cond (a == 0) None (Some (segment a))

@@ -1,28 +1,23 @@
 // Arrays placed, shared and dropped. A count says how many cells point to the array.
 ghost use Rattle.std.specs.Prelude.{◌≡◌, ◌+◌, ◌^◌, ◌<◌, length};
 ghost use Rattle.std.proofs.lemmas.List.Edits.{sets};
-ghost use Rattle.segment.specs.State.{sbase};
 ghost use Rattle.storage.specs.Arrays as arrays;
 ghost use Rattle.storage.specs.Found.{found};
 
 use super::release::release;
-use super::request::{Found, request};
+use super::request::request;
 use descriptor::Descriptor;
-use descriptor::address::{SegmentAddress, StackAddress};
-use segment::{halves, low, minus, put, put_all, word};
+use descriptor::address::SegmentAddress;
+use segment::{halves, low, put, put_all, word};
 
-// A new array with this shape and these elements, pointed to by one cell.
-pub fn place(seg: &mut [u32], shape: &[u32], elements: &[u32]) -> Found
+// A new array with this shape and these elements, pointed to by one cell; none where no free block is long enough.
+pub fn place(seg: &mut [u32], shape: &[u32], elements: &[u32]) -> Option<SegmentAddress>
     ensures value { result ≡ found (arrays.place_at seg.old shape.now elements.now) }
     ensures seg_after { seg.new ≡ arrays.place seg.old shape.now elements.now }
 {
-    match request(seg, 2 + shape.len() + elements.len()) {
-        Found::Full => Found::Full,
-        Found::At(block) => {
-            fill(seg, block, shape, elements);
-            Found::At(block)
-        }
-    }
+    let block = request(seg, 2 + shape.len() + elements.len())?;
+    fill(seg, block, shape, elements);
+    Some(block)
 }
 
 // The block becomes an array of this shape and these elements.
@@ -49,10 +44,8 @@ fn put_each(seg: &mut [u32], at: usize, words: &[u32])
     requires { (at < 2 ^ 33) × (length words.now < 2 ^ 16) }
     ensures { seg.new ≡ sets seg.old at words.now }
 {
-    let mut i = 0;
-    while i < words.len() {
-        put(seg, at + i, words[i]);
-        i += 1;
+    for (i, w) in words.iter().enumerate() {
+        put(seg, at + i, *w);
     }
 }
 
@@ -74,15 +67,12 @@ pub fn drop_word(seg: &mut [u32], w: u32)
     }
 }
 
-// The n cells of the stack from `from` up are dropped, the highest first.
-pub fn drop_cells(seg: &mut [u32], from: StackAddress, n: u32)
-    ensures { seg.new ≡ arrays.drop_words n seg.old (sbase seg.old + from.0) }
+// The n cells from `start` up are dropped, the highest first.
+pub fn drop_cells(seg: &mut [u32], start: SegmentAddress, n: u32)
+    ensures { seg.new ≡ arrays.drop_words n seg.old start.0 }
 {
-    let start = from.index(segment::state::sbase(seg));
-    let mut left = n;
-    while 0 < left {
-        left -= 1;
-        let w = word(seg, start + left as usize);
+    for i in (0..n).rev() {
+        let w = word(seg, start.index() + i as usize);
         drop_word(seg, w);
     }
 }
@@ -92,7 +82,7 @@ fn raise(seg: &mut [u32], a: u16)
 {
     let i = a as usize + 1;
     let w = word(seg, i);
-    put(seg, i, std::num::wrapping_add_u32(w, 0x1_0000));
+    put(seg, i, w.wrapping_add(0x1_0000));
 }
 
 fn lower(seg: &mut [u32], a: u16)
@@ -103,6 +93,6 @@ fn lower(seg: &mut [u32], a: u16)
     if w / 0x1_0000 == 1 {
         release(seg, SegmentAddress::of(a as u32));
     } else {
-        put(seg, i, minus(w, 0x1_0000));
+        put(seg, i, w.saturating_sub(0x1_0000));
     }
 }

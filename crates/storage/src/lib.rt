@@ -7,4 +7,3 @@ pub mod request;
 mod ring;
 
 pub use arrays::{drop_cells, drop_word, head, place, share};
-pub use request::Found;

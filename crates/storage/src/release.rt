@@ -5,7 +5,6 @@ ghost use Rattle.storage.specs.Release as releases;
 use super::ring::{insert, mark_free, move_rover, relink, set_prev_free, unlink};
 use descriptor::address::SegmentAddress;
 use segment::blocks::{free_at, prev_free_at, size_at, span_at};
-use segment::minus;
 
 // All SIZE + SLOP words of the block are freed.
 pub fn release(seg: &mut [u32], block: SegmentAddress)
@@ -16,8 +15,8 @@ pub fn release(seg: &mut [u32], block: SegmentAddress)
     let n = span_at(seg, block);
     let after = SegmentAddress::of(a + n);
     if prev_free_at(seg, block) {
-        let before = size_at(seg, SegmentAddress::of(minus(a, 1))) as u32;
-        let p = SegmentAddress::of(minus(a, before));
+        let before = size_at(seg, SegmentAddress::of(a.saturating_sub(1))) as u32;
+        let p = SegmentAddress::of(a.saturating_sub(before));
         if free_at(seg, after) {
             join_both(seg, p, before + n, after);
         } else {

@@ -1,5 +1,5 @@
 // Requests: a free block is found along the ring and given, its high end or all of it.
-ghost use Rattle.std.specs.Prelude.{◌≡◌, ◌^◌, ◌<◌, ◌≤◌};
+ghost use Rattle.std.specs.Prelude.{◌≡◌, ◌^◌, ◌<◌, ◌≤◌, IfSome};
 ghost use Rattle.segment.specs.Blocks.{size_at};
 ghost use Rattle.storage.specs.Request as requests;
 ghost use Rattle.storage.specs.Found.{found};
@@ -10,45 +10,42 @@ use segment::blocks::{next_at, size_at};
 use segment::put;
 use segment::state::{rover, set_rover};
 
-// What a request gives: a block, or the news that no free block is long enough.
-#[derive(Clone, Copy)]
-pub enum Found {
-    At(SegmentAddress),
-    Full,
-}
-
-// A block of `size` words.
-pub fn request(seg: &mut [u32], size: usize) -> Found
+// A block of `size` words; none where no free block is long enough.
+pub fn request(seg: &mut [u32], size: usize) -> Option<SegmentAddress>
     ensures value { result ≡ found (requests.request_at seg.old size) }
     ensures seg_after { seg.new ≡ requests.request seg.old size }
 {
-    let f = find(seg, size);
-    if f.number() == 0 {
-        return Found::Full;
-    }
-    Found::At(give(seg, f, size as u16))
+    let free = find(seg, size)?;
+    Some(give(seg, free, size as u16))
 }
 
-// The first free block with room, from ROVER along NEXT; 0 where there is none. Each block is looked at once.
-pub fn find(seg: &[u32], size: usize) -> SegmentAddress
-    ensures result_value { result.0 ≡ requests.find seg.now size }
-    ensures result_bound { result.0 < 2 ^ 16 }
+// The first free block with room, from ROVER along NEXT. Each block is looked at once.
+pub fn find(seg: &[u32], size: usize) -> Option<SegmentAddress>
+    ensures value { result ≡ found (requests.find seg.now size) }
+    ensures bound { IfSome result (λ f. f.0 < 2 ^ 16) }
 {
     let stop = rover(seg);
     let mut at = stop;
-    let mut left = seg.len();
-    while 0 < left {
+    for _ in 0..seg.len() {
         if size <= size_at(seg, at) as usize {
-            return at;
+            return block_at(at);
         }
-        let next = next_at(seg, at);
-        if next.number() == stop.number() {
-            return SegmentAddress::of(0);
+        at = next_at(seg, at);
+        if at == stop {
+            return None;
         }
-        at = next;
-        left -= 1;
     }
-    SegmentAddress::of(0)
+    None
+}
+
+// No block stands at 0, though a link of a damaged segment may lead there.
+fn block_at(at: SegmentAddress) -> Option<SegmentAddress>
+    ensures { result ≡ found at.0 }
+{
+    if at.number() == 0 {
+        return None;
+    }
+    Some(at)
 }
 
 // The free block at f serves the request: where the block given starts.

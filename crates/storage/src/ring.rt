@@ -5,7 +5,7 @@ ghost use Rattle.storage.specs.Ring as ring;
 use descriptor::address::SegmentAddress;
 use segment::blocks::{dummy, last_at, next_at};
 use segment::state::{rover, set_rover};
-use segment::{halves, high, low, minus, put, word};
+use segment::{halves, high, low, put, word};
 
 pub fn set_next(seg: &mut [u32], block: SegmentAddress, to: SegmentAddress)
     requires { to.0 < 2 ^ 16 }
@@ -47,7 +47,7 @@ pub fn mark_free(seg: &mut [u32], block: SegmentAddress, n: u32)
     ensures { seg.new ≡ ring.mark_free seg.old block.0 n }
 {
     put(seg, block.index(), 0x8000_0000 + n);
-    put(seg, minus(block.number() + n, 1) as usize, n);
+    put(seg, (block.number() + n).saturating_sub(1) as usize, n);
 }
 
 // The block leaves the ring.
@@ -103,7 +103,7 @@ pub fn move_rover(seg: &mut [u32], vanished: SegmentAddress, merged: SegmentAddr
     requires { merged.0 < 2 ^ 16 }
     ensures { seg.new ≡ ring.move_rover seg.old vanished.0 merged.0 }
 {
-    if rover(seg).number() == vanished.number() {
+    if rover(seg) == vanished {
         set_rover(seg, merged);
     }
 }

@@ -10,15 +10,12 @@
 // dummy as d > NEXT < LAST.
 #![tactic(auto)]
 
-ghost use Rattle.std.specs.Prelude.{◌+◌, ◌^◌, ◌<◌, ◌≤◌};
+ghost use Rattle.std.specs.Prelude.{◌≡◌, ◌+◌, ◌^◌, ◌<◌, ◌≤◌, length};
 
 use descriptor::Descriptor;
 use descriptor::address::{SegmentAddress, StackAddress};
-use storage::Found;
-
-const STDIN: i32 = 0;
-
-const STDOUT: i32 = 1;
+use line_tool::pen::Pen;
+use line_tool::streams::{STDIN, STDOUT};
 
 const STEP: usize = 8;
 
@@ -27,7 +24,9 @@ fn main() {
     let n = io::read_full(STDIN, &mut script);
     let mut seg = [0u32; 96];
     lay_out(&mut seg);
-    run(&mut seg, &script[..n]);
+    let mut pen = Pen::new(STDOUT);
+    run(&mut pen, &mut seg, &script[..n]);
+    pen.flush();
 }
 
 // BLOCKPTR 8, SBASE 80: one free block of 69 words and the dummy at 77. LTOP 15; the cells are undefined.
@@ -38,29 +37,23 @@ fn lay_out(seg: &mut [u32]) {
     clear_cells(seg, 0, 16);
 }
 
-fn run(seg: &mut [u32], script: &[u8]) {
-    let mut at = 0;
-    while at < script.len() {
-        if script.len() - at < STEP {
-            return;
-        }
-        step(seg, &script[at..at + STEP], (at % 0x1_0000) as u32);
-        at += STEP;
+fn run(pen: &mut Pen, seg: &mut [u32], script: &[u8]) {
+    for (i, line) in script.chunks_exact(STEP).enumerate() {
+        step(pen, seg, line, (i % 0x2000 * STEP) as u32);
     }
 }
 
-fn step(seg: &mut [u32], line: &[u8], value: u32) {
-    if line.len() < STEP {
-        return;
-    }
+fn step(pen: &mut Pen, seg: &mut [u32], line: &[u8], value: u32)
+    requires { length line.now ≡ 8 }
+{
     let a = number(line[2], line[3]);
     let b = number(line[5], line[6]);
     let at = act(seg, line[0], a, b, value);
-    io::write_all(STDOUT, &line[0..7]);
-    write_number(b" at ", at);
-    write_number(b" rover ", segment::state::rover(seg).number());
-    write_walk(seg);
-    io::write_all(STDOUT, b"\n");
+    pen.text(&line[0..7]);
+    write_number(pen, b" at ", at);
+    write_number(pen, b" rover ", segment::state::rover(seg).number());
+    write_walk(pen, seg);
+    pen.text(b"\n");
 }
 
 fn number(tens: u8, ones: u8) -> u32
@@ -92,7 +85,8 @@ fn act(seg: &mut [u32], letter: u8, a: u32, b: u32, value: u32) -> u32
             w % 0x1_0000
         }
         _ => {
-            storage::drop_cells(seg, StackAddress::of(a), b);
+            let start = SegmentAddress::of(segment::state::sbase(seg).number() + a);
+            storage::drop_cells(seg, start, b);
             clear_cells(seg, a, b);
             0
         }
@@ -100,20 +94,16 @@ fn act(seg: &mut [u32], letter: u8, a: u32, b: u32, value: u32) -> u32
 }
 
 // The cell becomes a new array, whose elements are all `value`.
-fn place(seg: &mut [u32], cell: u32, shape: &[u32], n: usize, value: u32) -> u32 {
+fn place(seg: &mut [u32], cell: u32, shape: &[u32], n: usize, value: u32) -> u32
+    requires { n ≤ 198 }
+{
     let elements = [value; 198];
-    match storage::place(seg, shape, first(&elements, n)) {
-        Found::Full => 0,
-        Found::At(block) => {
-            let at = block.number() % 0x1_0000;
-            assign(seg, cell, Descriptor::TYPE_ARRAY * 0x100_0000 + at);
-            at
-        }
-    }
-}
-
-fn first(words: &[u32], n: usize) -> &[u32] {
-    if n < words.len() { &words[0..n] } else { words }
+    let Some(block) = storage::place(seg, shape, &elements[..n]) else {
+        return 0;
+    };
+    let at = block.number() % 0x1_0000;
+    assign(seg, cell, Descriptor::TYPE_ARRAY * 0x100_0000 + at);
+    at
 }
 
 // The old value goes last.
@@ -126,74 +116,63 @@ fn assign(seg: &mut [u32], cell: u32, w: u32) {
 fn clear_cells(seg: &mut [u32], from: u32, n: u32)
     requires { from + n < 2 ^ 32 }
 {
-    let mut left = n;
-    while 0 < left {
-        left -= 1;
-        segment::stack::set_cell(seg, StackAddress::of(from + left), Descriptor::UNDEFINED);
+    for cell in from..from + n {
+        segment::stack::set_cell(seg, StackAddress::of(cell), Descriptor::UNDEFINED);
     }
 }
 
-fn write_walk(seg: &[u32]) {
-    let mut a = segment::state::blockptr(seg).number();
+fn write_walk(pen: &mut Pen, seg: &[u32]) {
+    let mut block = segment::state::blockptr(seg);
     let end = segment::blocks::dummy(seg);
-    let mut left = seg.len();
-    while 0 < left {
-        if end.number() <= a {
+    for _ in 0..seg.len() {
+        if end <= block {
             break;
         }
-        let block = SegmentAddress::of(a);
-        write_block(seg, block);
-        a += segment::blocks::span_at(seg, block);
-        left -= 1;
+        write_block(pen, seg, block);
+        block = SegmentAddress::of(block.number() + segment::blocks::span_at(seg, block));
     }
-    write_address(seg, end);
-    write_links(b"d", seg, end);
+    write_address(pen, seg, end);
+    write_links(pen, b"d", seg, end);
 }
 
-fn write_block(seg: &[u32], block: SegmentAddress) {
-    write_address(seg, block);
+fn write_block(pen: &mut Pen, seg: &[u32], block: SegmentAddress) {
+    write_address(pen, seg, block);
     let size = segment::blocks::size_at(seg, block) as u32;
     if segment::blocks::free_at(seg, block) {
-        write_number(b"f", size);
-        write_links(b"", seg, block);
+        write_number(pen, b"f", size);
+        write_links(pen, b"", seg, block);
         return;
     }
-    write_number(b"a", size);
-    write_number(b"+", segment::blocks::slop_at(seg, block));
-    write_array(seg, block);
+    write_number(pen, b"a", size);
+    write_number(pen, b"+", segment::blocks::slop_at(seg, block));
+    write_array(pen, seg, block);
 }
 
-fn write_address(seg: &[u32], block: SegmentAddress) {
-    write_number(b" ", block.number());
+fn write_address(pen: &mut Pen, seg: &[u32], block: SegmentAddress) {
+    write_number(pen, b" ", block.number());
     if segment::blocks::prev_free_at(seg, block) {
-        io::write_all(STDOUT, b"^");
+        pen.text(b"^");
     }
 }
 
-fn write_links(name: &[u8], seg: &[u32], block: SegmentAddress) {
-    io::write_all(STDOUT, name);
-    write_number(b">", segment::blocks::next_at(seg, block).number());
-    write_number(b"<", segment::blocks::last_at(seg, block).number());
+fn write_links(pen: &mut Pen, name: &[u8], seg: &[u32], block: SegmentAddress) {
+    pen.text(name);
+    write_number(pen, b">", segment::blocks::next_at(seg, block).number());
+    write_number(pen, b"<", segment::blocks::last_at(seg, block).number());
 }
 
-fn write_array(seg: &[u32], block: SegmentAddress) {
-    write_number(b"#", segment::blocks::count(seg, block) as u32);
+fn write_array(pen: &mut Pen, seg: &[u32], block: SegmentAddress) {
+    write_number(pen, b"#", segment::blocks::count(seg, block) as u32);
     let lengths = sum(segment::blocks::shape(seg, block));
-    let all = std::num::wrapping_add_u32(lengths, sum(segment::blocks::elements(seg, block)));
-    write_number(b"=", all);
+    let all = lengths.wrapping_add(sum(segment::blocks::elements(seg, block)));
+    write_number(pen, b"=", all);
 }
 
 fn sum(words: &[u32]) -> u32 {
-    let mut total = 0u32;
-    let mut i = 0;
-    while i < words.len() {
-        total = std::num::wrapping_add_u32(total, words[i]);
-        i += 1;
-    }
-    total
+    words.iter().fold(0, |total: u32, w| total.wrapping_add(*w))
 }
 
-fn write_number(name: &[u8], n: u32) {
-    io::write_all(STDOUT, name);
-    io::print_decimal(STDOUT, n as u64);
+fn write_number(pen: &mut Pen, name: &[u8], n: u32) {
+    pen.text(name);
+    pen.decimal(n);
 }

@@ -1,14 +1,14 @@
 -- Elements copied from where they stand: the test for it by its ways, and the array that two parts of the segment make.
 use Prim.Native.Nat.{ℕ, ◌+◌, ◌<◌, ◌≤◌}
 use mathlib.Core.Path.{◌≡◌, refl, sym, ap, ◌∙◌}
-use mathlib.Core.Bool.{Bool, true, false, not, ◌&&◌}
+use mathlib.Core.Bool.{Bool, true, false, ◌&&◌}
 use mathlib.Core.List.{List, ◌++◌}
 use mathlib.Core.Logic.{◌≢◌, ◌⊎◌, inl, inr, ⊎_elim}
 use native.Mathlib.Omega.{arith}
 use lib.Dec.{leb, ltb}
 use lib.ListN.{get_or, length, take, length-append}
 use lib.Seq.{sets, sets-eq, take-append_seam}
-use borrow.Author.Tests.{ltb-false, leb-true, leb-false, not-true, lt-ltb, le-ltb, le-leb, lt-leb}
+use borrow.Author.Tests.{ltb-false, leb-true, leb-false, not-true, le-ltb, le-leb, lt-leb}
 use Rattle.descriptor.proofs.Truth.{both}
 use Rattle.segment.specs.Blocks.{part, size_at, next_at, last_at, need}
 use Rattle.segment.specs.Parts.{part_of}
@@ -26,65 +26,17 @@ joined-need s shape first second =
     omega
     (arith, length-append (part_of s first) (part_of s second), part_length s first.start.0 first.count, part_length s second.start.0 second.count)
 
--- the tests as the code makes them
-module _ (p : Part) (low high : ℕ) where
-  pub touches-below : p.start.0 + p.count ≤ low → false ≡ touches p low high
-  unfolding touches
-  touches-below ends = simp (le-ltb _ _ ends)
+-- a part that does not touch those words ends before, or starts behind
+apart : (p : Part) (low high : ℕ) → touches p low high ≡ false → (p.start.0 + p.count ≤ low) ⊎ (high < p.start.0)
+unfolding touches
+apart p low high = by-test (ltb low (p.start.0 + p.count)) refl
+  where
+    by-test : (goes_on : Bool) → ltb low (p.start.0 + p.count) ≡ goes_on → (goes_on && leb p.start.0 high) ≡ false
+        → (p.start.0 + p.count ≤ low) ⊎ (high < p.start.0)
+    by-test true e behind = inr (leb-false _ _ behind)
+    by-test false e any = inl (ltb-false _ _ e)
 
-  pub touches-there : low < p.start.0 + p.count → leb p.start.0 high ≡ touches p low high
-  unfolding touches
-  touches-there goes_on = simp (lt-ltb _ _ goes_on)
-
-  -- a part that does not touch them ends before, or starts behind
-  pub apart : touches p low high ≡ false → (p.start.0 + p.count ≤ low) ⊎ (high < p.start.0)
-  unfolding touches
-  apart = by-test (ltb low (p.start.0 + p.count)) refl
-    where
-      by-test : (goes_on : Bool) → ltb low (p.start.0 + p.count) ≡ goes_on → (goes_on && leb p.start.0 high) ≡ false
-          → (p.start.0 + p.count ≤ low) ⊎ (high < p.start.0)
-      by-test true e behind = inr (leb-false _ _ behind)
-      by-test false e any = inl (ltb-false _ _ e)
-
-module _ (s : List ℕ) (f : ℕ) (p : Part) where
-  pub kept-past : length s < p.start.0 + p.count → false ≡ kept s f p
-  unfolding kept
-  kept-past past = simp (lt-leb _ _ past)
-
-  module _ (fits : p.start.0 + p.count ≤ length s) where
-    pub kept-rover : touches p 0 1 ≡ true → false ≡ kept s f p
-    unfolding kept
-    kept-rover t = simp (le-leb _ _ fits, t)
-
-    module _ (rover : touches p 0 1 ≡ false) where
-      pub kept_block : touches p f (f + size_at s f) ≡ true → false ≡ kept s f p
-      unfolding kept
-      kept_block t = simp (le-leb _ _ fits, rover, t)
-
-      module _ (block : touches p f (f + size_at s f) ≡ false) where
-        pub kept_next : touches p (next_at s f + 1) (next_at s f + 1) ≡ true → false ≡ kept s f p
-        unfolding kept
-        kept_next t = simp (le-leb _ _ fits, rover, block, t)
-
-        pub kept-last : touches p (next_at s f + 1) (next_at s f + 1) ≡ false → not (touches p (last_at s f + 1) (last_at s f + 1)) ≡ kept s f p
-        unfolding kept
-        kept-last next = simp (le-leb _ _ fits, rover, block, next)
-
-module _ (s : List ℕ) (f : ℕ) (first second : Part) where
-  pub straight-past : length s < f + size_at s f → false ≡ straight s f first second
-  unfolding straight
-  straight-past past = simp (lt-leb _ _ past)
-
-  module _ (fits : f + size_at s f ≤ length s) where
-    pub straight-first : kept s f first ≡ false → false ≡ straight s f first second
-    unfolding straight
-    straight-first written = simp (le-leb _ _ fits, written)
-
-    pub straight-second : kept s f first ≡ true → kept s f second ≡ straight s f first second
-    unfolding straight
-    straight-second left = simp (le-leb _ _ fits, left)
-
--- what they say
+-- what the tests say
 pub record Kept (s : List ℕ) (f : ℕ) (p : Part) : Type 0 where
   pub fits : p.start.0 + p.count ≤ length s
   pub rover : (p.start.0 + p.count ≤ 0) ⊎ (1 < p.start.0)
@@ -162,9 +114,8 @@ kept-words s f size p k room t same =
 
 -- a part can be copied to any place in the free block
 pub copies : (s : List ℕ) (f : ℕ) (p : Part) (long from to : ℕ) → Kept s f p → f + size_at s f ≤ length s → long ≡ length s → from ≡ p.start.0
-    → (f ≤ to) × (to + p.count ≤ f + size_at s f) → (from + p.count ≤ long) × (to + p.count ≤ long) × ((from + p.count ≤ to) ⊎ (to + p.count ≤ from))
-copies s f p long from to k fits same start inside =
-    (omega (arith, k.fits), omega arith, ⊎_elim (λ below. inl (omega (arith, below))) (λ above. inr (omega (arith, above))) k.block)
+    → (f ≤ to) × (to + p.count ≤ f + size_at s f) → (from + p.count ≤ long) × (to + p.count ≤ long)
+copies s f p long from to k fits same start inside = (omega (arith, k.fits), omega arith)
 
 -- the array that both parts make, copied one after the other behind its head
 module _ (s : List ℕ) (f : ℕ) (shape : List ℕ) (first second : Part) (block : ℕ)

@@ -15,26 +15,24 @@ use descriptor::address::SegmentAddress;
 use segment::blocks::{Part, last_at, next_at, size_at};
 use segment::{copy_part, word};
 use storage::request::{find, give};
-use storage::{Found, head, place};
+use storage::{head, place};
 
-// A new array with this shape and the elements of both parts, pointed to by one cell. The scratch has room for the elements.
+// A new array with this shape and the elements of both parts, pointed to by one cell; none where no free block is long
+// enough. The scratch has room for the elements.
 pub fn place_joined(
     seg: &mut [u32],
     shape: &[u32],
     first: Part,
     second: Part,
     scratch: &mut [u32],
-) -> Found
+) -> Option<SegmentAddress>
     requires { first.count + second.count ≤ length scratch.old }
     ensures value { result ≡ found (arrays.place_at seg.old shape.now (part_of seg.old first ++ part_of seg.old second)) }
     ensures seg_after { seg.new ≡ arrays.place seg.old shape.now (part_of seg.old first ++ part_of seg.old second) }
 {
-    let f = find(seg, 2 + shape.len() + (first.count + second.count));
-    if f.number() == 0 {
-        return Found::Full;
-    }
+    let f = find(seg, 2 + shape.len() + (first.count + second.count))?;
     if is_straight(seg, f, first, second) {
-        return Found::At(join(seg, f, shape, first, second));
+        return Some(join(seg, f, shape, first, second));
     }
     place_gathered(seg, shape, first, second, scratch)
 }
@@ -68,7 +66,7 @@ fn place_gathered(
     first: Part,
     second: Part,
     scratch: &mut [u32],
-) -> Found
+) -> Option<SegmentAddress>
     requires { first.count + second.count ≤ length scratch.old }
     ensures value { result ≡ found (arrays.place_at seg.old shape.now (part_of seg.old first ++ part_of seg.old second)) }
     ensures seg_after { seg.new ≡ arrays.place seg.old shape.now (part_of seg.old first ++ part_of seg.old second) }
@@ -86,58 +84,43 @@ fn gather(seg: &[u32], part: Part, out: &mut [u32], at: usize)
     ensures { out.new ≡ sets out.old at (part_of seg.now part) }
 {
     let start = part.start.index();
-    let n = part.count;
-    let mut i = 0;
-    while i < n {
+    for i in 0..part.count {
         out[at + i] = word(seg, start + i);
-        i += 1;
     }
 }
 
 // Whether both parts can be copied straight into a block out of the free one at f.
+#[tactic(auto, unfolding(crate::specs::Joined::straight))]
 fn is_straight(seg: &[u32], f: SegmentAddress, first: Part, second: Part) -> bool
     requires { (first.count < 2 ^ 62) × (second.count < 2 ^ 62) }
     ensures { result ≡ joined.straight seg.now f.0 first second }
 {
-    if seg.len() < f.index() + size_at(seg, f) as usize {
-        return false;
-    }
-    if is_kept(seg, f, first) {
-        return is_kept(seg, f, second);
-    }
-    false
+    f.index() + size_at(seg, f) as usize <= seg.len()
+        && is_kept(seg, f, first)
+        && is_kept(seg, f, second)
 }
 
 // Whether a request that the free block at f serves leaves the part's words as they are.
+#[tactic(auto, unfolding(crate::specs::Joined::kept))]
 fn is_kept(seg: &[u32], f: SegmentAddress, part: Part) -> bool
     requires { part.count < 2 ^ 62 }
     ensures { result ≡ joined.kept seg.now f.0 part }
 {
-    if seg.len() < part.start.index() + part.count {
-        return false;
-    }
-    if touches(part, 0, 1) {
-        return false;
-    }
-    if touches(part, f.index(), f.index() + size_at(seg, f) as usize) {
-        return false;
-    }
     let next = next_at(seg, f).index() + 1;
-    if touches(part, next, next) {
-        return false;
-    }
     let last = last_at(seg, f).index() + 1;
-    !touches(part, last, last)
+    part.start.index() + part.count <= seg.len()
+        && !touches(part, 0, 1)
+        && !touches(part, f.index(), f.index() + size_at(seg, f) as usize)
+        && !touches(part, next, next)
+        && !touches(part, last, last)
 }
 
 // Whether the part neither ends before `low` nor starts behind `high`: a word of it may stand among them.
+#[tactic(auto, unfolding(crate::specs::Joined::touches))]
 fn touches(part: Part, low: usize, high: usize) -> bool
     requires { part.count < 2 ^ 62 }
     ensures { result ≡ joined.touches part low high }
 {
     let start = part.start.index();
-    if start + part.count <= low {
-        return false;
-    }
-    start <= high
+    low < start + part.count && start <= high
 }

@@ -3,7 +3,7 @@ use crate::picture::draw;
 use line_tool::streams::{STDERR, STDOUT};
 use line_tool::tables::line;
 use line_tool::writing::put;
-use operations::Sheeted;
+use operations::Refusal;
 use segment_files::answers::{give, put_count, tell};
 use segment_files::buffers;
 use segment_files::files::read_words;
@@ -19,14 +19,14 @@ pub fn answer(rt: &(impl Files<File = File> + Eprint), text: &[u8]) -> bool {
     let mut words = buffers::words();
     let n = read_words(rt, line(text, 0), &mut words);
     match sheet_of(rt, &words[0..n], text) {
-        Sheeted::Refused(test) => refuse(test),
-        Sheeted::Summed(sheet) => map(rt, &words[0..n], sheet, line(text, 3)),
+        Ok(sheet) => map(rt, &words[0..n], sheet, line(text, 3)),
+        Err(refusal) => refuse(refusal),
     }
 }
 
-fn refuse(test: u8) -> bool {
+fn refuse(refusal: Refusal) -> bool {
     let mut out = io::buffer();
-    let n = put_count(&mut out, 0, b"refused ", test as u32);
+    let n = put_count(&mut out, 0, b"refused ", refusal.number() as u32);
     give(&out, n, b"storage_map: cannot write the answer")
 }
 

@@ -71,19 +71,16 @@ pub fn measure(seg: &[u32]) -> Extent {
     let end = dummy(seg).number();
     let mut a = blockptr(seg).number();
     let mut longest = 3;
-    let mut blocks = 0;
-    while blocks < MOST_BLOCKS {
+    for blocks in 0..MOST_BLOCKS {
         if end < a {
             return Extent { blocks, longest };
         }
         let span = block_at(seg, a).span();
-        longest = greater(longest, span);
+        longest = longest.max(span);
         a += span;
-        blocks += 1;
     }
-    Extent { blocks, longest }
-}
-
-fn greater(a: u32, b: u32) -> u32 {
-    if a < b { b } else { a }
+    Extent {
+        blocks: MOST_BLOCKS,
+        longest,
+    }
 }

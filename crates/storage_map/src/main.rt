@@ -5,8 +5,8 @@
 
 mod answer;
 mod blocks;
-mod pen;
 mod picture;
+mod writing;
 
 use answer::answer;
 use segment_files::names::{read_text, texts_end};
@@ -17,12 +17,10 @@ use std::rt::{Env, Files};
 // After an answer that could not be written there are no others.
 fn main(rt: HostRuntime) {
     let end = texts_end(&rt);
-    let mut k = 1;
-    while k < end {
+    for k in 1..end {
         if !answer_text(&rt, k) {
             return;
         }
-        k += 1;
     }
 }
 

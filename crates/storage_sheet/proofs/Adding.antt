@@ -21,8 +21,8 @@ pub record Adding (s : List ℕ) (from end arrays slop free a left : ℕ) : Type
   pub slop_sum : slop + sum_of (slop_at s) (starts_from false left s a end) ≡ sum_of (slop_at s) (starts_from false (length s) s from end)
   pub free_sum : free + sum_of (size_at s) (starts_from true left s a end) ≡ sum_of (size_at s) (starts_from true (length s) s from end)
 
-pub adding-start : (s : List ℕ) (from end : ℕ) → Adding s from end 0 0 0 from (length s)
-adding-start s from end = record { array_sum = omega arith; slop_sum = omega arith; free_sum = omega arith }
+pub adding-start : (s : List ℕ) (from end : ℕ) → {left : ℕ} → left ≡ length s → Adding s from end 0 0 0 from left
+adding-start s from end all = rw all (record { array_sum = omega arith; slop_sum = omega arith; free_sum = omega arith })
 
 -- the sums of a long segment's blocks fit into 32 bits
 module _ (s : List ℕ) (from end : ℕ) (short : length s ≤ 16384) where

@@ -6,7 +6,6 @@ ghost use Rattle.storage_sheet.specs.Sheet.{sheet_of};
 
 use descriptor::address::SegmentAddress;
 use segment::blocks::{dummy, free_at, size_at, slop_at, span_at};
-use segment::minus;
 use segment::state::{blockptr, sbase};
 
 // Words of arrays, of slop, of free blocks and of the dummy, and of array storage in all.
@@ -25,14 +24,13 @@ pub fn add_up(seg: &[u32]) -> Sheet
     ensures { result ≡ sheet_of seg.now }
 {
     let from = blockptr(seg).number();
-    let end = dummy(seg).number();
+    let stop = dummy(seg).number();
     let mut arrays = 0;
     let mut slop = 0;
     let mut free = 0;
     let mut a = from;
-    let mut left = seg.len();
-    while 0 < left {
-        if end <= a {
+    'walk: for _ in 0..seg.len() {
+        if stop <= a {
             break;
         }
         let block = SegmentAddress::of(a);
@@ -45,13 +43,12 @@ pub fn add_up(seg: &[u32]) -> Sheet
             slop += slop_at(seg, block);
         }
         a += span;
-        left -= 1;
     }
     Sheet {
         arrays,
         slop,
         free,
         end: 3,
-        total: minus(sbase(seg).number(), from),
+        total: sbase(seg).number().saturating_sub(from),
     }
 }

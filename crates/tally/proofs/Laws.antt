@@ -1,16 +1,16 @@
 -- The laws of counts: what counting an instruction leaves, and the struct beside its eight counts. Assumes nothing.
-use Prim.Native.Nat.{ℕ, zero, suc, ◌+◌, ◌^◌, ◌<◌, ◌≤◌}
+use Prim.Native.Nat.{min, ℕ, zero, suc, ◌+◌, ◌^◌, ◌<◌, ◌≤◌}
 use native.Mathlib.Omega.{arith}
 use mathlib.Core.Path.{◌≡◌, refl, sym, ap, ◌∙◌}
 use mathlib.Core.Bool.{Bool, true, false, cond}
 use mathlib.Core.List.{List, [], ◌∷◌}
 use lib.Dec.{ltb}
 use lib.ListN.{get_or, set, length, length-set}
-use lib.Seq.{set_out, take_all}
+use lib.Seq.{set_out, set-get_or, take_all}
 use mir.Val.{Val}
 use denote.Laws.{Is}
 use denote.Struct.Laws.{owed}
-use borrow.Author.Tests.{lt-ltb, le-ltb, le-leb, lt-leb}
+use borrow.Author.Tests.{ltb-true, ltb-false}
 use Rattle.instruction.specs.Families.{family_of, order_of}
 use Rattle.segment.proofs.Parts.{part-take}
 use Rattle.tally.specs.declared.Tally.{Tally}
@@ -30,13 +30,18 @@ same-either false counts = refl
 
 -- an instruction whose family's count is at i
 module _ (first : ℕ) (counts : List ℕ) (i : ℕ) (place : i ≡ order_of (family_of first)) where
-  pub count-up : get_or counts i 0 < count_limit → counted first counts ≡ set counts i (get_or counts i 0 + 1)
+  pub count-up : get_or counts i 0 ≤ count_limit → counted first counts ≡ set counts i (min (get_or counts i 0 + 1) count_limit)
   unfolding counted count_up
-  count-up below = rw (sym place) (simp (lt-ltb (get_or counts i 0) count_limit below))
-
-  pub count-stays : count_limit ≤ get_or counts i 0 → counted first counts ≡ counts
-  unfolding counted count_up
-  count-stays reached = rw (sym place) (simp (le-ltb (get_or counts i 0) count_limit reached))
+  count-up word = rw (sym place) (by-test (ltb (get_or counts i 0) count_limit) refl)
+    where
+      by-test : (b : Bool) → ltb (get_or counts i 0) count_limit ≡ b
+          → cond b (set counts i (get_or counts i 0 + 1)) counts ≡ set counts i (min (get_or counts i 0 + 1) count_limit)
+      by-test true e =
+          let more : min (get_or counts i 0 + 1) count_limit ≡ get_or counts i 0 + 1 = omega (arith, ltb-true _ _ e) in
+          rw more
+      by-test false e =
+          let full : min (get_or counts i 0 + 1) count_limit ≡ get_or counts i 0 = omega (arith, ltb-false _ _ e, word) in
+          rw full (sym (set-get_or counts i 0))
 
   pub count_past : length counts ≤ i → counted first counts ≡ counts
   unfolding counted count_up
@@ -53,15 +58,8 @@ counted-length first counts =
 
 -- ---- both counts of a family
 
-module _ (a b : ℕ) where
-  pub sum_below : a + b ≤ count_limit → count_sum a b ≡ a + b
-  sum_below fits = simp (le-leb (a + b) count_limit fits)
-
-  pub sum-full : count_limit < a + b → count_sum a b ≡ count_limit
-  sum-full past = simp (lt-leb (a + b) count_limit past)
-
 pub sum-none : (b : ℕ) → b ≤ count_limit → count_sum 0 b ≡ b
-sum-none b fits = sum_below 0 b (omega arith) ∙ omega arith
+sum-none b fits = omega arith
 
 -- ---- the struct
 

@@ -1,7 +1,7 @@
 -- Counts by family. Document 02, paper 1: "A tally lent to the replay goes up by one per finished instruction in its family of
 -- eight. It is zeroed first, and a count that reaches 4,294,967,295 stays there." A tally is eight counts, in document 01's order
 -- of first bytes. Assumes nothing.
-use Rattle.std.specs.Prelude.{ℕ, ◌+◌, ◌-◌, ◌^◌, cond, List, [], ◌∷◌, ltb, leb, get_or, set, replicate}
+use Rattle.std.specs.Prelude.{ℕ, ◌+◌, ◌-◌, ◌^◌, min, cond, List, [], ◌∷◌, ltb, get_or, set, replicate}
 use Rattle.instruction.specs.Families.{family_of, order_of}
 use Rattle.tally.specs.declared.Tally.{Tally}
 
@@ -38,7 +38,7 @@ tally_of counts = record {
 
 -- Both counts of a family, up to the limit.
 abbrev pub count_sum : ℕ → ℕ → ℕ
-count_sum a b = cond (leb (a + b) count_limit) (a + b) count_limit
+count_sum a b = min (a + b) count_limit
 
 unfoldable pub added : Tally → Tally → Tally
 added t more = record {

@@ -8,13 +8,11 @@ use instruction::family::family_of;
 pub fn count(counts: &mut [u32], first: u8)
     ensures { counts.new ≡ counted first counts.old }
 {
-    if counts.len() == 0 {
+    if counts.is_empty() {
         return;
     }
     let i = family_of(first).order();
     if i < counts.len() {
-        if counts[i] < 0xFFFF_FFFF {
-            counts[i] += 1;
-        }
+        counts[i] = counts[i].saturating_add(1);
     }
 }

@@ -3,14 +3,14 @@
 
 ghost use Rattle.std.specs.Prelude.{◌≡◌};
 ghost use Rattle.std.proofs.lemmas.List.Edits.{sets};
-ghost use Rattle.tally.specs.Counts.{added, count_sum, counts_of, none_counted, tally_of};
+ghost use Rattle.tally.specs.Counts.{added, counts_of, none_counted, tally_of};
 
 use segment::{put_all, word};
 
 pub mod counting;
 
 // One count for each family of first bytes, in document 01's order.
-#[derive(Clone, Copy)]
+#[derive(Clone, Copy, Default)]
 pub struct Tally {
     pub short_local: u32,
     pub short_const: u32,
@@ -26,16 +26,7 @@ impl Tally {
     pub fn zero() -> Tally
         ensures { result ≡ tally_of none_counted }
     {
-        Tally {
-            short_local: 0,
-            short_const: 0,
-            gen_scalar: 0,
-            mem_ref: 0,
-            etc: 0,
-            long_local: 0,
-            long_global: 0,
-            index: 0,
-        }
+        Tally::default()
     }
 
     // The tally of lent counts, 0 for each that is not lent.
@@ -54,18 +45,19 @@ impl Tally {
         }
     }
 
+    // Both counts of each family, up to the limit.
     pub fn plus(self, more: Tally) -> Tally
         ensures { result ≡ added self more }
     {
         Tally {
-            short_local: sum(self.short_local, more.short_local),
-            short_const: sum(self.short_const, more.short_const),
-            gen_scalar: sum(self.gen_scalar, more.gen_scalar),
-            mem_ref: sum(self.mem_ref, more.mem_ref),
-            etc: sum(self.etc, more.etc),
-            long_local: sum(self.long_local, more.long_local),
-            long_global: sum(self.long_global, more.long_global),
-            index: sum(self.index, more.index),
+            short_local: self.short_local.saturating_add(more.short_local),
+            short_const: self.short_const.saturating_add(more.short_const),
+            gen_scalar: self.gen_scalar.saturating_add(more.gen_scalar),
+            mem_ref: self.mem_ref.saturating_add(more.mem_ref),
+            etc: self.etc.saturating_add(more.etc),
+            long_local: self.long_local.saturating_add(more.long_local),
+            long_global: self.long_global.saturating_add(more.long_global),
+            index: self.index.saturating_add(more.index),
         }
     }
 
@@ -90,16 +82,5 @@ impl Tally {
             self.index,
         ];
         put_all(out, 0, &counts);
-    }
-}
-
-// Both counts of a family, up to the limit.
-fn sum(a: u32, b: u32) -> u32
-    ensures { result ≡ count_sum a b }
-{
-    if b <= 0xFFFF_FFFF - a {
-        a + b
-    } else {
-        0xFFFF_FFFF
     }
 }

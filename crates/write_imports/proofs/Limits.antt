@@ -7,14 +7,13 @@ use mathlib.Core.Path.{◌≡◌, refl, ◌∙◌}
 use mathlib.Core.List.{List, [], ◌∷◌}
 use lib.ListN.{length, set, take, length-set}
 use Rattle.imports.specs.Encoding.{AtMost}
-use Rattle.write_imports.specs.declared.numbers.Limited.{Limited}
-use Rattle.write_imports.specs.declared.numbers.Limited.TheVariants.{Value}
-use Rattle.write_imports.specs.declared.numbers.Taken.{Taken}
-use Rattle.write_imports.specs.declared.numbers.Taken.TheVariants.{Numbers}
+use Rattle.std.proofs.Common.{Result, Ok}
+use Rattle.write_imports.specs.declared.wrong.Refused.{Refused}
+use Rattle.write_imports.specs.declared.wrong.Wrong.{Wrong}
 use Rattle.write_imports.specs.Lines.{Below, Holds}
 
 -- the number that was read
-pub value-below : (most v : ℕ) {r : Limited} → r ≡ Value v → Below most r → v ≤ most
+pub value-below : (most v : ℕ) {r : Result ℕ Wrong} → r ≡ Ok v → Below most r → v ≤ most
 value-below most v e h = rw e at h
 
 one_more : (most n v : ℕ) (out : List ℕ) → n < length out → v ≤ most → AtMost most (take n out) → AtMost most (take (suc n) (set out n v))
@@ -41,5 +40,5 @@ module _ {most : ℕ} {before : List ℕ} where
     below = rw (add-one n) (one_more most n v out h fits f.below);
   }
 
-pub taken-below : (most n : ℕ) (out : List ℕ) {r : Taken} → r ≡ Numbers n → Holds most r out → (n ≤ length out) × AtMost most (take n out)
+pub taken-below : (most n : ℕ) (out : List ℕ) {r : Result ℕ Refused} → r ≡ Ok n → Holds most r out → (n ≤ length out) × AtMost most (take n out)
 taken-below most n out e h = rw e at h

@@ -11,8 +11,8 @@ use Rattle.imports.specs.Records as file
 use Rattle.imports.specs.Records.{element_limit, number_limit}
 use Rattle.imports.specs.Encoding.{encode_record, AtMost}
 use Rattle.imports.proofs.Theorem.{imports-theorems}
-use Rattle.write_imports.specs.declared.records.Written.{Written}
-use Rattle.write_imports.specs.declared.records.Written.TheVariants.{Record}
+use Rattle.std.proofs.Common.{Result, Ok}
+use Rattle.write_imports.specs.declared.wrong.Refused.{Refused}
 use Rattle.write_imports.specs.Lines.{Room, Short, Encoded, Writes, ReadBack}
 
 -- the part in front
@@ -55,7 +55,7 @@ pub run-encoded : (budget : ℕ) {n : ℕ} {out : List ℕ} → budget ≤ numbe
     → Encoded n out
 run-encoded budget b bytes h = record { written = file.run budget; writable = b; bytes = bytes; within = h }
 
-pub encoded : (n : ℕ) (out : List ℕ) {r : Written} → r ≡ Record n → Writes r out → Encoded n out
+pub encoded : (n : ℕ) (out : List ℕ) {r : Result ℕ Refused} → r ≡ Ok n → Writes r out → Encoded n out
 encoded n out e w = rw e at w
 
 pub read_back : ReadBack

@@ -1,32 +1,27 @@
 -- What the program writes for a line: nothing, or the bytes of a record that is read back, whatever stands before and after it.
 -- Contracts of the program cite it. That the record is the one which the line says is not said here. Assumes nothing.
-use Rattle.std.specs.Prelude.{ℕ, ◌+◌, ◌*◌, ◌≤◌, ◌≡◌, List, ◌++◌, length, take}
+use Rattle.std.specs.Prelude.{ℕ, ◌+◌, ◌*◌, ◌≤◌, ◌≡◌, List, ◌++◌, length, take, Result, Ok, Err}
 use Rattle.descriptor.specs.Fields.{integer_limit}
 use Rattle.imports.specs.Records as file
 use Rattle.imports.specs.Records.{element_limit, number_limit, found, record_at}
 use Rattle.imports.specs.Encoding.{encode_record, AtMost, Writable}
+use Rattle.write_imports.specs.declared.wrong.Refused.{Refused}
+use Rattle.write_imports.specs.declared.wrong.Wrong.{Wrong}
 use Rattle.write_imports.specs.declared.numbers.Limit.{Limit}
 use Rattle.write_imports.specs.declared.numbers.Limit.TheVariants as limit
-use Rattle.write_imports.specs.declared.numbers.Limited.{Limited}
-use Rattle.write_imports.specs.declared.numbers.Limited.TheVariants as limited
-use Rattle.write_imports.specs.declared.numbers.Taken.{Taken}
-use Rattle.write_imports.specs.declared.numbers.Taken.TheVariants as taken
-use Rattle.write_imports.specs.declared.records.Written.{Written}
-use Rattle.write_imports.specs.declared.records.Written.TheVariants as written
 
 abbrev pub limit_of : Limit → ℕ
 limit_of limit.Number = number_limit
 limit_of limit.Element = integer_limit
 
 -- A number that was read is no greater than its limit, and so are several.
-abbrev pub Below : ℕ → Limited → Type 0
-Below most (limited.Value n) = n ≤ most
-Below most (limited.Wrong wrong) = Unit {0}
+abbrev pub Below : ℕ → Result ℕ Wrong → Type 0
+Below most (Ok n) = n ≤ most
+Below most (Err wrong) = Unit {0}
 
-abbrev pub Holds : ℕ → Taken → List ℕ → Type 0
-Holds most (taken.Numbers n) out = (n ≤ length out) × AtMost most (take n out)
-Holds most (taken.More token) out = Unit {0}
-Holds most (taken.Wrong wrong token) out = Unit {0}
+abbrev pub Holds : ℕ → Result ℕ Refused → List ℕ → Type 0
+Holds most (Ok n) out = (n ≤ length out) × AtMost most (take n out)
+Holds most (Err refused) out = Unit {0}
 
 -- Four bytes for each number of the longest record.
 abbrev pub room_out : ℕ
@@ -52,9 +47,9 @@ pub record Encoded (n : ℕ) (out : List ℕ) : Type 0 where
   pub bytes : take n out ≡ encode_record written
   pub within : n ≤ length out
 
-abbrev pub Writes : Written → List ℕ → Type 0
-Writes (written.Record n) out = Encoded n out
-Writes (written.Wrong wrong token) out = Unit {0}
+abbrev pub Writes : Result ℕ Refused → List ℕ → Type 0
+Writes (Ok n) out = Encoded n out
+Writes (Err refused) out = Unit {0}
 
 -- Such bytes are read as that record, wherever they stand in a file. Proved in proofs/Reading.
 abbrev pub ReadBack : Type 0

@@ -33,10 +33,8 @@ fn write_numbers(numbers: &[u32], out: &mut [u8], at: usize) -> usize
     ensures value { (result ≡ at + length (encode_numbers numbers.now)) × (result ≤ at + 4 * length numbers.now) }
 {
     let mut to = at;
-    let mut i = 0;
-    while i < numbers.len() {
-        to = write_number(numbers[i], out, to);
-        i += 1;
+    for &n in numbers {
+        to = write_number(n, out, to);
     }
     to
 }

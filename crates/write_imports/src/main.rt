@@ -14,57 +14,53 @@ mod output;
 mod records;
 mod wrong;
 
-use input::{Reading, read_all};
+use input::{Stop, read_all};
 use line_tool::command::is;
 use line_tool::streams::STDERR;
+use std::alloc::AllocError;
 use std::env::FillError;
 use std::rt::Env;
 
-// A line may have the most elements that a record may have, with room to spare.
-fn main(rt: HostRuntime) {
-    let Asked::For(show) = argument(&rt) else {
+fn main(rt: HostRuntime) -> Result<(), AllocError> {
+    let Some(show) = argument(&rt) else {
         io::write_all(
             STDERR,
             b"write_imports: the one argument that it takes is show\n",
         );
-        return;
+        return Ok(());
     };
-    let mut line = [0u8; 262144];
-    let mut out = io::large_buffer();
-    read_all(&rt, Reading::new(show), &mut line, &mut out);
+    match read_all(&rt, show) {
+        Err(Stop::NotWritten) => {
+            io::write_all(STDERR, b"write_imports: cannot write a record\n");
+            Ok(())
+        }
+        Err(Stop::NoMemory(why)) => Err(why),
+        Ok(()) => Ok(()),
+    }
 }
 
-// Are the records to be shown?
-#[derive(Clone, Copy)]
-enum Asked {
-    For(bool),
-    Unclear,
-}
-
-fn argument(rt: &impl Env) -> Asked {
+// Are the records to be shown? None where the arguments are unclear.
+fn argument(rt: &impl Env) -> Option<bool> {
     let mut word = io::buffer();
     match rt.arg(1, &mut word) {
-        Err(FillError::NotPresent) => Asked::For(false),
-        Err(FillError::TooLong) => Asked::Unclear,
+        Err(FillError::NotPresent) => Some(false),
+        Err(FillError::TooLong) => None,
         Ok(n) => asked_by(&word[..n], has_argument(rt, 2)),
     }
 }
 
 // What the first argument asks for, where there is a second one or none.
-fn asked_by(word: &[u8], has_second: bool) -> Asked {
+fn asked_by(word: &[u8], has_second: bool) -> Option<bool> {
     if has_second {
-        return Asked::Unclear;
+        return None;
     }
     if is(word, b"show") {
-        return Asked::For(true);
+        return Some(true);
     }
-    Asked::Unclear
+    None
 }
 
 fn has_argument(rt: &impl Env, i: usize) -> bool {
     let mut word = io::buffer();
-    match rt.arg(i, &mut word) {
-        Err(FillError::NotPresent) => false,
-        _ => true,
-    }
+    !matches!(rt.arg(i, &mut word), Err(FillError::NotPresent))
 }

@@ -2,10 +2,10 @@
 ghost use Rattle.std.specs.Prelude.{◌≡◌};
 ghost use Rattle.write_imports.specs.Lines as meaning;
 
-use crate::wrong::Wrong;
+use crate::wrong::{Refused, Wrong};
 use line_tool::fault::Fault;
-use line_tool::number::{Number, decimal};
-use line_tool::tokens::{Token, text, token_at};
+use line_tool::number::decimal;
+use line_tool::tokens::{text, token_at};
 
 // What a number may be at most: what a file can say, or the greatest integer.
 #[derive(Clone, Copy)]
@@ -14,58 +14,45 @@ pub enum Limit {
     Element,
 }
 
-#[derive(Clone, Copy)]
-pub enum Limited {
-    Value(u32),
-    Wrong(Wrong),
-}
-
-#[derive(Clone, Copy)]
-pub enum Taken {
-    // So many numbers.
-    Numbers(usize),
-    // There are more than fit, from this one on.
-    More(Token),
-    Wrong(Wrong, Token),
-}
-
-// The numbers of a text from a place on, put into `out` in order.
-pub fn numbers_from(limit: Limit, line: &[u8], from: usize, out: &mut [u32]) -> Taken
+// How many numbers a text has from a place on, put into `out` in order; `more` where they are more than fit.
+pub fn numbers_from(
+    limit: Limit,
+    line: &[u8],
+    from: usize,
+    more: Wrong,
+    out: &mut [u32],
+) -> Result<usize, Refused>
     ensures { meaning.Holds (meaning.limit_of limit) result out.new }
 {
     let mut at = from;
-    let mut n = 0;
-    while n < out.len() {
+    for n in 0..out.len() {
         let token = token_at(line, at);
         if token.is_empty() {
-            return Taken::Numbers(n);
+            return Ok(n);
         }
         match number_in(limit, text(line, token)) {
-            Limited::Wrong(wrong) => return Taken::Wrong(wrong, token),
-            Limited::Value(value) => {
-                out[n] = value;
-                n += 1;
-                at = token.end;
-            }
+            Err(wrong) => return Err(Refused { wrong, token }),
+            Ok(value) => out[n] = value,
         }
+        at = token.end;
     }
     let token = token_at(line, at);
     if token.is_empty() {
-        return Taken::Numbers(n);
+        return Ok(out.len());
     }
-    Taken::More(token)
+    Err(Refused { wrong: more, token })
 }
 
-pub fn number_in(limit: Limit, word: &[u8]) -> Limited
+pub fn number_in(limit: Limit, word: &[u8]) -> Result<u32, Wrong>
     ensures { meaning.Below (meaning.limit_of limit) result }
 {
     match decimal(word) {
-        Number::Wrong(fault) => Limited::Wrong(no_number(limit, fault)),
-        Number::Value(value) => {
+        Err(fault) => Err(no_number(limit, fault)),
+        Ok(value) => {
             if most(limit) < value {
-                return Limited::Wrong(above(limit));
+                return Err(above(limit));
             }
-            Limited::Value(value)
+            Ok(value)
         }
     }
 }

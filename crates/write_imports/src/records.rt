@@ -5,22 +5,20 @@ ghost use Rattle.imports.specs.Encoding.{AtMost};
 ghost use Rattle.write_imports.specs.Lines as meaning;
 
 use crate::encode::{encode_load, encode_run};
-use crate::numbers::{Limit, Limited, Taken, number_in, numbers_from};
-use crate::wrong::Wrong;
+use crate::numbers::{Limit, number_in, numbers_from};
+use crate::wrong::{Refused, Wrong};
 use elements::shapes::product;
 use line_tool::command::is;
 use line_tool::fault::Fault;
 use line_tool::tokens::{Token, text, token_at};
 
-// A record of so many bytes, or what is wrong with which token.
-#[derive(Clone, Copy)]
-pub enum Written {
-    Record(usize),
-    Wrong(Wrong, Token),
-}
-
-// The bytes of the record that a line says go to the front of `out`.
-pub fn write_line(line: &[u8], lengths: &mut [u32], ravel: &mut [u32], out: &mut [u8]) -> Written
+// The bytes of the record that a line says go to the front of `out`: how many they are.
+pub fn write_line(
+    line: &[u8],
+    lengths: &mut [u32],
+    ravel: &mut [u32],
+    out: &mut [u8],
+) -> Result<usize, Refused>
     requires { meaning.Room lengths.old ravel.old out.old }
     ensures { meaning.Writes result out.new }
 {
@@ -31,22 +29,22 @@ pub fn write_line(line: &[u8], lengths: &mut [u32], ravel: &mut [u32], out: &mut
     if is(text(line, word), b"run") {
         return write_run(line, word.end, out);
     }
-    Written::Wrong(Wrong::NoRecord, word)
+    Err(refused(Wrong::NoRecord, word))
 }
 
-fn write_run(line: &[u8], at: usize, out: &mut [u8]) -> Written
+fn write_run(line: &[u8], at: usize, out: &mut [u8]) -> Result<usize, Refused>
     requires { meaning.room_out ≤ length out.old }
     ensures { meaning.Writes result out.new }
 {
     let token = token_at(line, at);
     match number_in(Limit::Number, text(line, token)) {
-        Limited::Wrong(wrong) => Written::Wrong(wrong, shown(token, at)),
-        Limited::Value(budget) => {
+        Err(wrong) => Err(refused(wrong, shown(token, at))),
+        Ok(budget) => {
             let more = token_at(line, token.end);
             if !more.is_empty() {
-                return Written::Wrong(Wrong::Text(Fault::Extra), more);
+                return Err(refused(Wrong::Text(Fault::Extra), more));
             }
-            Written::Record(encode_run(budget, out))
+            Ok(encode_run(budget, out))
         }
     }
 }
@@ -58,13 +56,13 @@ fn write_load(
     lengths: &mut [u32],
     ravel: &mut [u32],
     out: &mut [u8],
-) -> Written
+) -> Result<usize, Refused>
     requires { meaning.Room lengths.old ravel.old out.old }
     ensures { meaning.Writes result out.new }
 {
     let bar = bar_from(line, at);
     if bar.is_empty() {
-        return Written::Wrong(Wrong::Text(Fault::NoBar), bar);
+        return Err(refused(Wrong::Text(Fault::NoBar), bar));
     }
     let before = text(
         line,
@@ -75,8 +73,8 @@ fn write_load(
     );
     let address = token_at(before, at);
     match number_in(Limit::Number, text(before, address)) {
-        Limited::Wrong(wrong) => Written::Wrong(wrong, shown(address, at)),
-        Limited::Value(global) => write_value(
+        Err(wrong) => Err(refused(wrong, shown(address, at))),
+        Ok(global) => write_value(
             global,
             before,
             address.end,
@@ -99,15 +97,12 @@ fn write_value(
     lengths: &mut [u32],
     ravel: &mut [u32],
     out: &mut [u8],
-) -> Written
+) -> Result<usize, Refused>
     requires { (global ≤ number_limit) × meaning.Room lengths.old ravel.old out.old }
     ensures { meaning.Writes result out.new }
 {
-    match numbers_from(Limit::Number, before, from, lengths) {
-        Taken::More(token) => Written::Wrong(Wrong::Rank, token),
-        Taken::Wrong(wrong, token) => Written::Wrong(wrong, token),
-        Taken::Numbers(rank) => write_elements(global, rank, lengths, line, at, ravel, out),
-    }
+    let rank = numbers_from(Limit::Number, before, from, Wrong::Rank, lengths)?;
+    write_elements(global, rank, lengths, line, at, ravel, out)
 }
 
 fn write_elements(
@@ -118,24 +113,13 @@ fn write_elements(
     at: usize,
     ravel: &mut [u32],
     out: &mut [u8],
-) -> Written
+) -> Result<usize, Refused>
     requires global_le_number_limit { (global ≤ number_limit) × meaning.Room lengths.now ravel.old out.old }
     requires rank_in_bounds { (rank ≤ length lengths.now) × AtMost number_limit (take rank lengths.now) }
     ensures { meaning.Writes result out.new }
 {
-    match numbers_from(Limit::Element, line, at, ravel) {
-        Taken::More(token) => Written::Wrong(Wrong::Elements, token),
-        Taken::Wrong(wrong, token) => Written::Wrong(wrong, token),
-        Taken::Numbers(count) => write_counted(
-            global,
-            rank,
-            lengths,
-            count,
-            ravel,
-            line.len(),
-            out,
-        ),
-    }
+    let count = numbers_from(Limit::Element, line, at, Wrong::Elements, ravel)?;
+    write_counted(global, rank, lengths, count, ravel, line.len(), out)
 }
 
 // There must be as many elements as the product of the lengths. The line is told whole where there are not.
@@ -147,31 +131,26 @@ fn write_counted(
     ravel: &[u32],
     end: usize,
     out: &mut [u8],
-) -> Written
+) -> Result<usize, Refused>
     requires rank_in_bounds { (rank ≤ length lengths.now) × (count ≤ length ravel.now) × (meaning.room_out ≤ length out.old) }
     requires short { meaning.Short global (take rank lengths.now) (take count ravel.now) }
     ensures { meaning.Writes result out.new }
 {
     let wanted = product(&lengths[..rank]);
     if count != wanted as usize {
-        return Written::Wrong(Wrong::Count(count, wanted), Token { start: end, end });
+        return Err(refused(Wrong::Count(count, wanted), Token { start: end, end }));
     }
-    Written::Record(encode_load(global, &lengths[..rank], &ravel[..count], out))
+    Ok(encode_load(global, &lengths[..rank], &ravel[..count], out))
 }
 
 // The first token from a place on that is a bar, or an empty one. A token has a byte or more.
 fn bar_from(line: &[u8], from: usize) -> Token {
     let mut token = token_at(line, from);
-    let mut left = line.len();
-    while 0 < left {
-        if token.is_empty() {
-            return token;
-        }
-        if is(text(line, token), b"|") {
+    for _ in 0..line.len() {
+        if token.is_empty() || is(text(line, token), b"|") {
             return token;
         }
         token = token_at(line, token.end);
-        left -= 1;
     }
     token
 }
@@ -182,4 +161,8 @@ fn shown(token: Token, at: usize) -> Token {
         return Token { start: at, end: at };
     }
     token
+}
+
+fn refused(wrong: Wrong, token: Token) -> Refused {
+    Refused { wrong, token }
 }

@@ -1,8 +1,9 @@
 // What can be wrong with a line, and the words that say so.
-use line_tool::fault::{Fault, put_fault};
-use line_tool::writing::{put, put_decimal};
+use line_tool::fault::{Fault, Misread};
+use line_tool::pen::Pen;
+use line_tool::tokens::Token;
 
-#[derive(Clone, Copy)]
+#[derive(Clone, Copy, Debug, PartialEq, Eq)]
 pub enum Wrong {
     // As any line may be.
     Text(Fault),
@@ -15,26 +16,41 @@ pub enum Wrong {
     Count(usize, u32),
 }
 
-pub fn put_wrong(out: &mut [u8], at: usize, wrong: Wrong) -> usize {
+// What is wrong, and the token that it is about.
+#[derive(Clone, Copy, Debug, PartialEq, Eq)]
+pub struct Refused {
+    pub wrong: Wrong,
+    pub token: Token,
+}
+
+impl From<Misread> for Refused {
+    fn from(misread: Misread) -> Refused {
+        Refused {
+            wrong: Wrong::Text(misread.fault),
+            token: misread.token,
+        }
+    }
+}
+
+pub fn put_wrong(pen: &mut Pen, wrong: Wrong) {
     match wrong {
-        Wrong::Text(fault) => put_fault(out, at, fault),
-        Wrong::NoRecord => put(out, at, b"neither load nor run"),
-        Wrong::NumberLimit => put(out, at, b"a number above 268435455"),
-        Wrong::ElementLimit => put(out, at, b"an element above 8388607"),
-        Wrong::Rank => put(out, at, b"a rank above 15"),
-        Wrong::Elements => put(out, at, b"more than 16384 elements"),
-        Wrong::Count(count, wanted) => put_count(out, at, count, wanted),
+        Wrong::Text(fault) => pen.fault(fault),
+        Wrong::NoRecord => pen.text(b"neither load nor run"),
+        Wrong::NumberLimit => pen.text(b"a number above 268435455"),
+        Wrong::ElementLimit => pen.text(b"an element above 8388607"),
+        Wrong::Rank => pen.text(b"a rank above 15"),
+        Wrong::Elements => pen.text(b"more than 16384 elements"),
+        Wrong::Count(count, wanted) => put_count(pen, count, wanted),
     }
 }
 
 // A product beyond 65,535 is told as 65,536.
-fn put_count(out: &mut [u8], at: usize, count: usize, wanted: u32) -> usize {
-    let a = put(out, at, b"the number of elements is ");
-    let b = put_decimal(out, a, (count % 0x1_0000_0000) as u32);
-    let c = put(out, b, b", the product of the lengths ");
-    let d = put_decimal(out, c, wanted);
-    if wanted < 65536 {
-        return d;
+fn put_count(pen: &mut Pen, count: usize, wanted: u32) {
+    pen.text(b"the number of elements is ");
+    pen.decimal((count % 0x1_0000_0000) as u32);
+    pen.text(b", the product of the lengths ");
+    pen.decimal(wanted);
+    if 65536 <= wanted {
+        pen.text(b" or more");
     }
-    put(out, d, b" or more")
 }

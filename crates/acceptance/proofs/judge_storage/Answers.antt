@@ -1,6 +1,6 @@
 use native.Mathlib.Omega.{arith}
 use Rattle.acceptance_storage.proofs.StateWords.{head-sound}
-use Rattle.acceptance.proofs.Table.{table-14, improper, proper}
+use Rattle.acceptance.proofs.Table.{proper}
 use Rattle.acceptance.proofs.judge_storage.Goals as goal
 
 pub blocks_test-requires : goal.blocks_test-requires
@@ -11,7 +11,7 @@ blocks_test-requires c = let a = c.args in
 pub judge_marked-requires : goal.judge_marked-requires
 judge_marked-requires c = let a = c.args in
     let h = c.requires in
-    let k = proper a.seg.now c.blocks_test.ensures.value _ c.in-Proper.is in
+    let k = proper a.seg.now c.blocks_test.ensures.value _ c.in-Some.is in
     record {
       head = h.0;
       blocks = k.0;
@@ -20,9 +20,3 @@ judge_marked-requires c = let a = c.args in
       frees = k.1;
       marked = c.blocks_test.ensures.marked k.0;
     }
-
-pub returns-in-Improper : goal.returns-in-Improper
-returns-in-Improper c = let a = c.args in
-    let h = c.requires in
-    table-14 a.seg.now a.regular.now a.alternate.now h.0
-    (improper a.seg.now c.blocks_test.ensures.value c.in-Improper.is)

@@ -33,6 +33,3 @@ returns-in-LongGlobal c = λ f. λ of. long-global-at _ f _ _ c.number-at.ensure
 
 pub returns-in-Index : goal.returns-in-Index
 returns-in-Index c = λ f. λ of. left
-
-pub returns-in-Unassigned : goal.returns-in-Unassigned
-returns-in-Unassigned c = λ f. λ of. left

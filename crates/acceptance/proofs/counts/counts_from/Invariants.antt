@@ -1,4 +1,5 @@
-use Prim.Native.Nat.{ℕ, ◌<◌}
+use Prim.Native.Nat.{ℕ, ◌-◌, ◌<◌}
+use lib.ListN.{length}
 use mathlib.Core.Path.{◌≡◌}
 use mathlib.Core.Bool.{false}
 use Rattle.storage.specs.Heap.{count}
@@ -9,10 +10,7 @@ use Rattle.acceptance.specs.Counts.{count_test}
 use Rattle.acceptance.specs.Tables.{arrays_from}
 use Rattle.acceptance.proofs.counts.counts_from.Given as goal
 
-abbrev pub invariant-loop-left : goal.invariant-loop-left
-invariant-loop-left l =
-    (every (count_test l.seg (owners l.seg)) (arrays_from l.seg l.from l.end) ≡ every (count_test l.seg (owners l.seg)) (starts_from false l.left l.seg l.a l.end))
-    × ((x : ℕ) → 0 < count x (starts_from false l.left l.seg l.a l.end) → 0 < count x (arrays_from l.seg l.from l.end))
-
-abbrev pub decreases-loop-left : goal.decreases-loop-left
-decreases-loop-left l = l.left
+abbrev pub invariant-walk : goal.invariant-walk
+invariant-walk l =
+    (every (count_test l.seg (owners l.seg)) (arrays_from l.seg l.from l.fn.end) ≡ every (count_test l.seg (owners l.seg)) (starts_from false (length l.seg - l.counter) l.seg l.a l.fn.end))
+    × ((x : ℕ) → 0 < count x (starts_from false (length l.seg - l.counter) l.seg l.a l.fn.end) → 0 < count x (arrays_from l.seg l.from l.fn.end))

@@ -5,35 +5,35 @@ use borrow.Author.Rules.{rules}
 use Rattle.acceptance.proofs.VariableMarks.{marked_start, marked-none, marked-bottom, marked-on}
 use Rattle.acceptance.proofs.variables.mark_variables.Goals as goal
 
-pub loop-left-init : goal.loop-left-init
-loop-left-init c = (omega arith, marked_start _ _ _ _ (omega arith) (omega arith) c.requires.2)
+pub frames-init : goal.frames-init
+frames-init c = (omega arith, marked_start _ _ _ _ (omega arith) (omega arith) c.requires.2 (omega arith))
 
 pub mark-requires : goal.mark-requires
-mark-requires c = (omega (arith, c.loop-left.invariant.1.low), λ x. omega (arith, c.loop-left.invariant.1.room x))
+mark-requires c = (omega (arith, c.frames.invariant.1.low), λ x. omega (arith, c.frames.invariant.1.room x))
 
 pub shape_of-marks-then-base-last : goal.shape_of-marks-then-base-last
-shape_of-marks-then-base-last c = omega (arith, c.loop-left.invariant.1.long)
+shape_of-marks-then-base-last c = omega (arith, c.frames.invariant.1.long)
 
 pub returns-then-base-last : goal.returns-then-base-last
 returns-then-base-last c = rw (← c.number-base.ensures)
-    (marked-bottom c.loop-left.invariant.1 c.loop-left-test.true
-    (c.minus-start.ensures
-    ∙ ap (λ (v : ℕ). c.loop-left.base - v) (rw c.of.ensures at c.frame_at-frame.ensures).variables)
+    (marked-bottom c.frames.invariant.1 (omega arith)
+    (c.saturating_sub-start.ensures
+    ∙ ap (λ (v : ℕ). c.frames.base - v) (rw c.of.ensures at c.frame_at-frame.ensures).variables)
     (c.number-last.ensures ∙ (rw c.of.ensures at c.frame_at-frame.ensures).last)
     c.mark.ensures c.if-base-last.true)
 
-pub loop-left-preserved : goal.loop-left-preserved
-loop-left-preserved c = (
+pub frames-preserved : goal.frames-preserved
+frames-preserved c = (
   omega arith,
-  marked-on c.loop-left.invariant.1 c.loop-left-test.true
-      (c.minus-start.ensures
-      ∙ ap (λ (v : ℕ). c.loop-left.base - v) (rw c.of.ensures at c.frame_at-frame.ensures).variables)
+  marked-on c.frames.invariant.1 (omega arith)
+      (c.saturating_sub-start.ensures
+      ∙ ap (λ (v : ℕ). c.frames.base - v) (rw c.of.ensures at c.frame_at-frame.ensures).variables)
       (c.number-last.ensures ∙ (rw c.of.ensures at c.frame_at-frame.ensures).last)
-      c.mark.ensures c.if-base-last.false (search rules),
+      c.mark.ensures c.if-base-last.false (search rules) (omega arith),
 )
 
 pub shape_of-marks : goal.shape_of-marks
-shape_of-marks c = c.loop-left.invariant.1.long
+shape_of-marks c = c.frames.invariant.1.long
 
 pub returns : goal.returns
-returns c = rw (← c.number-base.ensures) (marked-none c.loop-left.invariant.1 c.loop-left-test.false)
+returns c = rw (← c.number-base.ensures) (marked-none c.frames.invariant.1 (omega arith))

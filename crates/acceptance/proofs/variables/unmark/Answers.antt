@@ -1,27 +1,23 @@
 use mathlib.Core.Path.{refl}
-use native.Mathlib.Omega.{arith}
 use Rattle.acceptance.proofs.Ranges.{unmarking-done, unmarking-room, unmarking-on}
 use Rattle.acceptance.proofs.variables.unmark.Goals as goal
 
 pub loop-a-init : goal.loop-a-init
-loop-a-init c = (omega arith, record { long = refl; sum = λ x. refl })
+loop-a-init c = record { long = refl; sum = λ x. refl }
 
 pub lower-requires : goal.lower-requires
-lower-requires c = unmarking-room c.loop-a.invariant.1 c.loop-a-test.true
-    (rw (c.number-a.ensures, c.number-stop.ensures)
+lower-requires c = unmarking-room c.loop-a.invariant c.loop-a-test.true
+    (rw (c.number-a.ensures, c.number-a-end.ensures)
     c.requires)
 
 pub loop-a-preserved : goal.loop-a-preserved
-loop-a-preserved c = (
-  omega arith,
-  rw c.lower.ensures
-      (unmarking-on c.loop-a.invariant.1 c.loop-a-test.true
-      (rw (c.number-a.ensures, c.number-stop.ensures)
-      c.requires)),
-)
+loop-a-preserved c = rw c.lower.ensures
+    (unmarking-on c.loop-a.invariant c.loop-a-test.true
+    (rw (c.number-a.ensures, c.number-a-end.ensures)
+    c.requires))
 
 pub shape_of-marks : goal.shape_of-marks
-shape_of-marks c = c.loop-a.invariant.1.long
+shape_of-marks c = c.loop-a.invariant.long
 
 pub returns : goal.returns
-returns c = rw (← c.number-a.ensures, ← c.number-stop.ensures) (unmarking-done c.loop-a.invariant.1 c.loop-a-test.false)
+returns c = rw (← c.number-a.ensures, ← c.number-a-end.ensures) (unmarking-done c.loop-a.invariant c.loop-a-test.false)

@@ -2,18 +2,18 @@ use mathlib.Core.Path.{refl, sym, ◌∙◌}
 use native.Mathlib.Omega.{arith}
 use Rattle.acceptance_storage.proofs.Insides.{inside-free, inside-fails, inside-count, inside-elements}
 use Rattle.acceptance_storage.proofs.arrays.inside_at.Goals as goal
+use Rattle.acceptance_storage.proofs.arrays.inside_at.Goals.{then-rank-eq0-via-then-rank-eq0, then-rank-eq0-via-else-rank-eq0+then-rank-gt15, then-rank-eq0-via-else-rank-eq0+else-rank-gt15+then-size-rank}
 
 pub returns-then-first-ge2147483648 : goal.returns-then-first-ge2147483648
 returns-then-first-ge2147483648 c = inside-free c.args.seg.now c.args.a (omega arith)
 
 pub returns-then-rank-eq0 : goal.returns-then-rank-eq0
-returns-then-rank-eq0 c = inside-fails c.args.seg.now c.args.a (omega arith) (λ h. omega arith)
-
-pub returns-then-rank-gt15 : goal.returns-then-rank-gt15
-returns-then-rank-gt15 c = inside-fails c.args.seg.now c.args.a (omega arith) (λ h. omega arith)
-
-pub returns-then-size-rank : goal.returns-then-size-rank
-returns-then-size-rank c = inside-fails c.args.seg.now c.args.a (omega arith) (λ h. omega arith)
+returns-then-rank-eq0 c = inside-fails c.args.seg.now c.args.a (omega arith)
+    (λ h. elim c.then-rank-eq0.branch [
+      | then-rank-eq0-via-then-rank-eq0 w ↦ omega arith
+      | then-rank-eq0-via-else-rank-eq0+then-rank-gt15 w ↦ omega arith
+      | then-rank-eq0-via-else-rank-eq0+else-rank-gt15+then-size-rank w ↦ omega arith
+    ])
 
 pub returns-then-element_count-size : goal.returns-then-element_count-size
 returns-then-element_count-size c = let a = c.args in

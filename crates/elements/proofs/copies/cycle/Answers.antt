@@ -1,3 +1,4 @@
+use borrow.Author.Rules.{rules}
 use lib.ListN.{length}
 use native.Mathlib.Omega.{arith}
 use mathlib.Core.Path.{◌∙◌}
@@ -5,4 +6,4 @@ use Rattle.elements.proofs.Filling.{cycle-single}
 use Rattle.elements.proofs.copies.cycle.Goals as goal
 
 pub returns-then-from-eq1 : goal.returns-then-from-eq1
-returns-then-from-eq1 c = c.fill.ensures ∙ cycle-single (length c.args.to.now) c.args.from.now (omega arith)
+returns-then-from-eq1 c = c.fill.ensures.after (search rules) ∙ cycle-single (length c.args.to.now) c.args.from.now (omega arith)

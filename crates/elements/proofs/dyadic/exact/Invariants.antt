@@ -1,4 +1,4 @@
-use Prim.Native.Nat.{ℕ, ◌-◌}
+use Prim.Native.Nat.{ℕ}
 use Rattle.operator.specs.declared.Dyadic.{Dyadic}
 use Rattle.scalar.specs.Operators.{dyadic_of}
 use Rattle.manual.specs.OrTrap.{OrTrap}
@@ -12,6 +12,3 @@ applied op x y = answered (dyadic_of op x y)
 
 abbrev pub invariant-loop-i : goal.invariant-loop-i
 invariant-loop-i l = Exact (zip (applied l.op) (spread l.n l.a) (spread l.n l.b)) l.n l.initial.out l.out l.i
-
-abbrev pub decreases-loop-i : goal.decreases-loop-i
-decreases-loop-i l = l.n - l.i

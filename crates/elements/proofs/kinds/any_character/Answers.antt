@@ -1,16 +1,8 @@
-use mathlib.Core.Path.{sym, ◌∙◌}
-use native.Mathlib.Omega.{arith}
-use Rattle.elements.proofs.Testing.{any-start, any-hit, any-on, any_none}
+use Rattle.std.proofs.Common.{rules, tests}
+use Rattle.std.proofs.lemmas.Iterator.{YieldsList-from_slice}
+use Rattle.std.proofs.lemmas.Iterator.Search.{any_from_yields_List}
+use Rattle.descriptor.specs.Fields.{is_character}
 use Rattle.elements.proofs.kinds.any_character.Goals as goal
 
-pub loop-i-init : goal.loop-i-init
-loop-i-init c = (omega arith, any-start)
-
-pub returns-then-is_character : goal.returns-then-is_character
-returns-then-is_character c = any-hit c.loop-i.invariant.1 (omega arith) (sym c.is_character.ensures ∙ c.if-is_character.true)
-
-pub loop-i-preserved : goal.loop-i-preserved
-loop-i-preserved c = (omega arith, any-on c.loop-i.invariant.1 (omega arith) (sym c.is_character.ensures ∙ c.if-is_character.false))
-
 pub returns : goal.returns
-returns c = any_none c.loop-i.invariant.1 (omega arith)
+returns c = any_from_yields_List is_character _ _ _ c.any.ensures.ran (YieldsList-from_slice c.args.words.now cc) (λ x b q k. search (rules, tests))

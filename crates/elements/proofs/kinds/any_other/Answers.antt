@@ -1,18 +1,8 @@
-use mathlib.Core.Path.{sym, ap, ◌∙◌}
-use native.Mathlib.Omega.{arith}
+use Rattle.std.proofs.Common.{rules, tests, not}
+use Rattle.std.proofs.lemmas.Iterator.{YieldsList-from_slice}
+use Rattle.std.proofs.lemmas.Iterator.Search.{any_from_yields_List}
 use Rattle.descriptor.specs.Kinds.{is_scalar}
-use mathlib.Core.Bool.{not}
-use Rattle.elements.proofs.Testing.{any-start, any-hit, any-on, any_none}
 use Rattle.elements.proofs.kinds.any_other.Goals as goal
 
-pub loop-i-init : goal.loop-i-init
-loop-i-init c = (omega arith, any-start)
-
-pub returns-then-not-is_scalar : goal.returns-then-not-is_scalar
-returns-then-not-is_scalar c = any-hit c.loop-i.invariant.1 (omega arith) (ap not (ap is_scalar (sym c.of.ensures) ∙ sym c.is_scalar.ensures ∙ c.if-not-is_scalar.true))
-
-pub loop-i-preserved : goal.loop-i-preserved
-loop-i-preserved c = (omega arith, any-on c.loop-i.invariant.1 (omega arith) (ap not (ap is_scalar (sym c.of.ensures) ∙ sym c.is_scalar.ensures ∙ c.if-not-is_scalar.false)))
-
 pub returns : goal.returns
-returns c = any_none c.loop-i.invariant.1 (omega arith)
+returns c = any_from_yields_List (λ w. not (is_scalar w)) _ _ _ c.any.ensures.ran (YieldsList-from_slice c.args.words.now cc) (λ x b q k. search (rules, tests))

@@ -1,5 +1,3 @@
-use Prim.Native.Nat.{◌-◌}
-use lib.ListN.{length}
 use Rattle.scalar.specs.Operators.{monadic_of}
 use Rattle.manual.specs.Values.{answered}
 use Rattle.elements.proofs.Collecting.{EachSoFar}
@@ -7,6 +5,3 @@ use Rattle.elements.proofs.monadic.monadic.Given as goal
 
 abbrev pub invariant-loop-i : goal.invariant-loop-i
 invariant-loop-i l = EachSoFar (λ w. answered (monadic_of l.operator w)) l.a l.initial.out l.out l.i
-
-abbrev pub decreases-loop-i : goal.decreases-loop-i
-decreases-loop-i l = length l.a - l.i

@@ -1,31 +1,36 @@
-use Rattle.manual.specs.Values.{conform}
-use borrow.Author.Tests.{lt-ltb, le-ltb, eq-eqb, ne_eqb}
+use Rattle.std.proofs.Common.{◌≡◌, ℕ, Bool, List, eqb, sym, ◌∙◌, eq-eqb, ne_eqb, lt-ltb, le-ltb}
+use lib.Pointwise.{pointwise}
+use Rattle.manual.specs.Values.{same, conform}
 use Rattle.elements.proofs.shapes.conform.Goals as goal
 
-pub returns-then-b-a : goal.returns-then-b-a
-unfolding conform
-returns-then-b-a c = simp (eq-eqb _ _ c.if-m-eq1.true, eq-eqb _ _ c.if-n-eq1.true, lt-ltb _ _ c.if-b-a.true)
+-- the library's equality of lists is the manual's
+as_same : (a b : List ℕ) {t : Bool} → pointwise eqb a b ≡ t → same a b ≡ t
+as_same a b h = h
 
-pub returns-then-n-eq1 : goal.returns-then-n-eq1
+pub returns-in-1-eq1 : goal.returns-in-1-eq1
 unfolding conform
-returns-then-n-eq1 c = simp (eq-eqb _ _ c.if-m-eq1.true, eq-eqb _ _ c.if-n-eq1.true, le-ltb _ _ c.if-b-a.false)
+returns-in-1-eq1 c = simp (eq-eqb _ _ c.in-1-eq1.is-0, eq-eqb _ _ c.in-1-eq1.is-1, lt-ltb _ _ c.if-b-a.true)
 
-pub returns-then-m-eq1 : goal.returns-then-m-eq1
+pub returns-in-1-default : goal.returns-in-1-default
 unfolding conform
-returns-then-m-eq1 c = simp (eq-eqb _ _ c.if-m-eq1.true, ne_eqb _ _ c.if-n-eq1.false)
+returns-in-1-default c = simp (eq-eqb _ _ c.in-1-eq1.is-0, eq-eqb _ _ c.in-1-eq1.is-1, le-ltb _ _ c.if-b-a.false)
 
-pub returns-then-n-eq1-2 : goal.returns-then-n-eq1-2
+pub returns-in-1-default-2 : goal.returns-in-1-default-2
 unfolding conform
-returns-then-n-eq1-2 c = simp (ne_eqb _ _ c.if-m-eq1.false, eq-eqb _ _ c.if-n-eq1-2.true)
+returns-in-1-default-2 c = simp (eq-eqb _ _ c.in-1-default.is-0, ne_eqb _ _ c.in-1-default.is-1.1)
 
-pub returns-then-a-b : goal.returns-then-a-b
+pub returns-in_default-eq1 : goal.returns-in_default-eq1
 unfolding conform
-returns-then-a-b c = simp (ne_eqb _ _ c.if-m-eq1.false, ne_eqb _ _ c.if-n-eq1-2.false, ne_eqb _ _ c.if-a-b.true)
+returns-in_default-eq1 c = simp (ne_eqb _ _ c.in_default-eq1.is-0.1, eq-eqb _ _ c.in_default-eq1.is-1)
 
-pub returns-then-same : goal.returns-then-same
+pub returns-in_default : goal.returns-in_default
 unfolding conform
-returns-then-same c = simp (ne_eqb _ _ c.if-m-eq1.false, ne_eqb _ _ c.if-n-eq1-2.false, eq-eqb _ _ c.if-a-b.false, ← c.same.ensures, c.if-same.true)
+returns-in_default c = simp (ne_eqb _ _ c.in_default.is-0.1, ne_eqb _ _ c.in_default.is-1.1, ne_eqb _ _ c.if-a-b.true)
 
-pub returns : goal.returns
+pub returns-in_default-2 : goal.returns-in_default-2
 unfolding conform
-returns c = simp (ne_eqb _ _ c.if-m-eq1.false, ne_eqb _ _ c.if-n-eq1-2.false, eq-eqb _ _ c.if-a-b.false, ← c.same.ensures, c.if-same.false)
+returns-in_default-2 c = simp (ne_eqb _ _ c.in_default.is-0.1, ne_eqb _ _ c.in_default.is-1.1, eq-eqb _ _ c.if-a-b.false, as_same c.args.a.now c.args.b.now (sym c.eq.ensures ∙ c.if-eq.true))
+
+pub returns-in_default-3 : goal.returns-in_default-3
+unfolding conform
+returns-in_default-3 c = simp (ne_eqb _ _ c.in_default.is-0.1, ne_eqb _ _ c.in_default.is-1.1, eq-eqb _ _ c.if-a-b.false, as_same c.args.a.now c.args.b.now (sym c.eq.ensures ∙ c.if-eq.false))

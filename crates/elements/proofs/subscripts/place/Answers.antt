@@ -1,20 +1,23 @@
-use mathlib.Core.Path.{ap, ◌∙◌}
-use native.Mathlib.Omega.{arith}
+use Rattle.std.proofs.Common.{sym, ap, ◌∙◌}
 use Rattle.manual.specs.OrTrap.{gives}
-use Rattle.elements.proofs.Places.{all-in-range, place-within, place-outside, place-fraction, place-letter}
+use Rattle.manual.specs.Values.{ravel_place}
+use Rattle.elements.proofs.Places.{place-within}
 use Rattle.elements.proofs.subscripts.place.Goals as goal
 
 pub place_of-requires : goal.place_of-requires
-place_of-requires c = (c.requires.0, c.requires.1, all-in-range c.args.origin c.args.subscripts.now c.args.lengths.now c.requires.0 (omega arith))
+place_of-requires c = (c.requires.0, c.requires.1, sym c.in_ranges.ensures ∙ c.if-in_ranges.true)
 
-pub returns-in-0 : goal.returns-in-0
-returns-in-0 c = ap gives c.place_of.ensures ∙ place-within c.args.origin c.args.subscripts.now c.args.lengths.now c.requires.0 (omega arith)
+pub returns-then-in_ranges : goal.returns-then-in_ranges
+returns-then-in_ranges c = ap gives c.place_of.ensures ∙ place-within c.args.origin c.args.subscripts.now c.args.lengths.now c.requires.0 (sym c.in_ranges.ensures ∙ c.if-in_ranges.true)
 
-pub returns-in-1 : goal.returns-in-1
-returns-in-1 c = place-outside c.args.origin c.args.subscripts.now c.args.lengths.now c.requires.0 (omega arith)
+pub returns-then-any_character : goal.returns-then-any_character
+unfolding ravel_place
+returns-then-any_character c = rw (sym c.any_character.ensures ∙ c.if-any_character.true)
 
-pub returns-in-2 : goal.returns-in-2
-returns-in-2 c = place-fraction c.args.origin c.args.subscripts.now c.args.lengths.now c.requires.0 (omega arith)
+pub returns-then-any_fraction : goal.returns-then-any_fraction
+unfolding ravel_place
+returns-then-any_fraction c = rw (sym c.any_character.ensures ∙ c.if-any_character.false, sym c.any_fraction.ensures ∙ c.if-any_fraction.true)
 
-pub returns-in_default : goal.returns-in_default
-returns-in_default c = place-letter c.args.origin c.args.subscripts.now c.args.lengths.now c.requires.0 (omega arith)
+pub returns : goal.returns
+unfolding ravel_place
+returns c = rw (sym c.any_character.ensures ∙ c.if-any_character.false, sym c.any_fraction.ensures ∙ c.if-any_fraction.false, sym c.in_ranges.ensures ∙ c.if-in_ranges.false)

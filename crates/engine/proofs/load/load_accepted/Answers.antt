@@ -15,8 +15,8 @@ bounds-ravel-0 c = omega (arith, (one-scalar _ _ (sym c.is_value.ensures ∙ c.i
 pub returns-then-lengths-eq0 : goal.returns-then-lengths-eq0
 returns-then-lengths-eq0 c = λ regular alternate ok. (scalar-stored _ regular alternate _ _ _ ok (sym c.is_global.ensures ∙ c.if-not-is_global.false) (sym c.is_value.ensures ∙ c.if-not-is_value.false) _ c.of.ensures _ c.if-lengths-eq0.true (cc))
 
-pub returns-in-Full : goal.returns-in-Full
-returns-in-Full c = λ regular alternate ok. (full _ regular alternate _ _ _ ok (sym c.is_global.ensures ∙ c.if-not-is_global.false) (sym c.is_value.ensures ∙ c.if-not-is_value.false) _ c.of.ensures _ c.if-lengths-eq0.false (cc) (cc))
+pub returns-in-Err : goal.returns-in-Err
+returns-in-Err c = λ regular alternate ok. (full _ regular alternate _ _ _ ok (sym c.is_global.ensures ∙ c.if-not-is_global.false) (sym c.is_value.ensures ∙ c.if-not-is_value.false) _ c.of.ensures _ c.if-lengths-eq0.false c.store_array.ensures.seg_after _ (sym c.in-Err.is ∙ c.store_array.ensures.value))
 
-pub returns-in-Done : goal.returns-in-Done
-returns-in-Done c = λ regular alternate ok. (array-stored _ regular alternate _ _ _ ok (sym c.is_global.ensures ∙ c.if-not-is_global.false) (sym c.is_value.ensures ∙ c.if-not-is_value.false) _ c.of.ensures _ c.if-lengths-eq0.false (cc) (cc))
+pub returns-in-Ok : goal.returns-in-Ok
+returns-in-Ok c = λ regular alternate ok. (array-stored _ regular alternate _ _ _ ok (sym c.is_global.ensures ∙ c.if-not-is_global.false) (sym c.is_value.ensures ∙ c.if-not-is_value.false) _ c.of.ensures _ c.if-lengths-eq0.false c.store_array.ensures.seg_after _ (sym c.in-Ok.is ∙ c.store_array.ensures.value))

@@ -13,8 +13,8 @@ returns-then-not-is_scalar c = left
 pub returns-then-not-is_scalar-2 : goal.returns-then-not-is_scalar-2
 returns-then-not-is_scalar-2 c = left
 
-pub returns-in-Trap : goal.returns-in-Trap
-returns-in-Trap c = left
+pub returns-in-Err : goal.returns-in-Err
+returns-in-Err c = left
 
-pub returns-in-Word : goal.returns-in-Word
-returns-in-Word c = went refl (scalars-combined _ (subst (◌≤◌ 2) c.count.ensures c.if-count-lt2.false) c.operand_at-x.ensures (sym c.is_scalar.ensures ∙ c.if-not-is_scalar.false) c.operand_at-y.ensures (sym c.is_scalar-2.ensures ∙ c.if-not-is_scalar-2.false) _ _ c.dyadic.ensures c.in-Word.is c.replace.ensures c.jump.ensures)
+pub returns-in-Ok : goal.returns-in-Ok
+returns-in-Ok c = went refl (scalars-combined _ (subst (◌≤◌ 2) c.count.ensures c.if-count-lt2.false) c.operand_at-x.ensures (sym c.is_scalar.ensures ∙ c.if-not-is_scalar.false) c.operand_at-y.ensures (sym c.is_scalar-2.ensures ∙ c.if-not-is_scalar-2.false) _ _ c.dyadic.ensures c.in-Ok.is c.replace.ensures c.jump.ensures)

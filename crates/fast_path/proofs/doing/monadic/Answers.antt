@@ -10,8 +10,8 @@ returns-then-count-lt1 c = left
 pub returns-then-not-is_scalar : goal.returns-then-not-is_scalar
 returns-then-not-is_scalar c = left
 
-pub returns-in-Trap : goal.returns-in-Trap
-returns-in-Trap c = left
+pub returns-in-Err : goal.returns-in-Err
+returns-in-Err c = left
 
-pub returns-in-Word : goal.returns-in-Word
-returns-in-Word c = went refl (scalar-computed _ (subst (◌≤◌ 1) c.count.ensures c.if-count-lt1.false) c.operand_at-x.ensures (sym c.is_scalar.ensures ∙ c.if-not-is_scalar.false) _ _ c.monadic.ensures c.in-Word.is c.replace.ensures c.jump.ensures)
+pub returns-in-Ok : goal.returns-in-Ok
+returns-in-Ok c = went refl (scalar-computed _ (subst (◌≤◌ 1) c.count.ensures c.if-count-lt1.false) c.operand_at-x.ensures (sym c.is_scalar.ensures ∙ c.if-not-is_scalar.false) _ _ c.monadic.ensures c.in-Ok.is c.replace.ensures c.jump.ensures)

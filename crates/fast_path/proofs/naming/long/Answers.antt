@@ -12,23 +12,5 @@ returns-in-LongLocal c = λ some. local-names _ _ _ _ c.if-code-at.false (ap (λ
 pub returns-in-LongGlobal : goal.returns-in-LongGlobal
 returns-in-LongGlobal c = λ some. global-names _ _ _ _ c.if-code-at.false (ap (λ (n : ℕ). n % 2 ^ 12) c.half-in-LongGlobal.ensures) _ c.in-LongGlobal.is (c.global.ensures some)
 
-pub returns-in-ShortLocal : goal.returns-in-ShortLocal
-returns-in-ShortLocal c = λ none. absurd (none refl)
-
-pub returns-in-ShortConst : goal.returns-in-ShortConst
-returns-in-ShortConst c = λ none. absurd (none refl)
-
-pub returns-in-GenScalar : goal.returns-in-GenScalar
-returns-in-GenScalar c = λ none. absurd (none refl)
-
-pub returns-in-MemRef : goal.returns-in-MemRef
-returns-in-MemRef c = λ none. absurd (none refl)
-
-pub returns-in-Etc : goal.returns-in-Etc
-returns-in-Etc c = λ none. absurd (none refl)
-
-pub returns-in-Index : goal.returns-in-Index
-returns-in-Index c = λ none. absurd (none refl)
-
-pub returns-in-Unassigned : goal.returns-in-Unassigned
-returns-in-Unassigned c = λ none. absurd (none refl)
+pub returns-in_default : goal.returns-in_default
+returns-in_default c = λ none. absurd (none refl)

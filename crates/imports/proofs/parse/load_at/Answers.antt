@@ -1,14 +1,15 @@
 use Rattle.imports.specs.Records.{imported_load}
 use Rattle.imports.proofs.parse.load_at.Goals as goal
 
-pub returns-in_default : goal.returns-in_default
+pub returns-in_err-global-clause-ravel_after : goal.returns-in_err-global-clause-ravel_after
 unfolding imported_load
-returns-in_default c = record { ravel_after = simp (← c.number_at.ensures, c.in_default.is); few = tt }
+returns-in_err-global-clause-ravel_after c = simp (c.from_residual.ensures, ← c.number_at.ensures, c.in_err-global.was)
 
-pub returns-in_default-number_at : goal.returns-in_default-number_at
+pub returns-in_err-rank-clause-ravel_after : goal.returns-in_err-rank-clause-ravel_after
 unfolding imported_load
-returns-in_default-number_at c = record { ravel_after = simp (← c.number_at.ensures, c.in-Number.is, ← c.number_at-2.ensures, c.in_default-number_at.is); few = tt }
+returns-in_err-rank-clause-ravel_after c =
+    simp (c.from_residual-in_err-rank.ensures, ← c.number_at.ensures, c.in_ok-global.was, ← c.number_at-2.ensures, c.in_err-rank.was)
 
-pub returns : goal.returns
+pub returns-clause-ravel_after : goal.returns-clause-ravel_after
 unfolding imported_load
-returns c = let told = c.lengths_at.ensures in record { ravel_after = simp (← c.number_at.ensures, c.in-Number.is, ← c.number_at-2.ensures, c.in-Number-number_at.is) told.ravel_after; few = told.few }
+returns-clause-ravel_after c = simp (← c.number_at.ensures, c.in_ok-global.was, ← c.number_at-2.ensures, c.in_ok-rank.was) c.lengths_at.ensures.ravel_after

@@ -1,10 +1,10 @@
 use Rattle.imports.specs.Records.{imported_run}
 use Rattle.imports.proofs.parse.run_at.Goals as goal
 
-pub returns-in_default : goal.returns-in_default
+pub returns-in_err-budget-clause-by_index : goal.returns-in_err-budget-clause-by_index
 unfolding imported_run
-returns-in_default c = record { by_index = λ lengths ravel. simp (← c.number_at.ensures, c.in_default.is); few = tt }
+returns-in_err-budget-clause-by_index c = λ lengths ravel. simp (c.from_residual.ensures, ← c.number_at.ensures, c.in_err-budget.was)
 
-pub returns : goal.returns
+pub returns-clause-by_index : goal.returns-clause-by_index
 unfolding imported_run
-returns c = record { by_index = λ lengths ravel. simp (← c.number_at.ensures, c.in-Number.is); few = tt }
+returns-clause-by_index c = λ lengths ravel. simp (← c.number_at.ensures, c.in_ok-budget.was)

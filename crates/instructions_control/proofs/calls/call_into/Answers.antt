@@ -1,12 +1,13 @@
 use native.Mathlib.Omega.{arith}
 use Rattle.instructions_control.proofs.Calling.{call-few, call-other, call-full, call_enters, room-kept}
 use Rattle.instructions_control.proofs.calls.call_into.Goals as goal
+use Rattle.instructions_control.proofs.calls.call_into.Goals.{then-count-arguments-via-then-count-arguments, then-count-arguments-via-else-count-arguments+then-arguments-called}
 
 pub returns-then-count-arguments : goal.returns-then-count-arguments
-returns-then-count-arguments c = call-few _ _ _ _ _ _ (omega arith)
-
-pub returns-then-arguments-called : goal.returns-then-arguments-called
-returns-then-arguments-called c = call-other _ _ _ _ _ _ (omega arith) c.if-arguments-called.true
+returns-then-count-arguments c = elim c.then-count-arguments.branch [
+  | then-count-arguments-via-then-count-arguments w ↦ call-few _ _ _ _ _ _ (omega arith)
+  | then-count-arguments-via-else-count-arguments+then-arguments-called w ↦ call-other _ _ _ _ _ _ (omega arith) w.if-arguments-called.true
+]
 
 pub returns-then-room-called : goal.returns-then-room-called
 returns-then-room-called c = call-full _ _ _ _ _ _ (omega arith) c.if-arguments-called.false (omega arith)

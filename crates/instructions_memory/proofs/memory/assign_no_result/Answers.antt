@@ -1,11 +1,13 @@
+use Rattle.std.proofs.lemmas.Result.{err_from_is_err_and}
 use mathlib.Core.Path.{◌∙◌}
 use Rattle.manual.specs.Memory as plan
 use Rattle.instructions_memory.proofs.Variables.{variable-trapped, variable-at}
 use Rattle.instructions_memory.proofs.memory.assign_no_result.Goals as goal
 
-pub returns-in-Trap : goal.returns-in-Trap
+pub returns-in_err-variable : goal.returns-in_err-variable
 unfolding plan.assign_no_result
-returns-in-Trap c = variable-trapped _ _ _ _ _ c.in-Trap.is
+returns-in_err-variable c = let passed = err_from_is_err_and c.from_residual.result c.from_residual.ensures.1 in
+    rw (passed.1, passed.2) (variable-trapped _ _ _ c.in_err-variable.was)
 
-pub returns-in-At : goal.returns-in-At
-returns-in-At c = c.move_to.ensures _ ∙ variable-at _ _ _ _ c.in-At.is (plan.assign_no_result _ _)
+pub returns : goal.returns
+returns c = c.move_to.ensures _ ∙ variable-at _ _ _ c.in_ok-variable.was (plan.assign_no_result _ _)

@@ -12,4 +12,4 @@ returns-in_default c = λ cell. assign_other _ _ _ cell (omega (arith, c.if-coun
 pub returns : goal.returns
 returns c = λ cell.
     rw (c.jump.ensures, c.store_share.ensures, c.operand_at-w.ensures)
-    (value-assigned _ _ _ cell (omega (arith, c.if-count-lt1.false, c.count.ensures)) _ _ c.in-Value.is (rw (← c.operand_at-w.ensures) (sym c.value_of.ensures)))
+    (value-assigned _ _ _ cell (omega (arith, c.if-count-lt1.false, c.count.ensures)) _ _ c.in-Some.is (rw (← c.operand_at-w.ensures) (sym c.value_of.ensures)))

@@ -21,8 +21,8 @@ place-requires c = (length-take-le _ _ (omega arith) ∙ c.if-r-lengths.false, r
 pub store_at-requires : goal.store_at-requires
 store_at-requires c = record { held = block_held _ _ _ _ _ c.requires.indexed; n_nonzero = search rules }
 
-pub returns-in-Trap : goal.returns-in-Trap
-returns-in-Trap c = outside _ _ _ _ _ c.requires.indexed _ (c.if-r-lengths.false ∙ ap length c.lengths_of-lengths.ensures) _ _ _ c.in-Trap.is (c.place.ensures ∙ rw (c.iorg.ensures, c.lengths_of-lengths.ensures))
+pub returns-in-Err : goal.returns-in-Err
+returns-in-Err c = outside _ _ _ _ _ c.requires.indexed _ (c.if-r-lengths.false ∙ ap length c.lengths_of-lengths.ensures) _ _ c.in-Err.is (c.place.ensures ∙ rw (c.iorg.ensures, c.lengths_of-lengths.ensures))
 
-pub returns-in-At : goal.returns-in-At
-returns-in-At c = c.store_at.ensures ∙ element-found _ _ _ _ _ c.requires.indexed _ (c.if-r-lengths.false ∙ ap length c.lengths_of-lengths.ensures) _ _ c.in-At.is (c.place.ensures ∙ rw (c.iorg.ensures, c.lengths_of-lengths.ensures))
+pub returns-in-Ok : goal.returns-in-Ok
+returns-in-Ok c = c.store_at.ensures ∙ element-found _ _ _ _ _ c.requires.indexed _ (c.if-r-lengths.false ∙ ap length c.lengths_of-lengths.ensures) _ _ c.in-Ok.is (c.place.ensures ∙ rw (c.iorg.ensures, c.lengths_of-lengths.ensures))

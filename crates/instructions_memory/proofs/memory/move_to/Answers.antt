@@ -12,4 +12,4 @@ returns-in_default c = λ cell. move-other _ _ _ cell (omega (arith, c.if-count-
 pub returns : goal.returns
 returns c = λ cell.
     rw (c.jump.ensures, c.discard.ensures, c.store_share.ensures, c.operand_at-w.ensures)
-    (value-moved _ _ _ cell (omega (arith, c.if-count-lt1.false, c.count.ensures)) _ _ c.in-Value.is (rw (← c.operand_at-w.ensures) (sym c.value_of.ensures)))
+    (value-moved _ _ _ cell (omega (arith, c.if-count-lt1.false, c.count.ensures)) _ _ c.in-Some.is (rw (← c.operand_at-w.ensures) (sym c.value_of.ensures)))

@@ -1,15 +1,13 @@
-use mathlib.Core.Path.{◌∙◌}
+use mathlib.Core.Path.{sym, ap, ◌∙◌}
 use Rattle.manual.specs.Scalars as plan
-use Rattle.instructions_values.proofs.Taking.{two-stop, two-go}
+use Rattle.effects.specs.Carried.{carry}
+use Rattle.instructions_values.proofs.Taking.{passed-on}
 use Rattle.instructions_values.proofs.arrays.catenate.Goals as goal
 
-pub join-requires : goal.join-requires
-join-requires c = (c.both_values.ensures.operands _ _ c.in-Values.is, c.requires.0, c.requires.1)
-
-pub returns-in-Trap : goal.returns-in-Trap
+pub returns-in_err-a : goal.returns-in_err-a
 unfolding plan.catenate
-returns-in-Trap c = two-stop c.both_values.ensures c.in-Trap.is _
+returns-in_err-a c = passed-on c.from_residual.result c.from_residual.ensures.1 (c.in_err-a.ensures _)
 
-pub returns-in-Values : goal.returns-in-Values
+pub returns : goal.returns
 unfolding plan.catenate
-returns-in-Values c = c.join.ensures ∙ two-go c.both_values.ensures c.in-Values.is _
+returns c = c.join.ensures ∙ ap (carry c.args.seg.now) (sym (c.in_ok-a.ensures.goes _))

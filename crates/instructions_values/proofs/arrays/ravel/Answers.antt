@@ -1,35 +1,19 @@
-use Prim.Native.Nat.{ℕ}
 use native.Mathlib.Omega.{arith}
-use mathlib.Core.List.{List}
-use mathlib.Core.Path.{ap, ◌∙◌}
-use Rattle.manual.specs.OrTrap.{gives}
+use mathlib.Core.Path.{sym, ap, ◌∙◌}
 use Rattle.manual.specs.Scalars as plan
-use Rattle.manual.specs.Values as values
 use Rattle.effects.specs.Carried.{carry}
-use Rattle.instructions_values.proofs.Fronts.{front-count, front_fits, front-few}
-use Rattle.instructions_values.proofs.Taking.{one-stops, one-goes}
+use Rattle.instructions_values.proofs.Taking.{passed-on}
 use Rattle.instructions_values.proofs.Vectors.{size_few}
 use Rattle.instructions_values.proofs.arrays.ravel.Goals as goal
 
-pub copy_ravel-n-requires : goal.copy_ravel-n-requires
-copy_ravel-n-requires c = let there = c.first_value.ensures.readable _ c.in-Value.is in (there, omega (arith, size_few _ c.requires.0 _ there))
-
-pub slice_bounds-replace_by_vector-end : goal.slice_bounds-replace_by_vector-end
-slice_bounds-replace_by_vector-end c = front_fits _ _ _ c.copy_ravel-n.ensures
-
-pub slice_bounds-replace_by_vector-end-in-Value : goal.slice_bounds-replace_by_vector-end-in-Value
-slice_bounds-replace_by_vector-end-in-Value c = front-count _ _ _ c.copy_ravel-n.ensures
-
-pub replace_by_vector-requires : goal.replace_by_vector-requires
-replace_by_vector-requires c = (omega arith, front-few _ _ _ c.copy_ravel-n.ensures 16384 (omega (arith, size_few _ c.requires.0 _ (c.first_value.ensures.readable _ c.in-Value.is))))
-
-pub returns-in-Trap : goal.returns-in-Trap
+pub returns-in_err-v : goal.returns-in_err-v
 unfolding plan.ravel
-returns-in-Trap c = one-stops c.first_value.ensures c.in-Trap.is _
+returns-in_err-v c = passed-on c.from_residual.result c.from_residual.ensures.1 (c.in_err-v.ensures _)
 
-pub returns-in-Value : goal.returns-in-Value
+pub keep-n-requires : goal.keep-n-requires
+keep-n-requires c = rw c.ravel_of.ensures (omega (arith, size_few _ c.requires.0 _ c.in_ok-v.ensures.readable))
+
+pub returns : goal.returns
 unfolding plan.ravel
-returns-in-Value c = let a = c.args in
-    c.replace_by_vector.ensures
-    ∙ ap (λ (words : List ℕ). carry a.seg.now (plan.replace_by a.next.0 1 (gives (values.vector words)))) c.copy_ravel-n.ensures.first
-    ∙ one-goes c.first_value.ensures c.in-Value.is _
+returns c = let made = rw (c.keep-n.ensures.value, c.keep-n.ensures.to_after, c.ravel_of.ensures) at c.replace_by_vector.ensures in
+    made ∙ ap (carry c.args.seg.now) (sym (c.in_ok-v.ensures.goes _))

@@ -1,12 +1,12 @@
-use mathlib.Core.Path.{sym, ◌∙◌}
-use Rattle.instructions_values.proofs.Taking.{both_stopped, both-other, both_found}
+use mathlib.Core.Path.{refl, sym, ◌∙◌}
+use Rattle.std.proofs.lemmas.Result.{err_from_is_err_and}
+use Rattle.instructions_values.proofs.Taking.{both-ended, both_found}
 use Rattle.instructions_values.proofs.operand_values.both_values.Goals as goal
 
-pub returns-in_default : goal.returns-in_default
-returns-in_default c = both-other c.first_value.ensures c.in-Value.is (rw (← c.operand_at.ensures) (sym c.value_of.ensures ∙ c.in_default.is))
+pub returns-in_err-second : goal.returns-in_err-second
+returns-in_err-second c =
+    let passed = err_from_is_err_and c.from_residual-in_err-second.result c.from_residual-in_err-second.ensures.1 in
+    rw (passed.1, passed.2) (both-ended c.in_ok-first.ensures _ refl (sym c.value_at.ensures ∙ c.in_err-second.was))
 
-pub returns-in-Trap : goal.returns-in-Trap
-returns-in-Trap c = both_stopped c.first_value.ensures c.in-Trap.is
-
-pub returns-in-Value-value_of : goal.returns-in-Value-value_of
-returns-in-Value-value_of c = both_found c.first_value.ensures c.in-Value.is (rw (← c.operand_at.ensures) (sym c.value_of.ensures ∙ c.in-Value-value_of.is))
+pub returns : goal.returns
+returns c = both_found c.in_ok-first.ensures _ refl (sym c.value_at.ensures ∙ c.in_ok-second.was)

@@ -1,16 +1,13 @@
-use mathlib.Core.Path.{◌∙◌}
+use mathlib.Core.Path.{sym, ap, ◌∙◌}
 use Rattle.manual.specs.Scalars as plan
-use Rattle.instructions_values.proofs.Taking.{two-stop, two-go}
-use borrow.Author.Rules.{rules}
+use Rattle.effects.specs.Carried.{carry}
+use Rattle.instructions_values.proofs.Taking.{passed-on}
 use Rattle.instructions_values.proofs.scalars.dyadic.Goals as goal
 
-pub combine-requires : goal.combine-requires
-combine-requires c = let both = c.both_values.ensures.readable _ _ c.in-Values.is in (both.0, both.1, search rules, search rules)
-
-pub returns-in-Trap : goal.returns-in-Trap
+pub returns-in_err-a : goal.returns-in_err-a
 unfolding plan.dyadic
-returns-in-Trap c = two-stop c.both_values.ensures c.in-Trap.is _
+returns-in_err-a c = passed-on c.from_residual.result c.from_residual.ensures.1 (c.in_err-a.ensures _)
 
-pub returns-in-Values : goal.returns-in-Values
+pub returns : goal.returns
 unfolding plan.dyadic
-returns-in-Values c = c.combine.ensures ∙ two-go c.both_values.ensures c.in-Values.is _
+returns c = c.combine.ensures ∙ ap (carry c.args.seg.now) (sym (c.in_ok-a.ensures.goes _))

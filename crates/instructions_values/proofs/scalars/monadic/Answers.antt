@@ -1,26 +1,28 @@
 use mathlib.Core.Path.{sym, ap, ◌∙◌}
 use Rattle.manual.specs.Scalars as plan
 use Rattle.effects.specs.Carried.{carry}
-use Rattle.instructions_values.specs.declared.operand_values.First.TheVariants as F
 use Rattle.instructions_values.proofs.Elementwise.{monadic-scalar}
-use Rattle.instructions_values.proofs.Taking.{one-stops, one-goes}
-use borrow.Author.Rules.{rules}
+use Rattle.instructions_values.proofs.Taking.{passed-on}
 use Rattle.instructions_values.proofs.scalars.monadic.Goals as goal
 
-pub monadic_array-requires : goal.monadic_array-requires
-monadic_array-requires c = ((c.first_value.ensures.readable _ c.in-Value.is).array _ c.in-Array.is, search rules, search rules)
-
-pub returns-in-Trap : goal.returns-in-Trap
+pub returns-in_err-a : goal.returns-in_err-a
 unfolding plan.monadic
-returns-in-Trap c = one-stops c.first_value.ensures c.in-Trap.is _
+returns-in_err-a c = passed-on c.from_residual.result c.from_residual.ensures.1 (c.in_err-a.ensures _)
 
-pub returns-in-Scalar : goal.returns-in-Scalar
+pub returns-in_err-w-in-Scalar : goal.returns-in_err-w-in-Scalar
 unfolding plan.monadic
-returns-in-Scalar c = let a = c.args in
-    c.replace_by_answer.ensures
-    ∙ rw c.monadic.ensures (ap (carry a.seg.now) (sym (monadic-scalar a.next.0 a.op c.in-Scalar.w)))
-    ∙ one-goes c.first_value.ensures (c.in-Value.is ∙ ap F.Value c.in-Scalar.is) _
+returns-in_err-w-in-Scalar c = let a = c.args in
+    let there = rw c.in-Scalar.is at c.in_ok-a.ensures in
+    let refused = rw (← c.monadic.ensures, c.in_err-w-in-Scalar.was) at (monadic-scalar a.next.0 a.op c.in-Scalar.w) in
+    passed-on c.from_residual-in_err-w-in-Scalar.result c.from_residual-in_err-w-in-Scalar.ensures.1 (there.goes _ ∙ refused)
+
+pub returns-in_ok-w-in-Scalar : goal.returns-in_ok-w-in-Scalar
+unfolding plan.monadic
+returns-in_ok-w-in-Scalar c = let a = c.args in
+    let there = rw c.in-Scalar.is at c.in_ok-a.ensures in
+    let given = rw (← c.monadic.ensures, c.in_ok-w-in-Scalar.was) at (monadic-scalar a.next.0 a.op c.in-Scalar.w) in
+    c.replace_by_scalar.ensures ∙ ap (carry a.seg.now) (sym (there.goes _ ∙ given))
 
 pub returns-in-Array : goal.returns-in-Array
 unfolding plan.monadic
-returns-in-Array c = c.monadic_array.ensures ∙ one-goes c.first_value.ensures (c.in-Value.is ∙ ap F.Value c.in-Array.is) _
+returns-in-Array c = let there = rw c.in-Array.is at c.in_ok-a.ensures in c.monadic_array.ensures ∙ ap (carry c.args.seg.now) (sym (there.goes _))

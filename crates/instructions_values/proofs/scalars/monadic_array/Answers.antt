@@ -1,22 +1,27 @@
 use native.Mathlib.Omega.{arith}
-use mathlib.Core.Path.{sym}
+use mathlib.Core.Path.{refl, sym}
 use lib.Seq.{length-take-le}
 use Rattle.operands.specs.Operands.{held}
 use Rattle.operands.specs.declared.reading.Value.TheVariants.{Array}
 use Rattle.instructions_values.proofs.Elementwise.{monadic-array}
 use Rattle.instructions_values.proofs.Few.{elements-few, ranked}
+use Rattle.instructions_values.proofs.Taking.{passed-on}
 use Rattle.instructions_values.proofs.scalars.monadic_array.Goals as goal
 
-pub monadic-done-requires : goal.monadic-done-requires
-monadic-done-requires c = omega (arith, elements-few _ _ c.requires.0 c.requires.1 _ c.elements_of-a.ensures)
+pub monadic-requires : goal.monadic-requires
+monadic-requires c = omega (arith, elements-few _ _ c.requires.0 c.requires.1 _ c.elements_of-a.ensures)
 
-pub slice_bounds-replace_by_elements-end : goal.slice_bounds-replace_by_elements-end
-slice_bounds-replace_by_elements-end c = omega (arith, elements-few _ _ c.requires.0 c.requires.1 _ c.elements_of-a.ensures)
+pub slice_bounds-replace_by_like-end : goal.slice_bounds-replace_by_like-end
+slice_bounds-replace_by_like-end c = omega (arith, elements-few _ _ c.requires.0 c.requires.1 _ c.elements_of-a.ensures)
 
-pub slice_bounds-replace_by_elements-end-2 : goal.slice_bounds-replace_by_elements-end-2
-slice_bounds-replace_by_elements-end-2 c = sym (length-take-le _ _ (omega (arith, elements-few _ _ c.requires.0 c.requires.1 _ c.elements_of-a.ensures)))
+pub slice_bounds-replace_by_like-end-2 : goal.slice_bounds-replace_by_like-end-2
+slice_bounds-replace_by_like-end-2 c = sym (length-take-le _ _ (omega (arith, elements-few _ _ c.requires.0 c.requires.1 _ c.elements_of-a.ensures)))
+
+pub returns-in_err-monadic : goal.returns-in_err-monadic
+returns-in_err-monadic c = let a = c.args in
+    rw (monadic-array a.next.0 a.op (held a.seg.now (Array a.block)) (ranked _ _ c.requires.0), ← c.elements_of-a.ensures, ← c.monadic.ensures, c.in_err-monadic.was)
+    (passed-on c.from_residual.result c.from_residual.ensures.1 refl)
 
 pub returns : goal.returns
-returns c = let s = c.args.seg.now in
-    let block = c.args.block in
-    rw (monadic-array c.args.next.0 c.args.op (held s (Array block)) (ranked _ _ c.requires.0), ← c.elements_of-a.ensures, ← c.monadic-done.ensures) c.replace_by_elements.ensures
+returns c = let a = c.args in
+    rw (monadic-array a.next.0 a.op (held a.seg.now (Array a.block)) (ranked _ _ c.requires.0), ← c.elements_of-a.ensures, ← c.monadic.ensures, c.in_ok-monadic.was) c.replace_by_like.ensures

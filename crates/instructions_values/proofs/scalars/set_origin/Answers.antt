@@ -1,23 +1,22 @@
+use mathlib.Core.Path.{refl}
 use Rattle.manual.specs.Scalars as plan
 use Rattle.instructions_values.proofs.Origin.{origin-value}
-use Rattle.instructions_values.proofs.Taking.{one-stops}
+use Rattle.instructions_values.proofs.Taking.{passed-on}
 use Rattle.instructions_values.proofs.scalars.set_origin.Goals as goal
 
-pub single-requires : goal.single-requires
-single-requires c = c.first_value.ensures.readable _ c.in-Value.is
-
-pub returns-in-Trap : goal.returns-in-Trap
+pub returns-in_err-v : goal.returns-in_err-v
 unfolding plan.set_origin
-returns-in-Trap c = one-stops c.first_value.ensures c.in-Trap.is _
+returns-in_err-v c = passed-on c.from_residual.result c.from_residual.ensures.1 (c.in_err-v.ensures _)
 
-pub returns-in-Trap-single : goal.returns-in-Trap-single
-returns-in-Trap-single c = rw (origin-value c.args.next.0 c.first_value.ensures c.in-Value.is, ← c.single.ensures, c.in-Trap-single.is)
+pub returns-in_err-single : goal.returns-in_err-single
+returns-in_err-single c = rw (origin-value c.args.next.0 c.in_ok-v.ensures, ← c.single.ensures, c.in_err-single.was)
+    (passed-on c.from_residual-in_err-single.result c.from_residual-in_err-single.ensures.1 refl)
 
 pub returns-in-Character : goal.returns-in-Character
-returns-in-Character c = rw (origin-value c.args.next.0 c.first_value.ensures c.in-Value.is, ← c.single.ensures, c.in-Word.is, ← c.truth.ensures, c.in-Character.is)
+returns-in-Character c = rw (origin-value c.args.next.0 c.in_ok-v.ensures, ← c.single.ensures, c.in_ok-single.was, ← c.truth.ensures, c.in-Character.is)
 
 pub returns-in-Other : goal.returns-in-Other
-returns-in-Other c = rw (origin-value c.args.next.0 c.first_value.ensures c.in-Value.is, ← c.single.ensures, c.in-Word.is, ← c.truth.ensures, c.in-Other.is)
+returns-in-Other c = rw (origin-value c.args.next.0 c.in_ok-v.ensures, ← c.single.ensures, c.in_ok-single.was, ← c.truth.ensures, c.in-Other.is)
 
-pub returns-in-Value-truth : goal.returns-in-Value-truth
-returns-in-Value-truth c = rw (origin-value c.args.next.0 c.first_value.ensures c.in-Value.is, ← c.single.ensures, c.in-Word.is, ← c.truth.ensures, c.in-Value-truth.is) c.origin_set.ensures
+pub returns-in-Value : goal.returns-in-Value
+returns-in-Value c = rw (origin-value c.args.next.0 c.in_ok-v.ensures, ← c.single.ensures, c.in_ok-single.was, ← c.truth.ensures, c.in-Value.is) c.origin_set.ensures

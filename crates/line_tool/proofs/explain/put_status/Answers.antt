@@ -7,4 +7,4 @@ unfolding status_text
 returns c =
     followed _ _ _ _
     (followed _ _ _ _ (followed _ _ _ _ c.put-a.ensures c.put_decimal-b.ensures) c.put-c.ensures)
-    c.put_status_words.ensures
+    (rw c.status_words.ensures at c.put.ensures)

@@ -9,4 +9,4 @@ returns c =
     (followed _ _ _ _
     (followed _ _ _ _ (followed _ _ _ _ (followed _ _ _ _ c.put-a.ensures c.put_decimal-b.ensures) c.put-c.ensures) c.put_decimal-d.ensures)
     c.put-e.ensures)
-    c.put_trap_words.ensures
+    (rw c.trap_words.ensures at c.put.ensures)

@@ -7,4 +7,4 @@ pub returns-then-end-start : goal.returns-then-end-start
 returns-then-end-start c = text-cut _ _ 0 (omega arith)
 
 pub returns : goal.returns
-returns c = text-cut _ _ (c.least-end.result - c.args.token.start) (omega arith)
+returns c = text-cut _ _ (c.min-end.result - c.args.token.start) (omega arith)

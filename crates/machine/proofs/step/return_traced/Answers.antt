@@ -2,6 +2,3 @@ use Rattle.machine.proofs.step.return_traced.Goals as goal
 
 pub returns-then-fcnrtrc : goal.returns-then-fcnrtrc
 returns-then-fcnrtrc c = simp (← c.fcnrtrc.ensures, c.if-fcnrtrc.true)
-
-pub returns : goal.returns
-returns c = simp (← c.fcnrtrc.ensures, c.if-fcnrtrc.false)

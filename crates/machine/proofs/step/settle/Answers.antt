@@ -1,8 +1,5 @@
 use Rattle.machine.proofs.step.settle.Goals as goal
 
-pub returns-in-Trapped : goal.returns-in-Trapped
-returns-in-Trapped c = simp c.in-Trapped.is (cc)
-
 pub returns-in-Finished : goal.returns-in-Finished
 returns-in-Finished c = simp c.in-Finished.is (cc)
 

@@ -4,4 +4,4 @@ use Rattle.machine.proofs.Stepping.{trap-set}
 use Rattle.machine.proofs.step.trap.Goals as goal
 
 pub returns : goal.returns
-returns c = let a = c.args in (cc) ∙ trap-set a.seg.now a.class a.number (omega arith) (omega arith)
+returns c = let a = c.args in (cc) ∙ trap-set a.seg.now a.t.class a.t.number (omega arith) (omega arith)

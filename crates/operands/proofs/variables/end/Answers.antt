@@ -1,22 +1,12 @@
+use mathlib.Core.Path.{ap, ◌∙◌}
+use Rattle.descriptor.specs.Kinds.{kind_of}
 use Rattle.operands.specs.Variables.{resolved_target}
+use Rattle.operands.proofs.Resolving.{target_direct}
 use Rattle.operands.proofs.variables.end.Goals as goal
 
 pub returns-in-Indirect : goal.returns-in-Indirect
 unfolding resolved_target
-returns-in-Indirect c = simp (← c.held-w.ensures, ← c.of.ensures, ← c.kind.ensures, c.in-Indirect.is)
+returns-in-Indirect c = simp (← c.held-held.ensures, ← c.of.ensures, ← c.kind.ensures, c.in-Indirect.is)
 
-pub returns-in-Scalar : goal.returns-in-Scalar
-unfolding resolved_target
-returns-in-Scalar c = simp (← c.held-w.ensures, ← c.of.ensures, ← c.kind.ensures, c.in-Scalar.is)
-
-pub returns-in-Array : goal.returns-in-Array
-unfolding resolved_target
-returns-in-Array c = simp (← c.held-w.ensures, ← c.of.ensures, ← c.kind.ensures, c.in-Array.is)
-
-pub returns-in-Undefined : goal.returns-in-Undefined
-unfolding resolved_target
-returns-in-Undefined c = simp (← c.held-w.ensures, ← c.of.ensures, ← c.kind.ensures, c.in-Undefined.is)
-
-pub returns-in-Invalid : goal.returns-in-Invalid
-unfolding resolved_target
-returns-in-Invalid c = simp (← c.held-w.ensures, ← c.of.ensures, ← c.kind.ensures, c.in-Invalid.is)
+pub returns-in_default : goal.returns-in_default
+returns-in_default c = target_direct _ _ _ _ c.held-held.ensures (c.kind.ensures ∙ ap kind_of c.of.ensures) c.in_default.not-Indirect

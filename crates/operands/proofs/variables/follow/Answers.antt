@@ -1,22 +1,12 @@
+use mathlib.Core.Path.{ap, ◌∙◌}
+use Rattle.descriptor.specs.Kinds.{kind_of}
 use Rattle.operands.specs.Variables.{resolved_variable}
+use Rattle.operands.proofs.Resolving.{variable_direct}
 use Rattle.operands.proofs.variables.follow.Goals as goal
 
 pub returns-in-Indirect : goal.returns-in-Indirect
 unfolding resolved_variable
-returns-in-Indirect c = simp (← c.held-w.ensures, ← c.of.ensures, ← c.kind.ensures, c.in-Indirect.is, ← c.end.ensures)
+returns-in-Indirect c = simp (← c.held-held.ensures, ← c.of.ensures, ← c.kind.ensures, c.in-Indirect.is, ← c.end.ensures)
 
-pub returns-in-Scalar : goal.returns-in-Scalar
-unfolding resolved_variable
-returns-in-Scalar c = simp (← c.held-w.ensures, ← c.of.ensures, ← c.kind.ensures, c.in-Scalar.is)
-
-pub returns-in-Array : goal.returns-in-Array
-unfolding resolved_variable
-returns-in-Array c = simp (← c.held-w.ensures, ← c.of.ensures, ← c.kind.ensures, c.in-Array.is)
-
-pub returns-in-Undefined : goal.returns-in-Undefined
-unfolding resolved_variable
-returns-in-Undefined c = simp (← c.held-w.ensures, ← c.of.ensures, ← c.kind.ensures, c.in-Undefined.is)
-
-pub returns-in-Invalid : goal.returns-in-Invalid
-unfolding resolved_variable
-returns-in-Invalid c = simp (← c.held-w.ensures, ← c.of.ensures, ← c.kind.ensures, c.in-Invalid.is)
+pub returns-in_default : goal.returns-in_default
+returns-in_default c = variable_direct _ _ _ _ c.held-held.ensures (c.kind.ensures ∙ ap kind_of c.of.ensures) c.in_default.not-Indirect

@@ -1,16 +1,11 @@
-use native.Mathlib.Omega.{arith}
-use borrow.Author.Tests.{lt-ltb, le-ltb}
-use Rattle.elements.proofs.Testing.{any-start, any-hit, any-on, any_none}
+use Rattle.std.proofs.Common.{rules, tests, ◌∙◌}
+use Rattle.std.proofs.lemmas.Iterator.{YieldsList-from_slice}
+use Rattle.std.proofs.lemmas.Iterator.Search.{any_from_yields_List}
+use lib.Dec.{ltb}
+use Rattle.operation_parts.proofs.Products.{same-any}
 use Rattle.operation_parts.proofs.tests.any_long.Goals as goal
 
-pub loop-i-init : goal.loop-i-init
-loop-i-init c = (omega arith, any-start)
-
-pub returns-then-lengths-i-gt65535 : goal.returns-then-lengths-i-gt65535
-returns-then-lengths-i-gt65535 c = any-hit c.loop-i.invariant.1 (omega arith) (lt-ltb _ _ c.if-lengths-i-gt65535.true)
-
-pub loop-i-preserved : goal.loop-i-preserved
-loop-i-preserved c = (omega arith, any-on c.loop-i.invariant.1 (omega arith) (le-ltb _ _ c.if-lengths-i-gt65535.false))
-
 pub returns : goal.returns
-returns c = any_none c.loop-i.invariant.1 (omega arith)
+returns c =
+    any_from_yields_List (λ l. ltb 65535 l) _ _ _ c.any.ensures.ran (YieldsList-from_slice c.args.lengths.now cc) (λ x b q k. search (rules, tests))
+    ∙ same-any (λ l. ltb 65535 l) c.args.lengths.now

@@ -1,83 +1,50 @@
 use borrow.Author.Rules.{rules}
 use native.Mathlib.Omega.{arith}
-use mathlib.Core.Path.{◌≡◌, refl, sym, ◌∙◌}
-use lib.ListN.{length}
-use lib.Seq.{length-take-le}
-use Rattle.replay.proofs.Replaying.{parsed-malformed, parsed-run, parsed-load, run-within, load-within, file-ends, no_record, run-done, load-done, goes_on, halts, load-passes}
+use mathlib.Core.Path.{refl, ap, ◌∙◌}
+use Rattle.std.proofs.Common.{Some}
+use Rattle.std.proofs.lemmas.Result.{err_from_is_err_and}
+use Rattle.replay.proofs.Replaying.{parsed-malformed, parsed-run, parsed-load, file-ends, no_record, run-done, load-done, goes_on, halts, load-passes}
 use Rattle.replay.proofs.records.one_by_one.Goals as goal
 
-pub loop-place-init : goal.loop-place-init
-loop-place-init c = (refl, refl, c.requires.0, c.requires.1, refl, tt)
+pub returns-in_default : goal.returns-in_default
+returns-in_default c = let l = c.loop-place in
+    no_record _ _ _ _ _ c.loop-place-test.true (parsed-malformed _ _ c.record_at.ensures.ravel_after c.in_default.is) ∙ l.invariant.4
 
-pub returns-in-Malformed : goal.returns-in-Malformed
-returns-in-Malformed c = let l = c.loop-place in
-    no_record _ _ _ _ _ c.loop-place-test.true (parsed-malformed _ _ c.record_at.ensures.ravel_after c.in-Malformed.is) ∙ l.invariant.4
-
-pub returns-then-halt-ne0 : goal.returns-then-halt-ne0
-returns-then-halt-ne0 c = let l = c.loop-place in
+pub returns-in_err-run_record-in-Run : goal.returns-in_err-run_record-in-Run
+returns-in_err-run_record-in-Run c = let l = c.loop-place in
     let r = c.record_at in
-    let p = c.run_record-halt in
-    let done = run-done _ _ _ _ _ c.loop-place-test.true c.in-Run.next c.in-Run.budget (parsed-run _ _ r.ensures.ravel_after _ _ c.in-Run.is) p.ensures.value p.ensures.seg_after p.ensures.counts_after in
-    halts _ _ done c.if-halt-ne0.true ∙ l.invariant.4
-
-pub loop-place-smaller-in-Run : goal.loop-place-smaller-in-Run
-loop-place-smaller-in-Run c = let w = run-within c.record_at.ensures.usable _ _ c.in-Run.is in omega (arith, w)
+    let told = c.in_err-run_record-in-Run.ensures in
+    let p = err_from_is_err_and c.from_residual.result c.from_residual.ensures.1 in
+    let done = run-done _ _ _ _ _ c.loop-place-test.true c.in-Run.next c.in-Run.budget (parsed-run _ _ r.ensures.ravel_after _ _ (c.in-Some.is ∙ ap (λ r. Some r) c.in-Run.is)) refl told.seg_after told.counts_after in
+    rw (p.1, p.2) (halts _ _ done _ told.value ∙ l.invariant.4)
 
 pub loop-place-preserved-in-Run : goal.loop-place-preserved-in-Run
 loop-place-preserved-in-Run c = let l = c.loop-place in
     let r = c.record_at in
-    let p = c.run_record-halt in
-    let done = run-done _ _ _ _ _ c.loop-place-test.true c.in-Run.next c.in-Run.budget (parsed-run _ _ r.ensures.ravel_after _ _ c.in-Run.is) p.ensures.value p.ensures.seg_after p.ensures.counts_after in
-    (search rules, search rules, search rules, search rules, goes_on _ _ done c.if-halt-ne0.false ∙ l.invariant.4, tt)
+    let told = c.in_ok-run_record-in-Run.ensures in
+    let done = run-done _ _ _ _ _ c.loop-place-test.true c.in-Run.next c.in-Run.budget (parsed-run _ _ r.ensures.ravel_after _ _ (c.in-Some.is ∙ ap (λ r. Some r) c.in-Run.is)) refl told.seg_after told.counts_after in
+    (search rules, search rules, search rules, search rules, goes_on _ _ done told.value ∙ l.invariant.4, tt)
 
-pub slice_bounds-load_record-end : goal.slice_bounds-load_record-end
-slice_bounds-load_record-end c = let r = c.record_at in
-    let w = load-within r.ensures.usable _ _ _ _ c.in-Load.is in
-    let same : length r.new.lengths ≡ 15 = search rules in
-    omega (arith, w, same)
-
-pub slice_bounds-load_record-end-in-Load : goal.slice_bounds-load_record-end-in-Load
-slice_bounds-load_record-end-in-Load c = let r = c.record_at in
-    let w = load-within r.ensures.usable _ _ _ _ c.in-Load.is in
-    let same : length r.new.lengths ≡ 15 = search rules in
-    sym (length-take-le _ r.new.lengths (omega (arith, w, same)))
-
-pub slice_bounds-load_record-end-in-Load-2 : goal.slice_bounds-load_record-end-in-Load-2
-slice_bounds-load_record-end-in-Load-2 c = let r = c.record_at in
-    let w = load-within r.ensures.usable _ _ _ _ c.in-Load.is in
-    let same : length r.new.ravel ≡ 16384 = search rules in
-    omega (arith, w, same)
-
-pub slice_bounds-load_record-end-in-Load-3 : goal.slice_bounds-load_record-end-in-Load-3
-slice_bounds-load_record-end-in-Load-3 c = let r = c.record_at in
-    let w = load-within r.ensures.usable _ _ _ _ c.in-Load.is in
-    let same : length r.new.ravel ≡ 16384 = search rules in
-    sym (length-take-le _ r.new.ravel (omega (arith, w, same)))
-
-pub load_record-halt-requires : goal.load_record-halt-requires
-load_record-halt-requires c = c.loop-place.invariant.5
-
-pub returns-then-halt-ne0-2 : goal.returns-then-halt-ne0-2
-returns-then-halt-ne0-2 c = let l = c.loop-place in
+pub returns-in_err-load_record-in-Load : goal.returns-in_err-load_record-in-Load
+returns-in_err-load_record-in-Load c = let l = c.loop-place in
     let r = c.record_at in
-    let p = c.load_record-halt in
-    let done = load-done _ _ _ _ _ c.loop-place-test.true c.in-Load.next c.in-Load.global _ _ (parsed-load _ _ r.ensures.ravel_after _ _ _ _ c.in-Load.is) p.ensures.value p.ensures.seg_after refl in
-    halts _ _ done c.if-halt-ne0-2.true ∙ l.invariant.4
-
-pub loop-place-smaller : goal.loop-place-smaller
-loop-place-smaller c = let w = load-within c.record_at.ensures.usable _ _ _ _ c.in-Load.is in omega (arith, w)
+    let told = c.in_err-load_record-in-Load.ensures in
+    let left = c.from_residual-in_err-load_record-in-Load in
+    let p = err_from_is_err_and left.result left.ensures.1 in
+    let done = load-done _ _ _ _ _ c.loop-place-test.true c.in-Load.next c.in-Load.global _ _ (parsed-load _ _ r.ensures.ravel_after _ _ _ _ (c.in-Some.is ∙ ap (λ r. Some r) c.in-Load.is)) refl told.seg_after refl in
+    rw (p.1, p.2) (halts _ _ done _ told.value ∙ l.invariant.4)
 
 pub loop-place-preserved : goal.loop-place-preserved
 loop-place-preserved c = let l = c.loop-place in
     let r = c.record_at in
-    let p = c.load_record-halt in
-    let done = load-done _ _ _ _ _ c.loop-place-test.true c.in-Load.next c.in-Load.global _ _ (parsed-load _ _ r.ensures.ravel_after _ _ _ _ c.in-Load.is) p.ensures.value p.ensures.seg_after refl in (
+    let told = c.in_ok-load_record-in-Load.ensures in
+    let done = load-done _ _ _ _ _ c.loop-place-test.true c.in-Load.next c.in-Load.global _ _ (parsed-load _ _ r.ensures.ravel_after _ _ _ _ (c.in-Some.is ∙ ap (λ r. Some r) c.in-Load.is)) refl told.seg_after refl in (
       search rules,
       search rules,
       search rules,
       search rules,
-      goes_on _ _ done c.if-halt-ne0-2.false ∙ l.invariant.4,
-      load-passes _ _ _ _ _ _ p.ensures.value c.if-halt-ne0-2.false p.ensures.seg_after,
+      goes_on _ _ done told.value ∙ l.invariant.4,
+      load-passes _ _ _ _ _ _ told.value told.seg_after,
     )
 
 pub returns : goal.returns

@@ -1,12 +1,11 @@
-use Rattle.std.proofs.Common.{ℕ, ◌%◌, ◌^◌, ap}
+use Rattle.std.proofs.Common.{ℕ, ◌%◌, ◌^◌, ap, Ok}
 use Rattle.scalar.specs.Operators.{convert}
-use Rattle.scalar.specs.declared.Answer.TheVariants.{Word}
 use Rattle.scalar.proofs.Units.{integer-code}
 use Rattle.scalar.proofs.characters.convert.Goals as goal
 
 pub returns-in-Character : goal.returns-in-Character
 unfolding convert
-returns-in-Character c = simp (← c.whole.ensures, c.in-Character.is) (ap (λ (w : ℕ). Word w) (integer-code (c.args.a % 2 ^ 8)))
+returns-in-Character c = simp (← c.whole.ensures, c.in-Character.is) (ap (λ (w : ℕ). Ok w) (integer-code (c.args.a % 2 ^ 8)))
 
 pub returns-in-Fraction : goal.returns-in-Fraction
 unfolding convert

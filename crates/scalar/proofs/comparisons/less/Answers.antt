@@ -1,8 +1,7 @@
-use Rattle.std.proofs.Common.{Bool, sym, ap, ◌∙◌}
+use Rattle.std.proofs.Common.{Bool, sym, ap, ◌∙◌, Ok}
 use Rattle.descriptor.specs.Fields.{is_character}
 use Rattle.descriptor.specs.Kinds.{bit}
 use Rattle.descriptor.proofs.Truth.{neither}
-use Rattle.scalar.specs.declared.Answer.TheVariants.{Word}
 use Rattle.scalar.specs.Operators.{less}
 use Rattle.scalar.proofs.Operands.{numbers-character, small-first-plain, small-second-plain}
 use Rattle.scalar.proofs.Equality.{less-numbers}
@@ -11,8 +10,7 @@ use Rattle.scalar.proofs.comparisons.less.Goals as goal
 
 pub returns-then-both_small : goal.returns-then-both_small
 returns-then-both_small c = let small = sym c.both_small.ensures ∙ c.if-both_small.true in
-    c.one_or_zero.ensures
-    ∙ ap (λ (t : Bool). Word (bit t)) (c.is_below.ensures ∙ below-small c.args.a c.args.b small)
+    ap (λ (t : Bool). Ok (bit t)) (c.is_below.ensures ∙ below-small c.args.a c.args.b small)
     ∙ less-numbers c.args.a c.args.b (small-first-plain c.args.a c.args.b small) (small-second-plain c.args.a c.args.b small)
 
 pub returns-then-one_character : goal.returns-then-one_character
@@ -21,6 +19,5 @@ returns-then-one_character c = sym (numbers-character c.args.a c.args.b _ (sym c
 
 pub returns : goal.returns
 returns c = let plain = neither (is_character c.args.a) (is_character c.args.b) (sym c.one_character.ensures ∙ c.if-one_character.false) in
-    c.one_or_zero-2.ensures
-    ∙ ap (λ (t : Bool). Word (bit t)) (c.is_below-2.ensures ∙ below-floats c.as_float.ensures c.as_float-2.ensures)
+    ap (λ (t : Bool). Ok (bit t)) (c.is_below-2.ensures ∙ below-floats c.as_float.ensures c.as_float-2.ensures)
     ∙ less-numbers c.args.a c.args.b plain.0 plain.1

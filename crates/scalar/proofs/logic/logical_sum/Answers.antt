@@ -1,22 +1,15 @@
+use Rattle.std.proofs.Common.{◌||◌, rules}
 use Rattle.scalar.specs.Operators.{logical_sum}
+use Rattle.scalar.proofs.logic.logical_sum.Goals.{then-p, else-p}
 use Rattle.scalar.proofs.logic.logical_sum.Goals as goal
 
-pub returns-in-Character : goal.returns-in-Character
+pub returns-in_err-p : goal.returns-in_err-p
 unfolding logical_sum
-returns-in-Character c = simp (← c.truth.ensures, c.in-Character.is)
+returns-in_err-p c = let e = rw (c.in_err-p.was) at (c.truths.ensures ◌||◌) in search (rules, e)
 
-pub returns-in-Other : goal.returns-in-Other
+pub returns : goal.returns
 unfolding logical_sum
-returns-in-Other c = simp (← c.truth.ensures, c.in-Other.is, ← c.refused.ensures)
-
-pub returns-in-Character-truth : goal.returns-in-Character-truth
-unfolding logical_sum
-returns-in-Character-truth c = simp (← c.truth.ensures, c.in-Value.is, ← c.truth-in-Value.ensures, c.in-Character-truth.is)
-
-pub returns-in-Other-truth : goal.returns-in-Other-truth
-unfolding logical_sum
-returns-in-Other-truth c = simp (← c.truth.ensures, c.in-Value.is, ← c.truth-in-Value.ensures, c.in-Other-truth.is)
-
-pub returns-in-Value-truth : goal.returns-in-Value-truth
-unfolding logical_sum
-returns-in-Value-truth c = simp (← c.truth.ensures, c.in-Value.is, ← c.truth-in-Value.ensures, c.in-Value-truth.is, ← c.either.ensures)
+returns c = let e = rw (c.in_ok-p.was) at (c.truths.ensures ◌||◌) in elim c.if-p.branch [
+  | then-p w ↦ rw (w.result-is, w.if-p.true) (rw w.if-p.true at e)
+  | else-p w ↦ rw w.result-is (rw w.if-p.false at e)
+]

@@ -9,10 +9,6 @@ pub returns-in-Other : goal.returns-in-Other
 unfolding not_of
 returns-in-Other c = simp (← c.truth.ensures, c.in-Other.is)
 
-pub returns-then-p : goal.returns-then-p
+pub returns-in-Value : goal.returns-in-Value
 unfolding not_of
-returns-then-p c = simp (← c.truth.ensures, c.in-Value.is, c.if-p.true)
-
-pub returns-else-p : goal.returns-else-p
-unfolding not_of
-returns-else-p c = simp (← c.truth.ensures, c.in-Value.is, c.if-p.false)
+returns-in-Value c = simp (← c.truth.ensures, c.in-Value.is)

@@ -1,5 +1,6 @@
 use Rattle.std.proofs.Common.{sym, ◌∙◌, arith}
 use Rattle.scalar.proofs.Logical.{truth-character, truth-plain, integer-zero, integer-one, integer-minus, integer-other, float_one, float-other}
+use Rattle.scalar.proofs.reading.truth.Goals.{else-m-eq1-via-then-m-eq1+else-w-eq0, else-m-eq1-via-else-m-eq1}
 use Rattle.scalar.proofs.reading.truth.Goals as goal
 
 pub returns-then-is_character : goal.returns-then-is_character
@@ -17,8 +18,11 @@ returns-then-m-eq0 c = let w = c.args.w in integer-zero w (omega (arith, c.if-w-
 pub returns-then-w-eq0 : goal.returns-then-w-eq0
 returns-then-w-eq0 c = let w = c.args.w in integer-one w (omega (arith, c.if-w-eq1.false)) c.if-m-eq1.true c.if-w-eq0.true ∙ truth-plain w (sym c.is_character.ensures ∙ c.if-is_character.false)
 
-pub returns-else-w-eq0 : goal.returns-else-w-eq0
-returns-else-w-eq0 c = let w = c.args.w in integer-minus w (omega (arith, c.if-w-eq1.false)) c.if-m-eq1.true c.if-w-eq0.false ∙ truth-plain w (sym c.is_character.ensures ∙ c.if-is_character.false)
-
-pub returns-else-m-eq1 : goal.returns-else-m-eq1
-returns-else-m-eq1 c = let w = c.args.w in integer-other w (omega (arith, c.if-w-eq1.false)) c.if-m-eq0.false c.if-m-eq1.false ∙ truth-plain w (sym c.is_character.ensures ∙ c.if-is_character.false)
+pub returns : goal.returns
+returns c =
+    let w = c.args.w in
+    (elim c.else-m-eq1.branch [
+      | else-m-eq1-via-then-m-eq1+else-w-eq0 v ↦ integer-minus w (omega (arith, c.if-w-eq1.false)) v.if-m-eq1.true v.if-w-eq0.false
+      | else-m-eq1-via-else-m-eq1 v ↦ integer-other w (omega (arith, c.if-w-eq1.false)) c.if-m-eq0.false v.if-m-eq1.false
+    ])
+    ∙ truth-plain w (sym c.is_character.ensures ∙ c.if-is_character.false)

@@ -15,7 +15,7 @@ far_sum-requires c = let x = unpacked-normal c.unpack-p.ensures c.if-p-eq0.false
 
 pub returns-then-d-gt38 : goal.returns-then-d-gt38
 returns-then-d-gt38 c = let a = c.args in
-    c.far_sum.ensures _ (mul-pos (pos_of_ne-zero c.if-q-eq0.false) (pow_pos c.unpack-q.result.exp)) (tiny _ _ _ c.unpack-q.ensures.short (omega (arith, c.lesser-e.ensures)))
+    c.far_sum.ensures _ (mul-pos (pos_of_ne-zero c.if-q-eq0.false) (pow_pos c.unpack-q.result.exp)) (tiny _ _ _ c.unpack-q.ensures.short (omega (arith, c.min-e.ensures)))
     ∙ sym (ap₂ (λ (m n : ℕ). plus true a.s m a.t n) c.unpack-p.ensures.value c.unpack-q.ensures.value)
 
 pub far_sum-requires-then-f-gt38 : goal.far_sum-requires-then-f-gt38
@@ -23,15 +23,15 @@ far_sum-requires-then-f-gt38 c = let y = unpacked-normal c.unpack-q.ensures c.if
 
 pub returns-then-f-gt38 : goal.returns-then-f-gt38
 returns-then-f-gt38 c = let a = c.args in
-    c.far_sum-then-f-gt38.ensures _ (mul-pos (pos_of_ne-zero c.if-p-eq0.false) (pow_pos c.unpack-p.result.exp)) (tiny _ _ _ c.unpack-p.ensures.short (omega (arith, c.lesser-e.ensures)))
+    c.far_sum-then-f-gt38.ensures _ (mul-pos (pos_of_ne-zero c.if-p-eq0.false) (pow_pos c.unpack-p.result.exp)) (tiny _ _ _ c.unpack-p.ensures.short (omega (arith, c.min-e.ensures)))
     ∙ plus_comm _ _ _ _
     ∙ sym (ap₂ (λ (m n : ℕ). plus true a.s m a.t n) c.unpack-p.ensures.value c.unpack-q.ensures.value)
 
 pub near_sum-requires : goal.near_sum-requires
-near_sum-requires c = (c.requires.0, c.requires.1, shifted-lt _ _ c.unpack-p.ensures.short c.if-d-gt38.false, shifted-lt _ _ c.unpack-q.ensures.short c.if-f-gt38.false, omega (arith, c.lesser-e.ensures, c.unpack-p.ensures.small))
+near_sum-requires c = (c.requires.0, c.requires.1, shifted-lt _ _ c.unpack-p.ensures.short c.if-d-gt38.false, shifted-lt _ _ c.unpack-q.ensures.short c.if-f-gt38.false, omega (arith, c.min-e.ensures, c.unpack-p.ensures.small))
 
 pub returns : goal.returns
-returns c = let l = c.lesser-e in
+returns c = let l = c.min-e in
     let a = c.args in
     c.near_sum.ensures
     ∙ ap₂ (λ (m n : ℕ). plus true a.s m a.t n)

@@ -3,4 +3,4 @@ use Rattle.storage.proofs.ring.mark_free.Goals as goal
 
 pub returns : goal.returns
 unfolding mark_free
-returns c = rw (c.put-2.ensures, c.minus.ensures, c.number.ensures, c.put.ensures, c.index.ensures)
+returns c = rw (c.put-2.ensures, c.saturating_sub.ensures, c.number.ensures, c.put.ensures, c.index.ensures)

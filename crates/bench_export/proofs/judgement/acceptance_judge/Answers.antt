@@ -1,7 +1,0 @@
-use Rattle.bench_export.proofs.judgement.acceptance_judge.Goals as goal
-
-pub returns-in-Accepted : goal.returns-in-Accepted
-returns-in-Accepted c = simp (← c.judge.ensures, c.in-Accepted.is)
-
-pub returns-in-Refused : goal.returns-in-Refused
-returns-in-Refused c = simp (← c.judge.ensures, c.in-Refused.is, ← c.number.ensures)

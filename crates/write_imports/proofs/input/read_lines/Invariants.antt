@@ -1,4 +1,0 @@
-use Rattle.write_imports.proofs.input.read_lines.Given as goal
-
-abbrev pub decreases-loop-left : goal.decreases-loop-left
-decreases-loop-left g l = l.left
