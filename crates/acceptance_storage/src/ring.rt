@@ -23,7 +23,7 @@ pub fn ring_test(seg: &[u32], count: usize, marks: &mut [u16]) -> bool
 fn on_ring(rover: SegmentAddress, end: SegmentAddress, marks: &[u16]) -> bool
     ensures { result ≡ leb 1 (hit rover.0 end.0 + get_or marks.now rover.0 0) }
 {
-    rover.number() == end.number() || 1 <= mark_at(marks, rover.index())
+    rover == end || 1 <= mark_at(marks, rover.index())
 }
 
 // NEXT leads from the dummy through every marked block, each once, and back.
@@ -52,5 +52,5 @@ fn round(seg: &[u32], end: SegmentAddress, count: usize, marks: &mut [u16]) -> b
 fn linked_to(seg: &[u32], a: SegmentAddress, b: SegmentAddress) -> bool
     ensures { result ≡ linked seg.now a.0 b.0 }
 {
-    next_at(seg, a).number() == b.number() && last_at(seg, b).number() == a.number()
+    next_at(seg, a) == b && last_at(seg, b) == a
 }

@@ -2,7 +2,6 @@
 // answer is how many elements trapped, whose place in `out` is left as it was. Slices of other lengths than `a` are left alone.
 ghost use Rattle.std.specs.Prelude.{◌≡◌, ◌<◌, ◌≤◌, length};
 
-use operator::Dyadic;
 use trap::Trap;
 
 #[unsafe(no_mangle)]
@@ -14,20 +13,26 @@ pub extern "C" fn scalar_dyadic(suboperation: u32, a: &[u32], b: &[u32], out: &m
         return 0;
     }
     match suboperation {
-        8 => each(Dyadic::Sum, a, b, out),
-        10 => each(Dyadic::Product, a, b, out),
-        11 => each(Dyadic::Quotient, a, b, out),
-        14 => each(Dyadic::Less, a, b, out),
+        8 => each(|x, y| scalar::sum(x, y), a, b, out),
+        10 => each(|x, y| scalar::product(x, y), a, b, out),
+        11 => each(|x, y| scalar::quotient(x, y), a, b, out),
+        14 => each(|x, y| scalar::less(x, y), a, b, out),
         _ => 0,
     }
 }
 
-fn each(operator: Dyadic, a: &[u32], b: &[u32], out: &mut [u32]) -> usize
-    requires { (length b.now ≡ length a.now) × (length out.old ≡ length a.now) }
+fn each<F: Fn(u32, u32) -> Result<u32, Trap>>(
+    operator: F,
+    a: &[u32],
+    b: &[u32],
+    out: &mut [u32],
+) -> usize
+    requires lengths { (length b.now ≡ length a.now) × (length out.old ≡ length a.now) }
+    requires callable { F.IsAlwaysCallable operator }
 {
     let mut traps: usize = 0;
     for (i, &x) in a.iter().enumerate() {
-        traps += put(out, i, scalar::dyadic(operator, x, b[i]));
+        traps += put(out, i, operator(x, b[i]));
     }
     traps
 }

@@ -9,83 +9,71 @@ mod lines;
 mod saying;
 
 use calls::call;
-use lent::{first_bytes, least, part, put_code};
-use lines::{find, numbers_of};
-use saying::{say, say_hash};
+use case_lines::put_words;
+use lent::{Procedures, first_bytes, part};
+use line_tool::pen::Pen;
+use line_tool::streams::{STDIN, STDOUT};
+use lines::numbers_of;
+use saying::say_hash;
 use segment::{put_all, word};
-
-const STDIN: i32 = 0;
 
 // There is room for segments that are a little too long, which a call must refuse.
 fn main() {
     let mut text = io::large_buffer();
     let n = io::read_full(STDIN, &mut text);
+    let mut pen = Pen::new(STDOUT);
     let mut seg = [0u32; 16400];
     let mut regular = [0u8; 32800];
     let mut alternate = [0u8; 32800];
     let mut lengths = [0u32; 3];
-    let mut numbers = [0u32; 1024];
-    run(
-        &text[..n],
-        &mut seg,
-        &mut regular,
-        &mut alternate,
-        &mut lengths,
-        &mut numbers,
-    );
-}
-
-// Line after line.
-fn run(
-    text: &[u8],
-    seg: &mut [u32],
-    regular: &mut [u8],
-    alternate: &mut [u8],
-    lengths: &mut [u32],
-    numbers: &mut [u32],
-) {
-    let mut at = 0;
-    while at < text.len() {
-        let end = find(text, at, b'\n');
-        obey(&text[at..end], seg, regular, alternate, lengths, numbers);
-        at = end + 1;
+    for line in text[..n].split(|b| *b == b'\n') {
+        obey(
+            &mut pen,
+            line,
+            &mut seg,
+            &mut regular,
+            &mut alternate,
+            &mut lengths,
+        );
     }
+    pen.flush();
 }
 
 // A remark is written out again.
 fn obey(
+    pen: &mut Pen,
     line: &[u8],
     seg: &mut [u32],
     regular: &mut [u8],
     alternate: &mut [u8],
     lengths: &mut [u32],
-    numbers: &mut [u32],
 ) {
-    if line.len() == 0 {
+    let Some(&letter) = line.first() else {
         return;
-    }
-    let letter = line[0];
+    };
     if letter == b'#' {
-        say(line);
-        say(b"\n");
+        pen.text(line);
+        pen.text(b"\n");
         return;
     }
-    let count = numbers_of(line, numbers);
+    let mut room = [0u32; 1024];
+    let count = numbers_of(line, &mut room);
+    let numbers = &room[..count];
     let first = word(numbers, 0) as usize;
+    let words = part(numbers, 1, count);
     match letter {
         b'n' => lend(line, lengths),
-        b's' => put_all(seg, first, part(numbers, 1, count)),
-        b'r' => put_code(regular, first, part(numbers, 1, count)),
-        b'a' => put_code(alternate, first, part(numbers, 1, count)),
-        _ => make(
-            letter,
-            line,
-            seg,
-            regular,
-            alternate,
-            lengths,
-            part(numbers, 0, count),
-        ),
+        b's' => put_all(seg, first, words),
+        b'r' => put_words(regular, first, words),
+        b'a' => put_words(alternate, first, words),
+        _ => {
+            let lent = Procedures {
+                regular: first_bytes(regular, word(lengths, 1) as usize),
+                alternate: first_bytes(alternate, word(lengths, 2) as usize),
+            };
+            let words = seg.len().min(word(lengths, 0) as usize);
+            make(pen, letter, line, &mut seg[..words], lent, numbers);
+        }
     }
 }
 
@@ -95,26 +83,16 @@ fn lend(line: &[u8], lengths: &mut [u32]) {
 
 // A call on as much of each segment as is lent.
 fn make(
+    pen: &mut Pen,
     letter: u8,
     line: &[u8],
     seg: &mut [u32],
-    regular: &[u8],
-    alternate: &[u8],
-    lengths: &[u32],
+    lent: Procedures<'_>,
     numbers: &[u32],
 ) {
-    let words = least(word(lengths, 0) as usize, seg.len());
-    let regular_bytes = word(lengths, 1) as usize;
-    let alternate_bytes = word(lengths, 2) as usize;
-    say(line);
-    say(b" ->");
-    call(
-        letter,
-        &mut seg[0..words],
-        first_bytes(regular, regular_bytes),
-        first_bytes(alternate, alternate_bytes),
-        numbers,
-    );
-    say_hash(&seg[0..words]);
-    say(b"\n");
+    pen.text(line);
+    pen.text(b" ->");
+    call(pen, letter, seg, lent, numbers);
+    say_hash(pen, seg);
+    pen.text(b"\n");
 }
