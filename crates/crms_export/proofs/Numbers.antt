@@ -49,9 +49,3 @@ shape-short s a = omega (arith, within-short s (a + 2) (rank_at s a))
 pub elements-short : (s : List ℕ) (a : ℕ) → length (elements_part s a) < 2 ^ 16
 unfolding elements_part
 elements-short s a = omega (arith, within-short s (a + 2 + rank_at s a) (size_at s a - (rank_at s a + 2)))
-
--- the five counts of a sheet, written over five words
-pub sums-told : (sums : Sheet) (answer : Result Sheet ℕ) (old after : List ℕ) → Ok sums ≡ answer
-    → after ≡ sets old 0 (sums.arrays ∷ sums.slop ∷ sums.free ∷ sums.end ∷ sums.total ∷ []) → length old ≡ 5
-    → (0 ≡ status_of answer) × (after ≡ sheet_counts answer old)
-sums-told sums answer old after told written five = rw (← told) (refl, written ∙ all_set _ old five)

@@ -14,7 +14,7 @@ use Rattle.imports.specs.declared.parse.Record.TheVariants.{Load, Run}
 use Rattle.imports.specs.Numbers as several
 use Rattle.imports.specs.Numbers.{numbers, number_at, several_at}
 use Rattle.imports.specs.Records.{load, found, bad, element_limit, imported_elements, imported_load, imported_run, record_at}
-use Rattle.imports.specs.Parsing.{read_numbers, parsed, Few, Advances, Usable}
+use Rattle.imports.specs.Parsing.{read_numbers, parsed, Advances}
 use Rattle.imports.proofs.Ends.{record-passes}
 
 -- ---- numbers that fill the first part of a slice

@@ -44,11 +44,6 @@ after_more before n bad = refl
 pub record Reading (limit count : ℕ) (file : List ℕ) (place : ℕ) (out : List ℕ) (at i : ℕ) : Type 0 where
   pub so_far : several_at limit count file place ≡ after (take i out) (several_at limit (count - i) file at)
 
-pub reading-start : {limit count : ℕ} {file : List ℕ} {place : ℕ} {out : List ℕ} → Reading limit count file place out place 0
-reading-start {limit} {count} {file} {place} =
-    let all : count - 0 ≡ count = omega arith in
-    record { so_far = rw all (sym (after_none (several_at limit count file place))) }
-
 module _ {limit count : ℕ} {file : List ℕ} {place : ℕ} {out : List ℕ} {at i : ℕ} (reading : Reading limit count file place out at i) where
   pub reading-all : i ≡ count → numbers (take count out) at ≡ several_at limit count file place
   unfolding several_at

@@ -34,10 +34,10 @@ pub fn call(
         answers.call_in regular.now alternate.now sees next.0 arguments selector (function % 2 ^ 11)) }
 {
     let number = function % 0x800;
-    match find_in(selector, regular, alternate, number) {
-        Some(block) => call_into(seg, block.header, arguments, selector, number, next),
-        None => Err(Trap::PROCEDURE_ADDRESS),
-    }
+    let Some(block) = find_in(selector, regular, alternate, number) else {
+        return Err(Trap::PROCEDURE_ADDRESS);
+    };
+    call_into(seg, block.header, arguments, selector, number, next)
 }
 
 fn call_into(

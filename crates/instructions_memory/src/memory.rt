@@ -143,10 +143,8 @@ fn element_in(
     if r != lengths.len() {
         return Err(Trap::SUBSCRIPT_COUNT);
     }
-    match place(iorg(seg), &taken[..r], lengths) {
-        Err(trap) => Err(trap),
-        Ok(k) => store_at(seg, t, block, k, taken[r], rank + 1, next, scratch),
-    }
+    let k = place(iorg(seg), &taken[..r], lengths)?;
+    store_at(seg, t, block, k, taken[r], rank + 1, next, scratch)
 }
 
 // The element at that place is `w` from now on, and n operands go.

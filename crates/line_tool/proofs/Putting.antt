@@ -1,16 +1,15 @@
 -- Loops that put a text into a buffer, and texts put one after the other.
-use Prim.Native.Nat.{ℕ, suc, ◌+◌, ◌-◌, ◌*◌, ◌/◌, ◌%◌, ◌≤◌, ◌<◌, min, max}
-use native.Mathlib.Nat.{le_of_suc-le-suc, not-suc-le-zero, le_of_lt, mod-eq_of_lt, eq-zero-or-pos}
+use Prim.Native.Nat.{ℕ, suc, ◌+◌, ◌-◌, ◌*◌, ◌/◌, ◌≤◌, ◌<◌, min, max}
+use native.Mathlib.Nat.{le_of_suc-le-suc, not-suc-le-zero, le_of_lt, eq-zero-or-pos}
 use native.Mathlib.Numerals.{add-one}
 use native.Mathlib.Omega.{arith}
 use mathlib.Core.Logic.{⊎_elim}
 use mathlib.Core.Path.{◌≡◌, refl, sym, ap, ◌∙◌}
 use mathlib.Core.List.{List, [], ◌∷◌, ◌++◌, append-nil}
-use borrow.Author.Tests.{lt-ltb, le-ltb}
 use lib.ListN.{length, get_or, set, take, drop, length-set, length-append, length-drop, drop_of_length-le}
-use lib.Seq.{sets, length-sets, set_split, drop-cons, drop-length, drop_at, append_snoc, length-take-le, take_all}
+use lib.Seq.{sets, length-sets, set_split, drop-cons, drop-length, drop_at, length-take-le, take_all}
 use Rattle.segment.proofs.Copies.{sets-out, sets-append}
-use Rattle.line_tool.specs.Bytes.{pair, pairs}
+use Rattle.line_tool.specs.Bytes.{pairs}
 use Rattle.line_tool.specs.Writing.{Wrote, wrote, writes, digits, decimal}
 
 -- the rest of a text is still to be put, from another place on
@@ -38,11 +37,6 @@ pub rest-none : (s : List ℕ) {i : ℕ} → i ≡ length s → drop i s ≡ []
 rest-none s e = rw e (drop-length s)
 
 -- ---- two digits at a time
-
-pub pairs-on : (s : List ℕ) (i : ℕ) {v : ℕ} → i < length s / 2 → v ≡ pair (get_or s (2 * i) 0) (get_or s (2 * i + 1) 0) → pairs (drop (2 * i) s) ≡ v ∷ pairs (drop (2 * (i + 1)) s)
-pairs-on s i {v} h e =
-    let two : 2 * i + 1 + 1 ≡ 2 * (i + 1) = omega arith in
-    rw (rest-on s (2 * i) (omega arith), rest-on s (2 * i + 1) (omega arith), two, e)
 
 pairs-short : (l : List ℕ) → length l ≤ 1 → pairs l ≡ []
 pairs-short [] h = refl
@@ -75,24 +69,8 @@ stored ds at d h =
     ap (λ (l : List ℕ). drop at l) (set_split ds at d h)
     ∙ drop_at (take at ds) (d ∷ drop (suc at) ds) at (length-take-le at ds (le_of_lt h))
 
-module _ {n : ℕ} {ds : List ℕ} {rest at : ℕ} (at' : ℕ) (left : DigitsLeft n ds rest at) (e : at ≡ suc at') (h : at' < length ds) where
-  pub digits-on : 10 ≤ rest → DigitsLeft n (set ds at' (48 + rest % 10)) (rest / 10) at'
-  digits-on l =
-      record {
-        so_far =
-            ap (λ (r : List ℕ). digits at' (rest / 10) ++ r) (stored ds at' (48 + rest % 10) h)
-            ∙ sym (append_snoc (digits at' (rest / 10)) (48 + rest % 10) (drop (suc at') ds))
-            ∙ rw (e, le-ltb rest 10 l) at left.so_far;
-      }
-
-  pub digits-all : rest < 10 → drop at' (set ds at' (48 + rest % 10)) ≡ decimal n
-  digits-all l = stored ds at' (48 + rest % 10) h ∙ rw (mod-eq_of_lt l) (rw (e, lt-ltb rest 10 l) at left.so_far)
-
 pub digits-cut : (n r : ℕ) (ds : List ℕ) → length ds ≡ 10 → drop r ds ≡ decimal n → take (10 - r) (drop r ds) ≡ decimal n
 digits-cut n r ds h e = take_all (10 - r) (drop r ds) (rw (length-drop r ds) (omega arith)) ∙ e
-
-pub digits-none : {n : ℕ} {ds : List ℕ} {rest at : ℕ} → DigitsLeft n ds rest at → at ≡ 0 → drop at ds ≡ decimal n
-digits-none left e = rw e (rw e at left.so_far)
 
 -- ---- one text after another
 

@@ -77,8 +77,8 @@ module _ (s : List ℕ) where
   pub trap-set : (class number : ℕ) → class < 256 → number < 256 → step_result (Err (trap_of class number)) (set_trap s class number) ≡ trapped s class number
   trap-set class number c n = rw (eight-bits class c, eight-bits number n)
 
-  pub trace-set : (number : ℕ) → 0 < number → step_result (Ok (Traced (trap_of 2 number))) (set_trap s 2 number) ≡ finished number s
-  trace-set number some = rw (ne_eqb number 0 (omega arith))
+  pub trace-set : (class number : ℕ) → class ≡ 2 → 0 < number → step_result (Ok (Traced (trap_of class number))) (set_trap s class number) ≡ finished number s
+  trace-set class number two some = rw (two, ne_eqb number 0 (omega arith))
 
   pub step_set : eqb (step_flag (flags s)) 1 ≡ true → finished 1 s ≡ finished (step_flag (flags s)) s
   step_set set = ap (λ (n : ℕ). finished n s) (sym (eqb-true (step_flag (flags s)) 1 set))

@@ -18,6 +18,7 @@ use effects::{Ran, Stepped};
 use procedure::directory::find;
 use segment::state::{lbase, sbase, set_trap};
 use segment::{stack, word};
+use trap::Trap;
 
 // At most `budget` instructions, under a table of operators. What finishes is counted where counts are lent.
 pub fn run(
@@ -98,7 +99,8 @@ fn run_current(
 fn trap_absent(seg: &mut [u32], steps: u32) -> Ran
     ensures { (result ≡ R.Trapped steps) × (seg.new ≡ state.set_trap seg.old 3 1) }
 {
-    set_trap(seg, 3, 1);
+    let absent = Trap::PROCEDURE_ADDRESS;
+    set_trap(seg, absent.class, absent.number);
     Ran::Trapped(steps)
 }
 

@@ -7,7 +7,7 @@ use mathlib.Core.Path.{◌≡◌, refl, sym, ap, ◌∙◌}
 use mathlib.Core.Bool.{Bool, true, false, ◌||◌}
 use mathlib.Core.List.{List, [], ◌∷◌}
 use lib.ListN.{length, get_or, drop}
-use lib.Seq.{drop-cons, drop-length}
+use lib.Seq.{drop-cons}
 use lib.Dec.{eqb}
 use borrow.Author.Tests.{eqb-false, ne_eqb}
 use Rattle.descriptor.proofs.Truth.{neither, same_test}
@@ -38,9 +38,6 @@ pub record Divided (lengths : List ℕ) (n rest i : ℕ) : Type 0 where
   pub so_far : eqb (product lengths) n ≡ eqb (product (drop i lengths)) rest
   pub nonzero : list_any is_zero (drop i lengths) ≡ false
 
-pub undivided : {lengths : List ℕ} {n : ℕ} → list_any is_zero lengths ≡ false → Divided lengths n n 0
-undivided h = record { so_far = refl; nonzero = h }
-
 module _ {lengths : List ℕ} {n rest i : ℕ} (d : Divided lengths n rest i) where
   module _ (inside : i < length lengths) where
     here : (is_zero (get_or lengths i 0) ≡ false) × (list_any is_zero (drop (i + 1) lengths) ≡ false)
@@ -69,6 +66,3 @@ module _ {lengths : List ℕ} {n rest i : ℕ} (d : Divided lengths n rest i) wh
     pub divided-not : (rest % get_or lengths i 0 ≡ 0 → ⊥) → false ≡ eqb (product lengths) n
     divided-not inexact =
         sym (longer ∙ ne_eqb _ _ (λ e. inexact (ap (λ (k : ℕ). k % get_or lengths i 0) (sym e) ∙ mul-mod_right (get_or lengths i 0) (product (drop (i + 1) lengths)))))
-
-  pub divided-all : i ≡ length lengths → eqb rest 1 ≡ eqb (product lengths) n
-  divided-all end = sym (d.so_far ∙ rw (end, drop-length lengths) (same_test 1 rest rest 1 (λ e. sym e) (λ e. sym e)))

@@ -1,5 +1,6 @@
--- Laws of the operations: no test has the number 0; what a run's tests come to; a replay's counts are eight, its place lies in
+-- Laws of the operations: no test has the number 0, and no two refusals have one; what a run's tests come to; a replay's counts are eight, its place lies in
 -- the file.
 pub mod Answers
+pub mod Refusals
 pub mod Tests
 pub mod Replays

@@ -1,13 +1,11 @@
 -- What was read of a line can be written, and what was written is read back.
-use Prim.Native.Nat.{ℕ, ◌≤◌, min}
+use Prim.Native.Nat.{ℕ, ◌≤◌}
 use native.Mathlib.Omega.{arith}
 use mathlib.Core.Path.{◌≡◌, sym, ap, ◌∙◌}
 use mathlib.Core.List.{List}
 use lib.ListN.{length, take}
 use lib.Seq.{length-take-le}
 use Rattle.descriptor.specs.Fields.{integer_limit}
-use Rattle.segment.specs.Blocks.{product}
-use Rattle.imports.specs.Records as file
 use Rattle.imports.specs.Records.{element_limit, number_limit}
 use Rattle.imports.specs.Encoding.{encode_record, AtMost}
 use Rattle.imports.proofs.Theorem.{imports-theorems}
@@ -33,27 +31,6 @@ short global rank count lengths ravel g fifteen most ls rs = record {
 
 pub room-kept : {lengths ravel out later : List ℕ} → Room lengths ravel out → length later ≡ length lengths → Room later ravel out
 room-kept room e = record { ranks = e ∙ room.ranks; elements = room.elements; bytes = room.bytes }
-
-pub load-encoded : (global wanted : ℕ) (lengths ravel : List ℕ) {n : ℕ} {out : List ℕ} → Short global lengths ravel
-    → wanted ≡ min (product lengths) 65536 → length ravel ≡ wanted → take n out ≡ encode_record (file.load global lengths ravel) → n ≤ length out
-    → Encoded n out
-load-encoded global wanted lengths ravel s w counted bytes h = record {
-  written = file.load global lengths ravel;
-  writable = record {
-    address = s.address;
-    rank = s.rank;
-    lengths_fit = s.lengths_fit;
-    counted = omega (arith, w, counted, s.few);
-    few = s.few;
-    integers = s.integers;
-  };
-  bytes = bytes;
-  within = h;
-}
-
-pub run-encoded : (budget : ℕ) {n : ℕ} {out : List ℕ} → budget ≤ number_limit → take n out ≡ encode_record (file.run budget) → n ≤ length out
-    → Encoded n out
-run-encoded budget b bytes h = record { written = file.run budget; writable = b; bytes = bytes; within = h }
 
 pub encoded : (n : ℕ) (out : List ℕ) {r : Result ℕ Refused} → r ≡ Ok n → Writes r out → Encoded n out
 encoded n out e w = rw e at w

@@ -1,7 +1,6 @@
 // The lines of standard input, each written as a record as soon as it has ended.
 use crate::output::{give, tell};
 use crate::records::write_line;
-use crate::wrong::Refused;
 use line_tool::lines::Line;
 use std::alloc::{AllocError, Global};
 use std::io::{Input, Read};

@@ -5,10 +5,10 @@ use Rattle.effects.specs.Carried.{carry}
 use Rattle.instructions_control.proofs.Calling.{call-found, call-absent}
 use Rattle.instructions_control.proofs.calls.call.Goals as goal
 
-pub returns-in-Some : goal.returns-in-Some
-returns-in-Some c = let a = c.args in
+pub returns : goal.returns
+returns c = let a = c.args in
     c.call_into.ensures ∙ ap (carry a.seg.now) (call-found a.regular.now a.alternate.now (seen a.seg.now) a.next.0 a.arguments a.selector (a.function % 2 ^ 11) _ (sym c.find_in.ensures ∙ c.in-Some.is))
 
-pub returns-in-None : goal.returns-in-None
-returns-in-None c = let a = c.args in
-    ap (carry a.seg.now) (call-absent a.regular.now a.alternate.now (seen a.seg.now) a.next.0 a.arguments a.selector (a.function % 2 ^ 11) (sym c.find_in.ensures ∙ c.in-None.is))
+pub returns-in_default : goal.returns-in_default
+returns-in_default c = let a = c.args in
+    ap (carry a.seg.now) (call-absent a.regular.now a.alternate.now (seen a.seg.now) a.next.0 a.arguments a.selector (a.function % 2 ^ 11) (sym c.find_in.ensures ∙ c.in_default.is))

@@ -2,6 +2,7 @@ use mathlib.Core.Path.{sym, ap, ◌∙◌}
 use native.Mathlib.Omega.{arith}
 use lib.ListN.{length}
 use lib.Seq.{length-take-le}
+use Rattle.std.proofs.lemmas.Result.{err_from_is_err_and}
 use Rattle.instructions_memory.proofs.Storing.{block-whole, block_held, few-elements, other-rank, outside, element-found}
 use borrow.Author.Rules.{rules}
 use Rattle.instructions_memory.proofs.memory.element_in.Goals as goal
@@ -21,8 +22,9 @@ place-requires c = (length-take-le _ _ (omega arith) ∙ c.if-r-lengths.false, r
 pub store_at-requires : goal.store_at-requires
 store_at-requires c = record { held = block_held _ _ _ _ _ c.requires.indexed; n_nonzero = search rules }
 
-pub returns-in-Err : goal.returns-in-Err
-returns-in-Err c = outside _ _ _ _ _ c.requires.indexed _ (c.if-r-lengths.false ∙ ap length c.lengths_of-lengths.ensures) _ _ c.in-Err.is (c.place.ensures ∙ rw (c.iorg.ensures, c.lengths_of-lengths.ensures))
+pub returns-in_err-k : goal.returns-in_err-k
+returns-in_err-k c = let p = err_from_is_err_and c.from_residual.result c.from_residual.ensures.1 in
+    rw (p.1, p.2) (outside _ _ _ _ _ c.requires.indexed _ (c.if-r-lengths.false ∙ ap length c.lengths_of-lengths.ensures) _ _ c.in_err-k.was (c.place.ensures ∙ rw (c.iorg.ensures, c.lengths_of-lengths.ensures)))
 
-pub returns-in-Ok : goal.returns-in-Ok
-returns-in-Ok c = c.store_at.ensures ∙ element-found _ _ _ _ _ c.requires.indexed _ (c.if-r-lengths.false ∙ ap length c.lengths_of-lengths.ensures) _ _ c.in-Ok.is (c.place.ensures ∙ rw (c.iorg.ensures, c.lengths_of-lengths.ensures))
+pub returns : goal.returns
+returns c = c.store_at.ensures ∙ element-found _ _ _ _ _ c.requires.indexed _ (c.if-r-lengths.false ∙ ap length c.lengths_of-lengths.ensures) _ _ c.in_ok-k.was (c.place.ensures ∙ rw (c.iorg.ensures, c.lengths_of-lengths.ensures))

@@ -4,4 +4,4 @@ use Rattle.machine.proofs.Stepping.{trace-set}
 use Rattle.machine.proofs.step.trace_trap.Goals as goal
 
 pub returns : goal.returns
-returns c = let a = c.args in (cc) ∙ trace-set a.seg.now a.number (omega arith)
+returns c = let a = c.args in (cc) ∙ trace-set a.seg.now a.trace.class a.trace.number c.requires.0 (omega arith)
