@@ -6,3 +6,5 @@ pub mod Listing
 pub mod Sameness
 pub mod Entries
 pub mod Hashing
+pub mod Hands
+pub mod Said

@@ -10,3 +10,5 @@ pub mod Writing
 pub mod Faults
 pub mod Tables
 pub mod Explain
+pub mod Lines
+pub mod Pens

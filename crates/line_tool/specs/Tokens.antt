@@ -37,6 +37,10 @@ token_at line from =
 unfoldable pub text_of : List ℕ → Token → List ℕ
 text_of line t = take (t.end - t.start) (drop t.start line)
 
+-- What there is of a line that ends too soon: a token, or all up to an empty one.
+unfoldable pub shown_of : List ℕ → Token → Token
+shown_of line t = cond (eqb t.start t.end) (record { start = (token_at line 0).start; end = t.start }) t
+
 -- Blank lines and lines that begin with # are passed over.
 unfoldable pub is_passed_over : List ℕ → Bool
 is_passed_over line =
@@ -78,6 +82,10 @@ second = refl
 none_left : token_at (bytes "run ") 3 ≡ record { start = 4; end = 4 }
 unfolding token_at after_all
 none_left = refl
+
+ends_soon : shown_of (bytes " seg 96 ") (record { start = 8; end = 8 }) ≡ record { start = 1; end = 8 }
+unfolding shown_of token_at after_all
+ends_soon = refl
 
 comment : is_passed_over (bytes " # of par lists") ≡ true
 unfolding is_passed_over after_all

@@ -39,7 +39,9 @@ pub fn text(line: &[u8], token: Token) -> &[u8]
 }
 
 // What there is of the line where it ends too soon: the token, or all up to an empty one.
-pub fn shown(line: &[u8], token: Token) -> Token {
+pub fn shown(line: &[u8], token: Token) -> Token
+    ensures { result ≡ meaning.shown_of line.now token }
+{
     if token.is_empty() {
         return Token {
             start: token_at(line, 0).start,
