@@ -12,7 +12,7 @@ use descriptor::Descriptor;
 use descriptor::address::{SegmentAddress, StackAddress};
 use segment::state::{lbase, set_lbase, set_ltop, top_cell};
 use segment::{low, put, word};
-use storage::{drop_cells, share};
+use storage::{drop_from, share};
 
 // A new frame on top of the arguments: undefined locals, last LBASE, the function's word.
 pub fn enter(seg: &mut [u32], nlocals: u32, function: u32)
@@ -56,7 +56,7 @@ fn leave_with(seg: &mut [u32], n: u32)
     let start = below(seg, n);
     let w = result_word(seg);
     share(seg, w);
-    drop_cells(seg, start, n);
+    drop_from(seg, start, n);
     set_frame(seg, frame.saturating_sub(n), last);
     put(seg, start.index(), w);
 }
@@ -67,7 +67,7 @@ fn leave_without(seg: &mut [u32], n: u32)
     let frame = frame(seg) as u32;
     let last = last_lbase(seg) as u32;
     let lowest = below(seg, n);
-    drop_cells(seg, lowest, n);
+    drop_from(seg, lowest, n);
     set_frame(seg, frame.saturating_sub(n).saturating_sub(1), last);
 }
 

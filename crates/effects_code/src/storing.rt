@@ -10,7 +10,7 @@ use descriptor::{Descriptor, Target};
 use operands::reading::{elements_of, lengths_of};
 use operands::variables::{held, place_of};
 use segment::blocks::{count, rank};
-use segment::{low, put, word};
+use segment::{copy, low, put, word};
 use storage::{drop_word, place, share};
 use trap::Trap;
 
@@ -93,7 +93,7 @@ pub fn keep(from: &[u32], to: &mut [u32]) -> usize
     ensures to_after { take (length from.now) to.new ≡ from.now }
 {
     let n = from.len();
-    to[..n].copy_from_slice(from);
+    copy(from, &mut to[..n]);
     n
 }
 

@@ -12,7 +12,7 @@ use segment::blocks::Part;
 use segment::stack::set_pctr;
 use segment::state::{set_ltop, top_cell};
 use segment::{high, low, put, word};
-use storage::{drop_cells, place, share};
+use storage::{drop_from, place, share};
 use storage_joins::place_joined;
 use trap::Trap;
 
@@ -83,7 +83,7 @@ pub fn discard(seg: &mut [u32], n: u32)
 {
     let b = bottom(seg, n);
     let left = (top(seg) as u32).saturating_sub(n);
-    drop_cells(seg, b, n);
+    drop_from(seg, b, n);
     set_ltop(seg, StackAddress::of(left));
 }
 
@@ -111,7 +111,7 @@ fn take(seg: &mut [u32], b: SegmentAddress, n: u32, w: u32)
     requires { b.0 < 2 ^ 17 - 1 }
     ensures { seg.new ≡ effect.finish (arrays.drop_words n seg.old b.0) b.0 w }
 {
-    drop_cells(seg, b, n);
+    drop_from(seg, b, n);
     finish(seg, b, w);
 }
 

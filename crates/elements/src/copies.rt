@@ -2,6 +2,8 @@
 ghost use Rattle.std.specs.Prelude.{◌≡◌, ◌+◌, ◌≤◌, ◌^◌, length};
 ghost use Rattle.manual.specs.Values as values;
 
+use segment::copy;
+
 // The numbers from k on.
 pub fn up_from(k: u32, to: &mut [u32])
     requires { k + length to.old ≤ 2 ^ 32 }
@@ -32,7 +34,7 @@ fn rounds(from: &[u32], to: &mut [u32])
     let mut i = 0;
     while i < n {
         let count = from.len().min(n - i);
-        to[i..i + count].copy_from_slice(&from[..count]);
+        copy(&from[..count], &mut to[i..i + count]);
         i += count;
     }
 }

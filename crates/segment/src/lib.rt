@@ -33,7 +33,17 @@ pub fn put_all(seg: &mut [u32], i: usize, words: &[u32])
         return;
     }
     let n = words.len().min(seg.len() - i);
-    seg[i..i + n].copy_from_slice(&words[..n]);
+    copy(&words[..n], &mut seg[i..i + n]);
+}
+
+// A loop, since the library's own copies ask a C program for memmove.
+pub fn copy(from: &[u32], to: &mut [u32])
+    requires { length from.now ≡ length to.old }
+    ensures { to.new ≡ from.now }
+{
+    for (i, word) in to.iter_mut().enumerate() {
+        *word = from[i];
+    }
 }
 
 // The n words from `from` up are copied to those from `to` up.
@@ -41,7 +51,21 @@ pub fn copy_part(seg: &mut [u32], from: usize, to: usize, n: usize)
     requires { (from + n ≤ length seg.old) × (to + n ≤ length seg.old) }
     ensures { seg.new ≡ sets seg.old to (part seg.old from n) }
 {
-    seg.copy_within(from..from + n, to);
+    if from + n <= to {
+        let (low, high) = seg.split_at_mut(to);
+        copy(&low[from..from + n], &mut high[..n]);
+    } else if to + n <= from {
+        let (low, high) = seg.split_at_mut(from);
+        copy(&high[..n], &mut low[to..to + n]);
+    } else if to < from {
+        for i in 0..n {
+            seg[to + i] = seg[from + i];
+        }
+    } else {
+        for i in (0..n).rev() {
+            seg[to + i] = seg[from + i];
+        }
+    }
 }
 
 // The halves of a word, and the word of two halves.

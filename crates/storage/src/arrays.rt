@@ -1,13 +1,14 @@
 // Arrays placed, shared and dropped. A count says how many cells point to the array.
 ghost use Rattle.std.specs.Prelude.{◌≡◌, ◌+◌, ◌^◌, ◌<◌, length};
 ghost use Rattle.std.proofs.lemmas.List.Edits.{sets};
+ghost use Rattle.segment.specs.State.{sbase};
 ghost use Rattle.storage.specs.Arrays as arrays;
 ghost use Rattle.storage.specs.Found.{found};
 
 use super::release::release;
 use super::request::request;
 use descriptor::Descriptor;
-use descriptor::address::SegmentAddress;
+use descriptor::address::{SegmentAddress, StackAddress};
 use segment::{halves, low, put, put_all, word};
 
 // A new array with this shape and these elements, pointed to by one cell; none where no free block is long enough.
@@ -67,12 +68,27 @@ pub fn drop_word(seg: &mut [u32], w: u32)
     }
 }
 
-// The n cells from `start` up are dropped, the highest first.
-pub fn drop_cells(seg: &mut [u32], start: SegmentAddress, n: u32)
+// The n cells of the stack from `from` up are dropped, the highest first.
+pub fn drop_cells(seg: &mut [u32], from: StackAddress, n: u32)
+    ensures { seg.new ≡ arrays.drop_words n seg.old (sbase seg.old + from.0) }
+{
+    let start = from.index(segment::state::sbase(seg));
+    drop_words(seg, start, n);
+}
+
+// The same from a word of the segment.
+pub fn drop_from(seg: &mut [u32], start: SegmentAddress, n: u32)
     ensures { seg.new ≡ arrays.drop_words n seg.old start.0 }
 {
+    drop_words(seg, start.index(), n);
+}
+
+fn drop_words(seg: &mut [u32], start: usize, n: u32)
+    requires { start < 2 ^ 33 }
+    ensures { seg.new ≡ arrays.drop_words n seg.old start }
+{
     for i in (0..n).rev() {
-        let w = word(seg, start.index() + i as usize);
+        let w = word(seg, start + i as usize);
         drop_word(seg, w);
     }
 }

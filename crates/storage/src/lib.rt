@@ -6,4 +6,4 @@ pub mod release;
 pub mod request;
 mod ring;
 
-pub use arrays::{drop_cells, drop_word, head, place, share};
+pub use arrays::{drop_cells, drop_from, drop_word, head, place, share};

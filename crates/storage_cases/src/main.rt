@@ -85,8 +85,7 @@ fn act(seg: &mut [u32], letter: u8, a: u32, b: u32, value: u32) -> u32
             w % 0x1_0000
         }
         _ => {
-            let start = SegmentAddress::of(segment::state::sbase(seg).number() + a);
-            storage::drop_cells(seg, start, b);
+            storage::drop_cells(seg, StackAddress::of(a), b);
             clear_cells(seg, a, b);
             0
         }

@@ -6,4 +6,4 @@ pub returns-then-seg-i : goal.returns-then-seg-i
 returns-then-seg-i c = sym (sets-out c.args.words.now _ _ c.if-seg-i.true)
 
 pub returns : goal.returns
-returns c = filled-first _ _ _ _ _ c.copy_from_slice.ensures.after c.min-n.ensures c.if-seg-i.false
+returns c = filled-first _ _ _ _ _ c.copy.ensures c.min-n.ensures c.if-seg-i.false
