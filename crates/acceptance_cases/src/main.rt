@@ -30,7 +30,6 @@ fn main() {
     for line in text[..n].chunks_exact(64) {
         segments.obey(&mut pen, line);
     }
-    pen.flush();
 }
 
 impl Segments {
@@ -61,6 +60,7 @@ impl Segments {
         pen.decimal(table_number(acceptance::judge(seg, regular, alternate)));
         pen.text(b" ");
         pen.text(name);
+        pen.flush();
     }
 }
 

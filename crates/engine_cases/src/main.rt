@@ -36,7 +36,6 @@ fn main() {
             &mut lengths,
         );
     }
-    pen.flush();
 }
 
 // A remark is written out again.
@@ -53,7 +52,7 @@ fn obey(
     };
     if letter == b'#' {
         pen.text(line);
-        pen.text(b"\n");
+        pen.end_line();
         return;
     }
     let mut room = [0u32; 1024];
@@ -81,7 +80,7 @@ fn lend(line: &[u8], lengths: &mut [u32]) {
     numbers_of(line, lengths);
 }
 
-// A call on as much of each segment as is lent.
+// A call on as much of each segment as is lent. What is asked is written before it is done, so that a call with no end is seen.
 fn make(
     pen: &mut Pen,
     letter: u8,
@@ -92,7 +91,8 @@ fn make(
 ) {
     pen.text(line);
     pen.text(b" ->");
+    pen.flush();
     call(pen, letter, seg, lent, numbers);
     say_hash(pen, seg);
-    pen.text(b"\n");
+    pen.end_line();
 }

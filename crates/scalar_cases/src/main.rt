@@ -18,7 +18,6 @@ fn main() {
     for line in cases[..n].chunks_exact(21) {
         run(&mut pen, line);
     }
-    pen.flush();
 }
 
 fn run(pen: &mut Pen, line: &[u8])
@@ -60,5 +59,5 @@ fn write(pen: &mut Pen, answer: Result<u32, Trap>) {
             pen.decimal(trap.number as u32);
         }
     }
-    pen.text(b"\n");
+    pen.end_line();
 }

@@ -26,7 +26,6 @@ fn main() {
     lay_out(&mut seg);
     let mut pen = Pen::new(STDOUT);
     run(&mut pen, &mut seg, &script[..n]);
-    pen.flush();
 }
 
 // BLOCKPTR 8, SBASE 80: one free block of 69 words and the dummy at 77. LTOP 15; the cells are undefined.
@@ -53,7 +52,7 @@ fn step(pen: &mut Pen, seg: &mut [u32], line: &[u8], value: u32)
     write_number(pen, b" at ", at);
     write_number(pen, b" rover ", segment::state::rover(seg).number());
     write_walk(pen, seg);
-    pen.text(b"\n");
+    pen.end_line();
 }
 
 fn number(tens: u8, ones: u8) -> u32
