@@ -48,6 +48,11 @@ impl<'a> Arguments<'a> {
         }
     }
 
+    // No more numbers can be there: each but the last takes two bytes at least.
+    pub fn most(self) -> usize {
+        self.line.len().saturating_sub(self.at) / 2 + 1
+    }
+
     // So many decimal numbers and nothing else.
     pub fn only<const N: usize>(self) -> Result<[u32; N], Misread> {
         let mut numbers = [0u32; N];

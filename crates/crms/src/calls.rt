@@ -41,18 +41,17 @@ impl Session {
         Ok(ended(answer, word(&self.words, 3)))
     }
 
-    // As many lengths as the rank, then the elements. A line of n bytes has n / 2 + 1 numbers at most.
+    // As many lengths as the rank, then the elements. There is room for as many as the line can have.
     pub fn load(&mut self, arguments: Arguments<'_>) -> Result<Last, Refusal> {
-        let most = arguments.line.len() / 2 + 1;
         let mut first = [0; 2];
-        let mut lengths = zero_words(self.alloc, most)?;
-        let mut elements = zero_words(self.alloc, most)?;
         let rest = arguments.decimals(2, &mut first)?;
         let [global, rank] = first;
         let rank = rank as usize;
+        let mut lengths = zero_words(self.alloc, rank.min(rest.most()))?;
         let rest = rest.lengths(rank, &mut lengths)?;
+        let most = rest.most();
+        let mut elements = zero_words(self.alloc, most)?;
         let listed = rest.words(most, &mut elements)?;
-        lengths.truncate(rank);
         elements.truncate(listed.count);
         let answer = engine::load::load(
             &mut self.words,

@@ -30,12 +30,13 @@ pub fn obey_all<R: Read>(
 
 // Text of the file: each line that ends in it is obeyed, and what is left is held.
 fn take(session: &mut Session, line: &mut Line, text: &[u8]) -> Result<(), AllocError> {
-    for &byte in text {
-        if byte == b'\n' {
-            end_line(session, line)?;
-        } else {
-            line.push(byte)?;
-        }
+    let mut parts = text.split(|&byte| byte == b'\n');
+    if let Some(first) = parts.next() {
+        line.extend(first)?;
+    }
+    for part in parts {
+        end_line(session, line)?;
+        line.extend(part)?;
     }
     Ok(())
 }

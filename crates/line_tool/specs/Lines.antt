@@ -1,4 +1,4 @@
--- A line of a file as it is put together byte by byte: of one that is too long the beginning is kept, and that more followed.
+-- A line of a file as it is put together: of one that is too long the beginning is kept, and that more followed.
 -- A reader must believe: a line is too long from 262,145 bytes on. Assumes nothing.
 use Rattle.std.specs.Prelude.{ℕ, ◌≡◌, refl, Bool, true, false, cond, List, [], ◌∷◌, ◌++◌, eqb, leb, length, Option, Some, None, Result, Ok, Err}
 use Rattle.line_tool.specs.Text.{bytes}
@@ -22,6 +22,11 @@ line_of line = kept line.bytes.items line.long
 unfoldable pub with_byte : Kept → ℕ → Kept
 with_byte line byte = cond (leb 262144 (length line.part)) (kept line.part true) (kept (line.part ++ byte ∷ []) line.more)
 
+-- Further bytes, one after the other.
+unfoldable pub with_part : Kept → List ℕ → Kept
+with_part line [] = line
+with_part line (byte ∷ part) = with_part (with_byte line byte) part
+
 -- What a line says: its bytes, or nothing where it is passed over. One that is too long is a fault, which its first token shows,
 -- but for a comment.
 unfoldable pub said : Kept → Result (Option (List ℕ)) Misread
@@ -34,6 +39,10 @@ said line =
 further : with_byte (kept (bytes "ru") false) 110 ≡ kept (bytes "run") false
 unfolding with_byte
 further = refl
+
+further_part : with_part (kept (bytes "r") false) (bytes "un 0") ≡ kept (bytes "run 0") false
+unfolding with_part with_byte
+further_part = refl
 
 words : said (kept (bytes "run 0") false) ≡ Ok (Some (bytes "run 0"))
 unfolding said is_passed_over token_at after_all

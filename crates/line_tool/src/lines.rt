@@ -1,4 +1,4 @@
-// A line of a file, put together byte by byte as the file is read.
+// A line of a file, put together as the file is read.
 ghost use Rattle.std.specs.Prelude.{◌≡◌, ◌<◌, false, cond, [], is_ok, OnErr, option_map, length};
 ghost use Rattle.std.specs.Result.{result_map_both};
 ghost use Rattle.line_tool.specs.Lines as meaning;
@@ -31,10 +31,20 @@ impl Line {
         ensures line { let old = meaning.line_of self.old in meaning.line_of self.new ≡ cond (is_ok result) (meaning.with_byte old byte) old }
         ensures full { OnErr result (length self.old.bytes.items < 262144) }
     {
-        if LONGEST <= self.bytes.len() {
+        self.extend(&[byte])
+    }
+
+    // The bytes of a part of the line. Room for the longest line is asked for once, so that no line is moved while it grows.
+    pub fn extend(&mut self, part: &[u8]) -> Result<(), AllocError>
+        ensures line { let old = meaning.line_of self.old in meaning.line_of self.new ≡ cond (is_ok result) (meaning.with_part old part.now) old }
+        ensures full { OnErr result (length self.old.bytes.items < 262144) }
+    {
+        let room = LONGEST.saturating_sub(self.bytes.len());
+        self.bytes.reserve_exact(room)?;
+        let n = part.len().min(room);
+        self.bytes.extend_from_slice(&part[..n])?;
+        if n < part.len() {
             self.long = true;
-        } else {
-            self.bytes.push(byte)?;
         }
         Ok(())
     }

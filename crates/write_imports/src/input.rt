@@ -58,12 +58,13 @@ impl Reading {
 
     // Bytes of the input: each line that ends in them is written, and what is left is held.
     fn take(&mut self, bytes: &[u8]) -> Result<(), Stop> {
-        for &byte in bytes {
-            if byte == b'\n' {
-                self.end_line()?;
-            } else {
-                self.line.push(byte)?;
-            }
+        let mut parts = bytes.split(|&byte| byte == b'\n');
+        if let Some(first) = parts.next() {
+            self.line.extend(first)?;
+        }
+        for part in parts {
+            self.end_line()?;
+            self.line.extend(part)?;
         }
         Ok(())
     }
