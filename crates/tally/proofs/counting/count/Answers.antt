@@ -11,7 +11,7 @@ pub returns-then-i-counts : goal.returns-then-i-counts
 returns-then-i-counts c = let a = c.args in
     let i = c.order-i.result in
     let word : get_or a.counts.now i 0 < 2 ^ 32 = search rules in
-    ap (set a.counts.now i) c.saturating_add.ensures
+    ap (set a.counts.now i) (cc)
     ∙ sym (count-up a.first a.counts.now i (c.order-i.ensures ∙ ap order_of c.family_of.ensures) (omega arith))
 
 pub returns-else-i-counts : goal.returns-else-i-counts
