@@ -99,6 +99,7 @@ pub fn relink(seg: &mut [u32], q: SegmentAddress, block: SegmentAddress)
 }
 
 // ROVER on a vanished block moves to the merged one.
+#[tactic(auto, unfolding(crate::specs::Ring::move_rover))]
 pub fn move_rover(seg: &mut [u32], vanished: SegmentAddress, merged: SegmentAddress)
     requires { merged.0 < 2 ^ 16 }
     ensures { seg.new ≡ ring.move_rover seg.old vanished.0 merged.0 }
