@@ -50,7 +50,8 @@ pub fn accept_run(
 ) -> Result<(), Refusal>
     ensures { status_of (numbered result) ≡ run_refusal seg.now (program regular.now alternate.now table.now) }
 {
-    accept_lent(seg, regular, alternate)?;
+    let lent = accept_lent(seg, regular, alternate);
+    lent?;
     if !is_table(table) {
         return Err(Refusal::Table);
     }
