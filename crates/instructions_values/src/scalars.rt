@@ -40,6 +40,7 @@ pub fn monadic(
     }
 }
 
+#[tactic(auto, unfolding(manual::specs::Values::monadic))]
 fn monadic_array(
     seg: &mut [u32],
     op: Monadic,

@@ -1,11 +1,14 @@
 use native.Mathlib.Omega.{arith}
-use mathlib.Core.Path.{refl, sym}
+use mathlib.Core.Path.{◌≡◌, sym}
 use lib.Seq.{length-take-le}
+use Rattle.std.specs.Prelude.{take, length}
+use borrow.Author.Rules.{rules}
+use Rattle.manual.specs.OrTrap.{gives}
 use Rattle.operands.specs.Operands.{held}
 use Rattle.operands.specs.declared.reading.Value.TheVariants.{Array}
+use Rattle.elements.specs.Answers.{each_by}
 use Rattle.instructions_values.proofs.Elementwise.{monadic-array}
 use Rattle.instructions_values.proofs.Few.{elements-few, ranked}
-use Rattle.instructions_values.proofs.Taking.{passed-on}
 use Rattle.instructions_values.proofs.scalars.monadic_array.Goals as goal
 
 pub monadic-requires : goal.monadic-requires
@@ -17,11 +20,8 @@ slice_bounds-replace_by_like-end c = omega (arith, elements-few _ _ c.requires.0
 pub slice_bounds-replace_by_like-end-2 : goal.slice_bounds-replace_by_like-end-2
 slice_bounds-replace_by_like-end-2 c = sym (length-take-le _ _ (omega (arith, elements-few _ _ c.requires.0 c.requires.1 _ c.elements_of-a.ensures)))
 
-pub returns-in_err-monadic : goal.returns-in_err-monadic
-returns-in_err-monadic c = let a = c.args in
-    rw (monadic-array a.next.0 a.op (held a.seg.now (Array a.block)) (ranked _ _ c.requires.0), ← c.elements_of-a.ensures, ← c.monadic.ensures, c.in_err-monadic.was)
-    (passed-on c.from_residual.result c.from_residual.ensures.1 refl)
-
 pub returns : goal.returns
 returns c = let a = c.args in
-    rw (monadic-array a.next.0 a.op (held a.seg.now (Array a.block)) (ranked _ _ c.requires.0), ← c.elements_of-a.ensures, ← c.monadic.ensures, c.in_ok-monadic.was) c.replace_by_like.ensures
+    let v = c.elements_of-a.result.now in
+    let given : gives (take (length v) c.monadic.new.out) ≡ each_by a.op v = search rules in
+    rw (monadic-array a.next.0 a.op (held a.seg.now (Array a.block)) (ranked _ _ c.requires.0), ← c.elements_of-a.ensures, ← given) c.replace_by_like.ensures
