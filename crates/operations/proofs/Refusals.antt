@@ -8,6 +8,7 @@ use Rattle.operations.specs.declared.Halt.{Halt}
 use Rattle.operations.specs.declared.Halt.TheVariants as H
 use Rattle.operations.specs.Answers.{number_of, Stop, Halted, Malformed, stop_of}
 use Rattle.operations.specs.Refusals.{RefusalTheorems}
+use Rattle.operations.proofs.Answers.{nonzero}
 
 abbrev refusal-at : ℕ → Refusal
 refusal-at n =
@@ -81,5 +82,6 @@ halt-read (H.Malformed place) = refl
 pub refusal-theorems : RefusalTheorems
 refusal-theorems = record {
   refusals_differ = λ a b same. sym (refusal-read a) ∙ ap refusal-at same ∙ refusal-read b;
+  refusals_refuse = nonzero;
   halts_differ = λ a b same. sym (halt-read a) ∙ ap halt-at same ∙ halt-read b;
 }
