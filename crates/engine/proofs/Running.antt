@@ -71,6 +71,6 @@ module _ (s : List ℕ) (p : Program) (budget : ℕ) (counts : List ℕ) where
     has-counted same = simp (← passed) same
 
     -- from the words with word 3 zero
-    pub has_ended : (start : List ℕ) → start ≡ set s 3 0 → (r : Ran) → machine.run_result r after ≡ machine.steps_from budget 0 p start
+    pub has_ended : (start : List ℕ) → start ≡ set s 3 0 → (told r : Ran) → told ≡ r → machine.run_result told after ≡ machine.steps_from budget 0 p start
         → more ≡ tallied_from budget counts p start → Answers (Ok r) after more
-    has_ended start zero r same up = promised (Ok r) after more (has-run r (rw zero at same)) (has-counted (rw zero at up))
+    has_ended start zero told r known same up = promised (Ok r) after more (has-run r (rw (zero, known) at same)) (has-counted (rw zero at up))

@@ -56,6 +56,8 @@ pub fn run_tallied(
     accept_run(seg, regular, alternate, table)?;
     put(seg, 3, 0);
     let operators = sixteen(table);
-    let ran = machine::run::run(seg, regular, alternate, &operators, budget, counts);
-    Ok(ran)
+    match machine::run::run(seg, regular, alternate, &operators, budget, counts) {
+        Ran::Done(steps) => Ok(Ran::Done(steps)),
+        Ran::Trapped(steps) => Ok(Ran::Trapped(steps)),
+    }
 }

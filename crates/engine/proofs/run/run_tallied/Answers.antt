@@ -1,5 +1,6 @@
 use mathlib.Core.Path.{sym}
 use Rattle.std.proofs.lemmas.Result.{err_from_is_err_and}
+use Rattle.effects.specs.declared.Ran.TheVariants.{Done, Trapped}
 use Rattle.engine.proofs.Running.{short-enough, sixteen-places, unaccepted, has_ended}
 use borrow.Author.Rules.{rules}
 use Rattle.engine.proofs.run.run_tallied.Goals as goal
@@ -14,12 +15,19 @@ returns-in_err-accept_run c =
 pub sixteen-operators-requires : goal.sixteen-operators-requires
 sixteen-operators-requires c = sixteen-places _ _ (sym c.in_ok-accept_run.ensures)
 
-pub run-ran-requires : goal.run-ran-requires
-run-ran-requires c = let h = short-enough _ _ (sym c.in_ok-accept_run.ensures) in search rules
+pub run-requires : goal.run-requires
+run-requires c = let h = short-enough _ _ (sym c.in_ok-accept_run.ensures) in search rules
 
-pub returns : goal.returns
-returns c =
-    let answered = c.run-ran.ensures in
+pub returns-in-Done : goal.returns-in-Done
+returns-in-Done c =
+    let answered = c.run.ensures in
     let lent = c.sixteen-operators.ensures in
-    let answer = has_ended _ _ _ _ c.in_ok-accept_run.ensures _ _ _ c.put.ensures _ (rw lent at answered.seg_after) (rw lent at answered.counts_after) in
+    let answer = has_ended _ _ _ _ c.in_ok-accept_run.ensures _ _ _ c.put.ensures _ (Done c.in-Done.steps) c.in-Done.is (rw lent at answered.seg_after) (rw lent at answered.counts_after) in
+    record { seg_after = answer.0; promised = answer.1.0; counts_after = answer.1.1 }
+
+pub returns-in-Trapped : goal.returns-in-Trapped
+returns-in-Trapped c =
+    let answered = c.run.ensures in
+    let lent = c.sixteen-operators.ensures in
+    let answer = has_ended _ _ _ _ c.in_ok-accept_run.ensures _ _ _ c.put.ensures _ (Trapped c.in-Trapped.steps) c.in-Trapped.is (rw lent at answered.seg_after) (rw lent at answered.counts_after) in
     record { seg_after = answer.0; promised = answer.1.0; counts_after = answer.1.1 }
