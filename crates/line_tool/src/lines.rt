@@ -68,12 +68,15 @@ impl Line {
         ensures { result_map_both (λ line. option_map (λ bytes. bytes.now) line) (λ wrong. wrong) result ≡ meaning.said (meaning.line_of self.now) }
     {
         let passed_over = is_passed_over(&self.bytes);
-        let first = token_at(&self.bytes, 0);
-        if self.long && (!passed_over || first.is_empty()) {
-            return Err(Misread {
-                fault: Fault::LongLine,
-                token: first,
-            });
+        if self.long {
+            let first = token_at(&self.bytes, 0);
+            if !passed_over || first.is_empty() {
+                return Err(Misread {
+                    fault: Fault::LongLine,
+                    token: first,
+                });
+            }
+            return Ok(None);
         }
         if passed_over {
             return Ok(None);
