@@ -51,7 +51,7 @@ pub extern "C" fn elements_copy(from: &[u32], to: &mut [u32]) {
     if from.len() != to.len() {
         return;
     }
-    to.copy_from_slice(from);
+    segment::copy(from, to);
 }
 
 #[unsafe(no_mangle)]
