@@ -34,14 +34,12 @@ impl Line {
         self.extend(&[byte])
     }
 
-    // The bytes of a part of the line. Room for the longest line is asked for once, so that no line is moved while it grows.
+    // The bytes of a part of the line.
     pub fn extend(&mut self, part: &[u8]) -> Result<(), AllocError>
         ensures line { let old = meaning.line_of self.old in meaning.line_of self.new ≡ cond (is_ok result) (meaning.with_part old part.now) old }
         ensures full { OnErr result (length self.old.bytes.items < 262144) }
     {
-        let room = LONGEST.saturating_sub(self.bytes.len());
-        self.bytes.reserve_exact(room)?;
-        let n = part.len().min(room);
+        let n = part.len().min(LONGEST.saturating_sub(self.bytes.len()));
         self.bytes.extend_from_slice(&part[..n])?;
         if n < part.len() {
             self.long = true;

@@ -5,10 +5,10 @@ use Rattle.line_tool.proofs.lines.Line.extend.Goals as goal
 
 pub returns-then-n-part-clause-line : goal.returns-then-n-part-clause-line
 returns-then-n-part-clause-line c =
-    rw (c.in_ok-extend_from_slice.ensures.items, c.in_ok-reserve_exact.ensures.items)
-    (part-over _ _ _ _ (omega (arith, c.min-n.ensures, c.saturating_sub-room.ensures, c.len.ensures)) c.if-n-part.true)
+    rw c.in_ok-extend_from_slice.ensures.items
+    (part-over _ _ _ _ (omega (arith, c.min-n.ensures, c.saturating_sub.ensures, c.len.ensures)) c.if-n-part.true)
 
 pub returns-else-n-part-clause-line : goal.returns-else-n-part-clause-line
 returns-else-n-part-clause-line c =
-    rw (c.in_ok-extend_from_slice.ensures.items, c.in_ok-reserve_exact.ensures.items, take_all _ c.args.part.now c.if-n-part.false)
-    (part-in _ _ _ (omega (arith, c.min-n.ensures, c.saturating_sub-room.ensures, c.len.ensures, c.if-n-part.false)))
+    rw (c.in_ok-extend_from_slice.ensures.items, take_all _ c.args.part.now c.if-n-part.false)
+    (part-in _ _ _ (omega (arith, c.min-n.ensures, c.saturating_sub.ensures, c.len.ensures, c.if-n-part.false)))
