@@ -44,17 +44,17 @@ further_part : with_part (kept (bytes "r") false) (bytes "un 0") ≡ kept (bytes
 unfolding with_part with_byte
 further_part = refl
 
-words : said (kept (bytes "run 0") false) ≡ Ok (Some (bytes "run 0"))
+whole_line : said (kept (bytes "run 0") false) ≡ Ok (Some (bytes "run 0"))
 unfolding said is_passed_over token_at after_all
-words = refl
+whole_line = refl
 
-comment : said (kept (bytes "# of par") true) ≡ Ok None
+long_comment : said (kept (bytes "# of par") true) ≡ Ok None
 unfolding said is_passed_over token_at after_all
-comment = refl
+long_comment = refl
 
-blank : said (kept (bytes "  ") true) ≡ Err (record { fault = LongLine; token = record { start = 2; end = 2 } })
+long_blank : said (kept (bytes "  ") true) ≡ Err (record { fault = LongLine; token = record { start = 2; end = 2 } })
 unfolding said is_passed_over token_at after_all
-blank = refl
+long_blank = refl
 
 too_long : said (kept (bytes "seg 96") true) ≡ Err (record { fault = LongLine; token = record { start = 0; end = 3 } })
 unfolding said is_passed_over token_at after_all

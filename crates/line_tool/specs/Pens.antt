@@ -58,13 +58,13 @@ pub record Stays (old new : Pen) (out : Bool) : Type 0 where
   pub stream : new.stream ≡ old.stream
   pub failed : new.failed ≡ cond out (old.failed || new.failed) old.failed
 
-room : room_made (bytes "seg") 4093 ≡ bytes "seg"
+room_there : room_made (bytes "seg") 4093 ≡ bytes "seg"
 unfolding room_made is_short
-room = refl
+room_there = refl
 
-no_room : room_made (bytes "seg") 4094 ≡ []
+room_short : room_made (bytes "seg") 4094 ≡ []
 unfolding room_made is_short
-no_room = refl
+room_short = refl
 
 after : put_text (bytes "at") (bytes " 7") ≡ bytes "at 7"
 unfolding put_text put_within room_made is_short

@@ -50,6 +50,7 @@ pub fn accept_run(
 ) -> Result<(), Refusal>
     ensures { status_of (numbered result) ≡ run_refusal seg.now (program regular.now alternate.now table.now) }
 {
+    // By a name of its own: an edit puts other tests here, and is to be refused for what they answer.
     let lent = accept_lent(seg, regular, alternate);
     lent?;
     if !is_table(table) {

@@ -46,7 +46,7 @@ pub fn copy(from: &[u32], to: &mut [u32])
     }
 }
 
-// The n words from `from` up are copied to those from `to` up.
+// The n words from `from` up are copied to those from `to` up. Where both runs share words, each is read before it is written over.
 pub fn copy_part(seg: &mut [u32], from: usize, to: usize, n: usize)
     requires { (from + n ≤ length seg.old) × (to + n ≤ length seg.old) }
     ensures { seg.new ≡ sets seg.old to (part seg.old from n) }
